@@ -1,0 +1,6 @@
+//! keyd.
+#![tactic(auto)]
+
+mod number;
+
+pub use number::decimal_number;

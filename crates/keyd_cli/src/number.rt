@@ -1,0 +1,23 @@
+// Numbers as words and schedules write them.
+ghost use Rattle.std.specs.Prelude.{◌≡◌, ℕ, ◌<◌, ◌^◌, MatchOption};
+ghost use Rattle.std.specs.Fmt.{decimal};
+
+/// The number that a text writes in decimal digits, without a sign and without a leading zero (a
+/// lone 0 is fine). None where it writes no number below 2^64 in this way.
+pub fn decimal_number(text: &[u8]) -> Option<u64>
+    ensures { MatchOption result ((n : ℕ) → n < 2 ^ 64 → text.now ≡ decimal n → ⊥) (λ n. text.now ≡ decimal n) }
+{
+    if text.is_empty() {
+        return None;
+    }
+    if text[0] == b'+' {
+        return None;
+    }
+    if text[0] == b'0' && text.len() > 1 {
+        return None;
+    }
+    let Ok(text) = str::from_utf8(text) else {
+        return None;
+    };
+    text.parse::<u64>().ok()
+}
