@@ -26,16 +26,16 @@ no_leading_zero text n small is zeroed long =
     let size : length text ≡ length (decimal n) = ap length is in
     elim (decimal_begins n small) [ inl more ↦ omega (arith, more, first) | inr lone ↦ omega (arith, lone.1, long, size) ]
 
-own : IsNumeralModel (AllDigits 10) (digits_value 10)
+pub own : IsNumeralModel (AllDigits 10) (digits_value 10)
 own = numerals_by_value (AllDigits 10) tells_digits
 
 -- `parse` answers the number that the text writes, where it begins with no sign and no leading zero
 pub parsed : {E : Type 0} (text : List ℕ) (r : Result ℕ E) → ParsesUnsigned 64 10 text r → get_or text 0 0 ≢ 43
     → (get_or text 0 0 ≡ 48 → length text ≡ 1)
-    → MatchOption (result_ok r) ((n : ℕ) → n < 2 ^ 64 → text ≡ decimal n → ⊥) (λ n. text ≡ decimal n)
+    → MatchOption (result_ok r) ((n : ℕ) → n < 2 ^ 64 → text ≡ decimal n → ⊥) (λ n. (text ≡ decimal n) × (n < 2 ^ 64))
 parsed {E} text (Ok x) gives plain lone =
     let is = parse_plain own {E = E} 64 text (Ok x) gives plain in
     let written : decimal (digits_value 10 text) ≡ text = decimal-digits_value own text is.0.0 is.0.1 lone is.0.2 in
-    sym written ∙ ap decimal (sym is.1)
+    (sym written ∙ ap decimal (sym is.1), subst (λ n. n < 2 ^ 64) (sym is.1) is.0.2)
 parsed {E} text (Err e) gives plain lone =
     λ n small is. let found : Err e ≡ Ok n = parse-decimal {E = E} 64 n text (Err e) small small is gives in cc found

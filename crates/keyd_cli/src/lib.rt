@@ -2,5 +2,7 @@
 #![tactic(auto)]
 
 mod number;
+mod words;
 
 pub use number::decimal_number;
+pub use words::Flag;

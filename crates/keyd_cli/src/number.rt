@@ -5,7 +5,7 @@ ghost use Rattle.std.specs.Fmt.{decimal};
 /// The number that a text writes in decimal digits, without a sign and without a leading zero (a
 /// lone 0 is fine). None where it writes no number below 2^64 in this way.
 pub fn decimal_number(text: &[u8]) -> Option<u64>
-    ensures { MatchOption result ((n : ℕ) → n < 2 ^ 64 → text.now ≡ decimal n → ⊥) (λ n. text.now ≡ decimal n) }
+    ensures { MatchOption result ((n : ℕ) → n < 2 ^ 64 → text.now ≡ decimal n → ⊥) (λ n. (text.now ≡ decimal n) × (n < 2 ^ 64)) }
 {
     if text.is_empty() {
         return None;

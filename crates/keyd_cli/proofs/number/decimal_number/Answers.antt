@@ -29,8 +29,8 @@ returns c =
     let gives = subst (λ t. ParsesUnsigned 64 10 t c.parse.result) same c.parse.ensures.value.0 in
     let some : 0 < length text = search (rules, c.is_empty.ensures, c.if-is_empty.false) in
     let lone : get_or text 0 0 ≡ 48 → length text ≡ 1 =
-        elim c.else-text-eq48.branch [
-          | else-text-eq48-via-then-text-eq48+else-text-gt1 w ↦ λ zeroed. omega (arith, some, w.if-text-gt1.false)
-          | else-text-eq48-via-else-text-eq48 w ↦ λ zeroed. absurd (w.if-text-eq48.false zeroed)
-        ] in
+    elim c.else-text-eq48.branch [
+      | else-text-eq48-via-then-text-eq48+else-text-gt1 w ↦ λ zeroed. omega (arith, some, w.if-text-gt1.false)
+      | else-text-eq48-via-else-text-eq48 w ↦ λ zeroed. absurd (w.if-text-eq48.false zeroed)
+    ] in
     rw c.ok.ensures.value (parsed text c.parse.result gives c.if-text-eq43.false lone)

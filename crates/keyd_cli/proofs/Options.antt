@@ -1,0 +1,248 @@
+-- Lists of options, and what they may begin.
+use Rattle.std.proofs.Common.{◌≡◌, ◌≢◌, ℕ, ◌+◌, ◌<◌, ◌≤◌, ◌⊎◌, ◌++◌, length, take, drop, get_or, arith, sym, ◌∙◌, ap, subst, inl, inr, List, [], ◌∷◌, zero, suc, true, false, Bool, cond, nat_eq, if◌then◌else◌, codes, refl, rules}
+use Rattle.std.specs.Fmt.{decimal}
+use Rattle.std.specs.List.{count_by}
+use Rattle.std.specs.Str.{bytes_eq}
+use Rattle.std.proofs.lemmas.List.Sums.{sum_by-append, sum_by-cons}
+use Rattle.std.proofs.lemmas.List.{take_more, take-take, take-append-drop, append-nil}
+use Rattle.std.proofs.lemmas.Bool.{cases_lt}
+use mathlib.Core.List.{append_assoc}
+use Rattle.std.proofs.lemmas.Slice.Eq.{bytes_eq-Decides}
+use Rattle.keyd_cli.specs.declared.words.Flag.{Flag}
+use Rattle.keyd_cli.specs.declared.words.Flag.TheVariants.{KeyFile, FileKey, Digest, Space, Stop, Choice}
+use Rattle.keyd_cli.specs.Words.{Word, name_of, most_of, space_word, IsSpace, IsStop, IsChoice, IsLetter, IsValue, ArePairs, option_words, times, AreOptions, IsDrill, CanBegin, IsUsage}
+
+-- one pair
+pub one_pair : (f : Flag) (word value : Word) → word ≡ name_of f → IsValue f value → ArePairs (word ∷ value ∷ [])
+unfolding ArePairs
+one_pair f word value named is = ((f, named, is), tt)
+
+-- pairs behind pairs
+pub pairs_more : (xs ys : List Word) → ArePairs xs → ArePairs ys → ArePairs (xs ++ ys)
+unfolding ArePairs
+pairs_more [] ys p q = q
+pairs_more (w ∷ []) ys p q = absurd p
+pairs_more (w ∷ v ∷ xs) ys p q = (p.0, pairs_more xs ys p.1 q)
+
+pub pairs_rest : (xs ys : List Word) → ArePairs xs → ArePairs (xs ++ ys) → ArePairs ys
+unfolding ArePairs
+pairs_rest [] ys p q = q
+pairs_rest (w ∷ []) ys p q = absurd p
+pairs_rest (w ∷ v ∷ xs) ys p q = pairs_rest xs ys p.1 q.1
+
+pub option_words-append : (xs ys : List Word) → ArePairs xs → option_words (xs ++ ys) ≡ option_words xs ++ option_words ys
+unfolding ArePairs option_words
+option_words-append [] ys p = refl
+option_words-append (w ∷ []) ys p = absurd p
+option_words-append (w ∷ v ∷ xs) ys p = ap (λ ws. w ∷ ws) (option_words-append xs ys p.1)
+
+pub times-append : (f : Flag) (xs ys : List Word) → ArePairs xs → times f (xs ++ ys) ≡ times f xs + times f ys
+times-append f xs ys p =
+    let named : Word → Bool = λ word. bytes_eq word (name_of f) in
+    ap (count_by named) (option_words-append xs ys p) ∙ sum_by-append (λ w. cond (named w) 1 0) (option_words xs) (option_words ys)
+
+-- a word that names another option than f, or f itself
+pub times_one : (f : Flag) (word value : Word) → times f (word ∷ value ∷ []) ≤ 1
+unfolding option_words
+times_one f word value = elim (bytes_eq word (name_of f)) as (λ b. 0 + cond b 1 0 ≤ 1) [ true ↦ omega arith | false ↦ omega arith ]
+
+-- equal names are found, and other names aren't
+found : (f : Flag) (word : Word) → word ≡ name_of f → bytes_eq word (name_of f) ≡ true
+found f word named = search (rules, bytes_eq-Decides word (name_of f))
+
+-- the option whose word has this third byte and this fourth byte
+by_bytes : ℕ → ℕ → Flag
+by_bytes a b =
+    if nat_eq a 107 then KeyFile
+    else if nat_eq a 102 then FileKey
+    else if nat_eq a 100 then Digest
+    else if nat_eq a 99 then Choice
+    else if nat_eq b 112 then Space
+    else Stop
+
+flag_in : Word → Flag
+flag_in word = by_bytes (get_or word 2 0) (get_or word 3 0)
+
+flag_in-name_of : (f : Flag) → flag_in (name_of f) ≡ f
+unfolding name_of flag_in by_bytes
+flag_in-name_of KeyFile = refl
+flag_in-name_of FileKey = refl
+flag_in-name_of Digest = refl
+flag_in-name_of Space = refl
+flag_in-name_of Stop = refl
+flag_in-name_of Choice = refl
+
+pub name_of-injective : (f g : Flag) → name_of f ≡ name_of g → f ≡ g
+name_of-injective f g e = sym (flag_in-name_of f) ∙ ap flag_in e ∙ flag_in-name_of g
+
+pub times_first : (f : Flag) (word : Word) (words : List Word) → word ≡ name_of f → 1 ≤ times f (word ∷ words)
+unfolding option_words
+times_first f word [] named = rw (found f word named) (omega arith)
+times_first f word (v ∷ words) named =
+    let named_by : Word → ℕ = λ w. cond (bytes_eq w (name_of f)) 1 0 in
+    let split : times f (word ∷ v ∷ words) ≡ named_by word + times f words = sum_by-cons named_by word (option_words words) in
+    let one : named_by word ≡ 1 = ap (λ b. cond b 1 0) (found f word named) in
+    omega (arith, split, one)
+
+times_unnamed : (f : Flag) (word value : Word) → bytes_eq word (name_of f) ≡ false → times f (word ∷ value ∷ []) ≡ 0
+unfolding option_words
+times_unnamed f word value none = rw none refl
+
+either_way : (b : Bool) → (b ≡ true) ⊎ (b ≡ false)
+either_way true = inl refl
+either_way false = inr refl
+
+-- One more option keeps every limit where its own leaves room.
+pub options_more : (xs : List Word) (f : Flag) (word value : Word) → AreOptions xs → word ≡ name_of f → IsValue f value → times f xs < most_of f
+    → AreOptions (xs ++ (word ∷ value ∷ []))
+options_more xs f word value are named is room =
+    let added = word ∷ value ∷ [] in
+    let limit : (g : Flag) → times g (xs ++ added) ≤ most_of g =
+    λ g. let split = times-append g xs added are.pairs in
+    elim (either_way (bytes_eq word (name_of g))) [
+      | inl equal ↦ let same : f ≡ g = name_of-injective f g (sym named ∙ (bytes_eq-Decides word (name_of g)).0 equal) in
+          let P : Flag → Type 0 = λ h. times h xs + 1 ≤ most_of h in
+          let more : times g xs + 1 ≤ most_of g = subst P same (omega (arith, room)) in
+          omega (arith, split, times_one g word value, more)
+      | inr unlike ↦ let none : times g added ≡ 0 = times_unnamed g word value unlike in omega (arith, split, none, are.limits g)
+    ] in
+    record { pairs = pairs_more xs added are.pairs (one_pair f word value named is); limits = limit }
+
+no_options : AreOptions []
+unfolding ArePairs option_words
+no_options = record { pairs = tt; limits = λ f. omega arith }
+
+-- a value that each option takes
+sample : Flag → Word
+sample Digest = codes "sha1"
+sample Space = space_word 1 2 1
+sample Stop = decimal 1
+sample Choice = codes "l"
+sample _ = []
+
+lone_letter : (k d : ℕ) → k < 1 → IsLetter (get_or (108 ∷ []) k d)
+lone_letter zero d within = inl refl
+lone_letter (suc k) d within = absurd (omega (arith, within))
+
+sample_is : (f : Flag) → IsValue f (sample f)
+unfolding sample IsValue
+sample_is KeyFile = tt
+sample_is FileKey = tt
+sample_is Digest = inl refl
+sample_is Space = (1, 2, 1, record { spelled = refl; id_from = omega arith; id_to = omega arith; pages_from = omega arith; pages_to = omega arith; key_from = omega arith; key_to = omega arith })
+sample_is Stop = (1, record { spelled = refl; from = omega arith; to = omega arith })
+sample_is Choice = record { from = omega arith; to = omega arith; letters = lone_letter }
+
+some_room : (f : Flag) → 1 ≤ most_of f
+unfolding most_of
+some_room KeyFile = omega arith
+some_room FileKey = omega arith
+some_room Digest = omega arith
+some_room Space = omega arith
+some_room Stop = omega arith
+some_room Choice = omega arith
+
+-- An option with a value of its own, where it isn't there yet.
+with_one : (f : Flag) (xs : List Word) → AreOptions xs → (more : List Word) × AreOptions (xs ++ more) × (1 ≤ times f (xs ++ more))
+with_one f xs are =
+    elim (cases_lt (times f xs) 1) [
+      | inl none ↦ let added = name_of f ∷ sample f ∷ [] in
+          let room : times f xs < most_of f = omega (arith, none, some_room f) in
+          let split = times-append f xs added are.pairs in
+          (added, options_more xs f (name_of f) (sample f) are refl (sample_is f) room, omega (arith, split, times_first f (name_of f) (sample f ∷ []) refl))
+      | inr some ↦ ([], subst AreOptions (sym (append-nil xs)) are, subst (λ ws. 1 ≤ times f ws) (sym (append-nil xs)) some)
+    ]
+
+-- What has kept to the form so far can be made whole.
+pub options_begin : (xs : List Word) → AreOptions xs → CanBegin (codes "drill" ∷ xs)
+options_begin xs are =
+    let keyed = with_one KeyFile xs are in
+    let spaced = with_one Space (xs ++ keyed.0) keyed.1 in
+    let whole = (xs ++ keyed.0) ++ spaced.0 in
+    let kept : 1 ≤ times KeyFile whole = omega (arith, keyed.2, times-append KeyFile (xs ++ keyed.0) spaced.0 keyed.1.pairs) in
+    record {
+      more = keyed.0 ++ spaced.0;
+      whole = record { options = whole; begins = ap (λ ws. codes "drill" ∷ ws) (sym (append_assoc xs keyed.0 spaced.0)); are = spaced.1; has_key_file = kept; has_space = spaced.2 };
+    }
+
+-- A front of what can begin a list can begin it.
+pub begun_shorter : (xs ys : List Word) → CanBegin (xs ++ ys) → CanBegin xs
+begun_shorter xs ys begun = record { more = ys ++ begun.more; whole = subst IsDrill (append_assoc xs ys begun.more) begun.whole }
+
+-- An option's word can follow where its limit leaves room.
+pub option_begins : (xs : List Word) (f : Flag) (word : Word) → AreOptions xs → word ≡ name_of f → times f xs < most_of f → CanBegin (codes "drill" ∷ (xs ++ (word ∷ [])))
+option_begins xs f word are named room =
+    let begun = options_begin (xs ++ (word ∷ sample f ∷ [])) (options_more xs f word (sample f) are named (sample_is f) room) in
+    begun_shorter (codes "drill" ∷ (xs ++ (word ∷ []))) (sample f ∷ []) (subst CanBegin (ap (λ ws. codes "drill" ∷ ws) (sym (append_assoc xs (word ∷ []) (sample f ∷ [])))) begun)
+
+-- Refusals
+
+no_list : (xs : List Word) (word : Word) (ys : List Word) → ArePairs xs
+    → ((zs : List Word) → ArePairs (word ∷ zs) → ((f : Flag) → times f (xs ++ (word ∷ zs)) ≤ most_of f) → (rest : List Word) → zs ≡ ys ++ rest → ⊥)
+    → CanBegin (codes "drill" ∷ (xs ++ (word ∷ ys))) → ⊥
+no_list xs word ys pairs refuses begun =
+    let zs = ys ++ begun.more in
+    let same : begun.whole.options ≡ xs ++ (word ∷ zs) = sym (ap (λ ws. drop 1 ws) begun.whole.begins) ∙ append_assoc xs (word ∷ ys) begun.more in
+    let are : AreOptions (xs ++ (word ∷ zs)) = subst AreOptions same begun.whole.are in
+    refuses zs (pairs_rest xs (word ∷ zs) pairs are.pairs) are.limits begun.more refl
+
+-- the option of a first word
+option_of : (word : Word) (zs : List Word) → ArePairs (word ∷ zs) → (f : Flag) × (word ≡ name_of f)
+unfolding ArePairs
+option_of word [] pairs = absurd pairs
+option_of word (v ∷ zs) pairs = (pairs.0.0, pairs.0.1)
+
+-- a word that names no option
+pub unknown_option : (xs : List Word) (word : Word) (ys : List Word) → AreOptions xs → ((f : Flag) → word ≢ name_of f)
+    → CanBegin (codes "drill" ∷ (xs ++ (word ∷ ys))) → ⊥
+unknown_option xs word ys are unnamed = no_list xs word ys are.pairs (λ zs pairs limits rest is. unnamed (option_of word zs pairs).0 (option_of word zs pairs).1)
+
+-- an option that stands as often as it may
+pub option_too_often : (xs : List Word) (f : Flag) (word : Word) (ys : List Word) → AreOptions xs → word ≡ name_of f → most_of f ≤ times f xs
+    → CanBegin (codes "drill" ∷ (xs ++ (word ∷ ys))) → ⊥
+option_too_often xs f word ys are named full =
+    no_list xs word ys are.pairs (λ zs pairs limits rest is.
+    let split = times-append f xs (word ∷ zs) are.pairs in
+    omega (arith, split, times_first f word zs named, limits f, full))
+
+first_value : (word value : Word) (zs : List Word) → ArePairs (word ∷ value ∷ zs) → (f : Flag) × (word ≡ name_of f) × IsValue f value
+unfolding ArePairs
+first_value word value zs pairs = pairs.0
+
+-- a value that the option doesn't take
+pub unfit_value : (xs : List Word) (f : Flag) (word value : Word) (ys : List Word) → AreOptions xs → word ≡ name_of f → (IsValue f value → ⊥)
+    → CanBegin (codes "drill" ∷ (xs ++ (word ∷ value ∷ ys))) → ⊥
+unfit_value xs f word value ys are named unfit =
+    no_list xs word (value ∷ ys) are.pairs (λ zs pairs limits rest is.
+    let first = first_value word value (ys ++ rest) (subst (λ ws. ArePairs (word ∷ ws)) is pairs) in
+    unfit (subst (λ g. IsValue g value) (name_of-injective first.0 f (sym first.1 ∙ named)) first.2))
+
+-- the first word is another than the command
+pub unknown_command : (word : Word) (ys : List Word) → word ≢ codes "drill" → CanBegin (word ∷ ys) → ⊥
+unknown_command word ys other begun = other (ap (λ ws. get_or ws 0 []) begun.whole.begins)
+
+-- Usage
+
+begins_front : (words : List Word) (j : ℕ) → CanBegin words → CanBegin (take j words)
+begins_front words j begun = begun_shorter (take j words) (drop j words) (subst CanBegin (sym (take-append-drop j words)) begun)
+
+least_begins : (words : List Word) (i : ℕ) → CanBegin (take i words) → (j : ℕ) → j ≤ i → CanBegin (take j words)
+least_begins words i begun j low = subst CanBegin (take-take j i words low) (begins_front (take i words) j begun)
+
+-- the word at i is the first with which no list goes on
+pub usage_at : (words : List Word) (i : ℕ) → i < length words → CanBegin (take i words) → (CanBegin (take (i + 1) words) → ⊥) → IsUsage words i
+usage_at words i inside begun refused = record {
+  within = omega (arith, inside);
+  least = least_begins words i begun;
+  refused = λ low. refused;
+  faulty = λ whole. refused (begins_front words (i + 1) (record { more = []; whole = subst IsDrill (sym (append-nil words)) whole }));
+}
+
+-- the words go on, and more are needed
+pub usage_end : (words : List Word) → CanBegin words → (IsDrill words → ⊥) → IsUsage words (length words)
+usage_end words begun faulty = record {
+  within = omega arith;
+  least = least_begins words (length words) (begins_front words (length words) begun);
+  refused = λ low. absurd (omega (arith, low));
+  faulty = faulty;
+}

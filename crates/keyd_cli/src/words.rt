@@ -1,0 +1,160 @@
+// The words of `drill`.
+ghost use Rattle.std.specs.Prelude.{◌≡◌, ◌≢◌, ◌↔◌, IsTrue, MatchOption, All};
+ghost use Rattle.keyd_cli.specs.Words.{IsSpace, IsStop, IsChoice, IsNoColon, IsCut, IsNumber, AreParts};
+
+use crate::decimal_number;
+
+/// An option of `drill`. Each is a word and its value, the next word.
+#[derive(Clone, Copy, Debug, PartialEq, Eq)]
+pub enum Flag {
+    KeyFile,
+    FileKey,
+    Digest,
+    Space,
+    Stop,
+    Choice,
+}
+
+impl Flag {
+    ghost use Rattle.std.specs.Prelude.{IsTrue, ◌↔◌};
+    ghost use Rattle.keyd_cli.specs.Words.{name_of, most_of, IsValue};
+
+    // The option that a word names.
+    #[tactic(auto, unfolding(crate::specs::Words::name_of))]
+    fn named(word: &str) -> Option<Flag>
+        ensures { MatchOption result ((f : _) → word.now ≢ name_of f) (λ f. word.now ≡ name_of f) }
+    {
+        match word {
+            "--key-file" => Some(Flag::KeyFile),
+            "--filekey" => Some(Flag::FileKey),
+            "--digest" => Some(Flag::Digest),
+            "--space" => Some(Flag::Space),
+            "--stop" => Some(Flag::Stop),
+            "--choice" => Some(Flag::Choice),
+            _ => None,
+        }
+    }
+
+    #[tactic(auto, unfolding(crate::specs::Words::name_of))]
+    fn name(self) -> &'static str
+        ensures { result.now ≡ name_of self }
+    {
+        match self {
+            Flag::KeyFile => "--key-file",
+            Flag::FileKey => "--filekey",
+            Flag::Digest => "--digest",
+            Flag::Space => "--space",
+            Flag::Stop => "--stop",
+            Flag::Choice => "--choice",
+        }
+    }
+
+    // How often it may stand.
+    #[tactic(auto, unfolding(crate::specs::Words::most_of))]
+    fn most(self) -> usize
+        ensures { result ≡ most_of self }
+    {
+        match self {
+            Flag::KeyFile => 64,
+            _ => 1,
+        }
+    }
+
+    // Whether the option takes this value.
+    #[tactic(auto, unfolding(crate::specs::Words::IsValue))]
+    fn takes(self, value: &str) -> bool
+        ensures { IsTrue result ↔ IsValue self value.now }
+    {
+        match self {
+            Flag::KeyFile | Flag::FileKey => true,
+            Flag::Digest => value == "sha1" || value == "sha256",
+            Flag::Space => space_of(value).is_some(),
+            Flag::Stop => stop_of(value).is_some(),
+            Flag::Choice => is_choice(value),
+        }
+    }
+}
+
+// The turn that a stop names.
+fn stop_of(value: &str) -> Option<u32>
+    ensures { MatchOption result ((turn : _) → IsStop value.now turn → ⊥) (λ turn. IsStop value.now turn) }
+{
+    number_within(value.as_bytes(), 1, 1_000_000)
+}
+
+fn is_choice(value: &str) -> bool
+    ensures { IsTrue result ↔ IsChoice value.now }
+{
+    let letters = value.as_bytes();
+    (1..=64).contains(&letters.len())
+        && letters.iter().all(|&letter| letter == b'l' || letter == b'k' || letter == b't')
+}
+
+/// The space of `drill`: its id, its pages and its key id.
+#[derive(Clone, Copy, Debug, PartialEq, Eq)]
+pub struct SpaceWords {
+    pub space: u32,
+    pub pages: u32,
+    pub key_id: u32,
+}
+
+// The text before the first colon, and the text behind it.
+fn cut_at_colon(text: &[u8]) -> Option<(&[u8], &[u8])>
+    ensures { MatchOption result (All IsNoColon text.now) (λ r. IsCut text.now r.0.now r.1.now) }
+{
+    let at = text.iter().position(|&byte| byte == b':')?;
+    Some((&text[..at], &text[at + 1..]))
+}
+
+// The number from low to high that a text writes.
+fn number_within(text: &[u8], low: u32, high: u32) -> Option<u32>
+    ensures { MatchOption result ((n : _) → IsNumber text.now low high n → ⊥) (λ n. IsNumber text.now low high n) }
+{
+    let number = decimal_number(text)?;
+    if number < low as u64 {
+        return None;
+    }
+    if (high as u64) < number {
+        return None;
+    }
+    Some(number as u32)
+}
+
+// The four parts of a space's word.
+#[derive(Clone, Copy)]
+struct SpaceParts<'a> {
+    space: &'a [u8],
+    pages: &'a [u8],
+    key_id: &'a [u8],
+}
+
+fn parts_of(value: &[u8]) -> Option<SpaceParts<'_>>
+    ensures { MatchOption result ((a b c : _) → AreParts value.now a b c → ⊥) (λ p. AreParts value.now p.space.now p.pages.now p.key_id.now) }
+{
+    let (space, rest) = cut_at_colon(value)?;
+    let (pages, rest) = cut_at_colon(rest)?;
+    let (key_id, kind) = cut_at_colon(rest)?;
+    if kind != b"plain".as_slice() {
+        return None;
+    }
+    Some(SpaceParts {
+        space,
+        pages,
+        key_id,
+    })
+}
+
+// A space's word, ID:PAGES:KEY:plain.
+fn space_of(value: &str) -> Option<SpaceWords>
+    ensures { MatchOption result ((id pages key : _) → IsSpace value.now id pages key → ⊥) (λ s. IsSpace value.now s.space s.pages s.key_id) }
+{
+    let parts = parts_of(value.as_bytes())?;
+    let space = number_within(parts.space, 1, 4_294_967_279)?;
+    let pages = number_within(parts.pages, 2, 16_384)?;
+    let key_id = number_within(parts.key_id, 1, 4_294_967_295)?;
+    Some(SpaceWords {
+        space,
+        pages,
+        key_id,
+    })
+}
