@@ -1,5 +1,5 @@
 -- Lists of options, and what they may begin.
-use Rattle.std.proofs.Common.{◌≡◌, ◌≢◌, ℕ, ◌+◌, ◌<◌, ◌≤◌, ◌⊎◌, ◌++◌, length, take, drop, get_or, arith, sym, ◌∙◌, ap, subst, inl, inr, List, [], ◌∷◌, zero, suc, true, false, Bool, cond, nat_eq, if◌then◌else◌, codes, refl, rules}
+use Rattle.std.proofs.Common.{◌≡◌, ◌≢◌, ℕ, ◌+◌, ◌%◌, ◌==◌, ◌&&◌, slice_index_or, length-take-le, add-zero, ◌<◌, ◌≤◌, ◌⊎◌, ◌++◌, length, take, drop, get_or, arith, sym, ◌∙◌, ap, subst, inl, inr, List, [], ◌∷◌, zero, suc, true, false, Bool, cond, nat_eq, if◌then◌else◌, codes, refl, rules}
 use Rattle.std.specs.Fmt.{decimal}
 use Rattle.std.specs.List.{count_by}
 use Rattle.std.specs.Str.{bytes_eq}
@@ -7,6 +7,8 @@ use Rattle.std.proofs.lemmas.List.Sums.{sum_by-append, sum_by-cons}
 use Rattle.std.proofs.lemmas.List.{take_more, take-take, take-append-drop, append-nil}
 use Rattle.std.proofs.lemmas.Bool.{cases_lt}
 use mathlib.Core.List.{append_assoc}
+use Rattle.std.proofs.Math.Nat.{add-mod_left}
+use Rattle.std.proofs.lemmas.Bool.Decides.{Decides-eqb}
 use Rattle.std.proofs.lemmas.Slice.Eq.{bytes_eq-Decides}
 use Rattle.keyd_cli.specs.declared.words.Flag.{Flag}
 use Rattle.keyd_cli.specs.declared.words.Flag.TheVariants.{KeyFile, FileKey, Digest, Space, Stop, Choice}
@@ -108,7 +110,7 @@ options_more xs f word value are named is room =
     ] in
     record { pairs = pairs_more xs added are.pairs (one_pair f word value named is); limits = limit }
 
-no_options : AreOptions []
+pub no_options : AreOptions []
 unfolding ArePairs option_words
 no_options = record { pairs = tt; limits = λ f. omega arith }
 
@@ -246,3 +248,49 @@ usage_end words begun faulty = record {
   refused = λ low. absurd (omega (arith, low));
   faulty = faulty;
 }
+
+-- Counting word by word
+
+two_less : (n : ℕ) → (suc (suc n)) % 2 ≡ n % 2
+two_less n = ap (λ m. m % 2) two ∙ add-mod_left 2 n
+  where
+    two : suc (suc n) ≡ 2 + n
+    two = omega arith
+
+pub times_even : (f : Flag) (xs : List Word) (word : Word) → length xs % 2 ≡ 0 → times f (xs ++ (word ∷ [])) ≡ times f xs + cond (bytes_eq word (name_of f)) 1 0
+unfolding option_words
+times_even f [] word even = refl
+times_even f (a ∷ []) word even = absurd (omega (arith, even))
+times_even f (a ∷ b ∷ xs) word even =
+    let named_by : Word → ℕ = λ w. cond (bytes_eq w (name_of f)) 1 0 in
+    let long : times f (a ∷ b ∷ (xs ++ (word ∷ []))) ≡ named_by a + times f (xs ++ (word ∷ [])) = sum_by-cons named_by a (option_words (xs ++ (word ∷ []))) in
+    let short : times f (a ∷ b ∷ xs) ≡ named_by a + times f xs = sum_by-cons named_by a (option_words xs) in
+    let rest = times_even f xs word (sym (two_less (length xs)) ∙ even) in
+    omega (arith, long, short, rest)
+
+pub times_odd : (f : Flag) (xs : List Word) (word : Word) → length xs % 2 ≢ 0 → times f (xs ++ (word ∷ [])) ≡ times f xs
+unfolding option_words
+times_odd f [] word odd = absurd (odd refl)
+times_odd f (a ∷ []) word odd = refl
+times_odd f (a ∷ b ∷ xs) word odd =
+    let named_by : Word → ℕ = λ w. cond (bytes_eq w (name_of f)) 1 0 in
+    let long : times f (a ∷ b ∷ (xs ++ (word ∷ []))) ≡ named_by a + times f (xs ++ (word ∷ [])) = sum_by-cons named_by a (option_words (xs ++ (word ∷ []))) in
+    let short : times f (a ∷ b ∷ xs) ≡ named_by a + times f xs = sum_by-cons named_by a (option_words xs) in
+    let rest = times_odd f xs word (λ e. odd (two_less (length xs) ∙ e)) in
+    omega (arith, long, short, rest)
+
+odd_is : (n : ℕ) → (n == 0) ≡ false → n ≡ 0 → ⊥
+odd_is n unlike is = let yes : (n == 0) ≡ true = (Decides-eqb n 0).1 is in let both : true ≡ false = sym yes ∙ unlike in cc both
+
+pub times_step : (f : Flag) (words : List Word) (i : ℕ) → i < length words
+    → times f (take (i + 1) words) ≡ times f (take i words) + cond ((i % 2 == 0) && bytes_eq (slice_index_or words i []) (name_of f)) 1 0
+times_step f words i low =
+    let word = slice_index_or words i [] in
+    let size : length (take i words) ≡ i = length-take-le i words (omega (arith, low)) in
+    let more : times f (take (i + 1) words) ≡ times f (take i words ++ (word ∷ [])) = ap (times f) (take_more words i [] low) in
+    elim (either_way (i % 2 == 0)) [
+      | inl even ↦ let zeroed : length (take i words) % 2 ≡ 0 = ap (λ n. n % 2) size ∙ (Decides-eqb (i % 2) 0).0 even in
+          more ∙ times_even f (take i words) word zeroed ∙ ap (λ b. times f (take i words) + cond (b && bytes_eq word (name_of f)) 1 0) (sym even)
+      | inr uneven ↦ let unlike : length (take i words) % 2 ≢ 0 = λ e. odd_is (i % 2) uneven (sym (ap (λ n. n % 2) size) ∙ e) in
+          more ∙ times_odd f (take i words) word unlike ∙ sym (add-zero (times f (take i words))) ∙ ap (λ b. times f (take i words) + cond (b && bytes_eq word (name_of f)) 1 0) (sym uneven)
+    ]

@@ -1,6 +1,7 @@
 // The words of `drill`.
-ghost use Rattle.std.specs.Prelude.{◌≡◌, ◌≢◌, ◌↔◌, IsTrue, MatchOption, All};
-ghost use Rattle.keyd_cli.specs.Words.{IsSpace, IsStop, IsChoice, IsNoColon, IsCut, IsNumber, AreParts};
+ghost use Rattle.std.specs.Prelude.{◌≡◌, ◌≢◌, ◌↔◌, IsTrue, MatchOption, All, OnOk, IfErr, map, string_bytes, length, ◌<◌, ◌%◌, ◌==◌, ◌&&◌, [], ◌∷◌, slice_index_or, codes};
+ghost use Rattle.std.specs.Str.{bytes_eq};
+ghost use Rattle.keyd_cli.specs.Words.{IsSpace, IsStop, IsChoice, IsNoColon, IsCut, IsNumber, AreParts, times, name_of, IsDrill, IsUsage};
 
 use crate::decimal_number;
 
@@ -157,4 +158,70 @@ fn space_of(value: &str) -> Option<SpaceWords>
         pages,
         key_id,
     })
+}
+
+// Whether an option's word stands at this place among options and their values.
+fn stands_at(options: &[String], i: usize, flag: Flag) -> bool
+    requires { i < length options.now }
+    ensures { result ≡ ((i % 2 == 0) && bytes_eq (slice_index_or (map string_bytes options.now) i []) (name_of flag)) }
+{
+    i % 2 == 0 && options[i].as_str() == flag.name()
+}
+
+// How often an option stands among options and their values, two by two.
+fn times_of(options: &[String], flag: Flag) -> usize
+    ensures { result ≡ times flag (map string_bytes options.now) }
+{
+    let mut count = 0;
+    for i in 0..options.len() {
+        if stands_at(options, i, flag) {
+            count += 1;
+        }
+    }
+    count
+}
+
+// Whether these options follow the command. The refusal is an index into all words.
+fn check_options(options: &[String]) -> Result<(), usize>
+    ensures ok { OnOk result (IsDrill (codes "drill" ∷ map string_bytes options.now)) }
+    ensures usage { IfErr result (λ i. IsUsage (codes "drill" ∷ map string_bytes options.now) i) }
+{
+    let mut at = 0;
+    while at < options.len() {
+        let Some(flag) = Flag::named(&options[at]) else {
+            return Err(at + 1);
+        };
+        if times_of(&options[..at], flag) >= flag.most() {
+            return Err(at + 1);
+        }
+        if at + 1 == options.len() {
+            return Err(at + 2);
+        }
+        if !flag.takes(&options[at + 1]) {
+            return Err(at + 2);
+        }
+        at += 2;
+    }
+    if times_of(options, Flag::KeyFile) == 0 {
+        return Err(options.len() + 1);
+    }
+    if times_of(options, Flag::Space) == 0 {
+        return Err(options.len() + 1);
+    }
+    Ok(())
+}
+
+/// Whether the words are a list of `drill`. The refusal is the index of the first word with which
+/// no list goes on, or the number of words where more are needed.
+pub fn check_words(words: &[String]) -> Result<(), usize>
+    ensures ok { OnOk result (IsDrill (map string_bytes words.now)) }
+    ensures usage { IfErr result (λ i. IsUsage (map string_bytes words.now) i) }
+{
+    let Some((command, options)) = words.split_first() else {
+        return Err(0);
+    };
+    if command.as_str() != "drill" {
+        return Err(0);
+    }
+    check_options(options)
 }
