@@ -2,3 +2,4 @@ pub mod Numbers
 pub mod Options
 pub mod Spaces
 pub mod Usages
+pub mod PartsLemmas

@@ -4,7 +4,8 @@ use Rattle.std.specs.Fmt.{decimal}
 use Rattle.std.proofs.lemmas.Fmt.{decimal_injective, digits_decimal}
 use Rattle.std.proofs.lemmas.Str.Parse.{digit_at}
 use Rattle.keyd_cli.proofs.Numbers.{own}
-use Rattle.keyd_cli.specs.Words.{Word, IsNoColon, IsCut, IsNumber, AreParts, IsSpace, space_word}
+use Rattle.keyd_cli.specs.Parts.{IsCut}
+use Rattle.keyd_cli.specs.Words.{Word, IsNoColon, IsNumber, AreParts, IsSpace, space_word}
 
 first_of : (c : ℕ) (xs : Word) → All IsNoColon (c ∷ xs) → c ≢ 58
 first_of c xs free = free 0 0 (omega arith)
@@ -43,14 +44,14 @@ pub no_other_number : (text : Word) (low high m n : ℕ) → m < 2 ^ 64 → high
 no_other_number text low high m n small top spelled is = decimal_injective m n small (omega (arith, top, is.to)) (sym spelled ∙ is.spelled)
 
 -- what is behind the first, the second and the third colon
-pub behind_one : (text x rest a b d : Word) → IsCut text x rest → AreParts text a b d → rest ≡ b ++ (58 ∷ (d ++ codes ":plain"))
+pub behind_one : (text x rest a b d : Word) → IsCut 58 text x rest → AreParts text a b d → rest ≡ b ++ (58 ∷ (d ++ codes ":plain"))
 behind_one text x rest a b d cut are = (one_cut x rest a (b ++ (58 ∷ (d ++ codes ":plain"))) cut.free are.first_free (sym cut.is ∙ are.is)).1
 
-pub behind_two : (text x rest y more a b d : Word) → IsCut text x rest → IsCut rest y more → AreParts text a b d → more ≡ d ++ codes ":plain"
+pub behind_two : (text x rest y more a b d : Word) → IsCut 58 text x rest → IsCut 58 rest y more → AreParts text a b d → more ≡ d ++ codes ":plain"
 behind_two text x rest y more a b d one two are =
     (one_cut y more b (d ++ codes ":plain") two.free are.second_free (sym two.is ∙ behind_one text x rest a b d one are)).1
 
-pub behind_three : (text x rest y more z kind a b d : Word) → IsCut text x rest → IsCut rest y more → IsCut more z kind → AreParts text a b d → kind ≡ codes "plain"
+pub behind_three : (text x rest y more z kind a b d : Word) → IsCut 58 text x rest → IsCut 58 rest y more → IsCut 58 more z kind → AreParts text a b d → kind ≡ codes "plain"
 behind_three text x rest y more z kind a b d one two three are =
     (one_cut z kind d (codes "plain") three.free are.third_free (sym three.is ∙ behind_two text x rest y more a b d one two are)).1
 

@@ -2,6 +2,7 @@
 use Rattle.std.specs.Prelude.{◌≡◌, ◌≢◌, ◌⊎◌, ℕ, ◌+◌, ◌≤◌, ◌<◌, ◌==◌, Bool, true, false, List, [], ◌∷◌, ◌++◌, length, take, codes, All, count_by}
 use Rattle.std.specs.Fmt.{decimal}
 use Rattle.std.specs.Str.{bytes_eq}
+use Rattle.keyd_cli.specs.Parts.{IsNot}
 use Rattle.keyd_cli.specs.declared.words.Flag.{Flag}
 use Rattle.keyd_cli.specs.declared.words.Flag.TheVariants.{KeyFile, FileKey, Digest, Space, Stop, Choice}
 
@@ -23,12 +24,7 @@ most_of KeyFile = 64
 most_of _ = 1
 
 abbrev pub IsNoColon : ℕ → Type 0
-IsNoColon c = c ≢ 58
-
--- the text up to its first colon, and what is behind it
-pub record IsCut (text front back : Word) : Type 0 where
-  pub is : text ≡ front ++ (58 ∷ back)
-  pub free : All IsNoColon front
+IsNoColon = IsNot 58
 
 -- a number from low to high
 pub record IsNumber (text : Word) (low high n : ℕ) : Type 0 where

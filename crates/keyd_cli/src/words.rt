@@ -1,9 +1,10 @@
 // The words of `drill`.
 ghost use Rattle.std.specs.Prelude.{◌≡◌, ◌≢◌, ◌↔◌, IsTrue, MatchOption, All, OnOk, IfErr, map, string_bytes, length, ◌<◌, ◌%◌, ◌==◌, ◌&&◌, [], ◌∷◌, slice_index_or, codes};
 ghost use Rattle.std.specs.Str.{bytes_eq};
-ghost use Rattle.keyd_cli.specs.Words.{IsSpace, IsStop, IsChoice, IsNoColon, IsCut, IsNumber, AreParts, times, name_of, IsDrill, IsUsage};
+ghost use Rattle.keyd_cli.specs.Words.{IsSpace, IsStop, IsChoice, IsNumber, AreParts, times, name_of, IsDrill, IsUsage};
 
-use crate::decimal_number;
+use crate::number::decimal_number;
+use crate::parts::cut_at;
 
 /// An option of `drill`. Each is a word and its value, the next word.
 #[derive(Clone, Copy, Debug, PartialEq, Eq)]
@@ -99,14 +100,6 @@ pub struct SpaceWords {
     pub key_id: u32,
 }
 
-// The text before the first colon, and the text behind it.
-fn cut_at_colon(text: &[u8]) -> Option<(&[u8], &[u8])>
-    ensures { MatchOption result (All IsNoColon text.now) (λ r. IsCut text.now r.0.now r.1.now) }
-{
-    let at = text.iter().position(|&byte| byte == b':')?;
-    Some((&text[..at], &text[at + 1..]))
-}
-
 // The number from low to high that a text writes.
 fn number_within(text: &[u8], low: u32, high: u32) -> Option<u32>
     ensures { MatchOption result ((n : _) → IsNumber text.now low high n → ⊥) (λ n. IsNumber text.now low high n) }
@@ -132,9 +125,9 @@ struct SpaceParts<'a> {
 fn parts_of(value: &[u8]) -> Option<SpaceParts<'_>>
     ensures { MatchOption result ((a b c : _) → AreParts value.now a b c → ⊥) (λ p. AreParts value.now p.space.now p.pages.now p.key_id.now) }
 {
-    let (space, rest) = cut_at_colon(value)?;
-    let (pages, rest) = cut_at_colon(rest)?;
-    let (key_id, kind) = cut_at_colon(rest)?;
+    let (space, rest) = cut_at(value, b':')?;
+    let (pages, rest) = cut_at(rest, b':')?;
+    let (key_id, kind) = cut_at(rest, b':')?;
     if kind != b"plain".as_slice() {
         return None;
     }

@@ -32,7 +32,7 @@ returns-then-times_of-most-clause-usage c =
     let low : at < length opts = omega (arith, length-map strings string_bytes, c.loop-at-test.true) in
     let word = word_is string_bytes strings at c.index-options-at.result c.deref.result.now c.loop-at-test.true c.index-options-at.is c.deref.ensures in
     let full : most_of c.in-Some.flag ≤ times c.in-Some.flag (take at opts) =
-        omega (arith, c.if-times_of-most.true, c.most.ensures, c.times_of.ensures, times_is string_bytes strings at c.in-Some.flag) in
+    omega (arith, c.if-times_of-most.true, c.most.ensures, c.times_of.ensures, times_is string_bytes strings at c.in-Some.flag) in
     usage_often at opts c.in-Some.flag low c.loop-at.invariant.are (word ∙ c.in-Some.ensures) full
 
 pub returns-then-at-options-clause-usage : goal.returns-then-at-options-clause-usage
@@ -43,7 +43,7 @@ returns-then-at-options-clause-usage c =
     let size = length-map strings string_bytes in
     let word = word_is string_bytes strings at c.index-options-at.result c.deref.result.now c.loop-at-test.true c.index-options-at.is c.deref.ensures in
     let room : times c.in-Some.flag (take at opts) < most_of c.in-Some.flag =
-        omega (arith, c.if-times_of-most.false, c.most.ensures, c.times_of.ensures, times_is string_bytes strings at c.in-Some.flag) in
+    omega (arith, c.if-times_of-most.false, c.most.ensures, c.times_of.ensures, times_is string_bytes strings at c.in-Some.flag) in
     let index : length (codes "drill" ∷ opts) ≡ at + 2 = omega (arith, size, c.if-at-options.true) in
     subst (λ n. IsUsage (codes "drill" ∷ opts) n) index
     (usage_missing at opts c.in-Some.flag (omega (arith, size, c.if-at-options.true)) c.loop-at.invariant.are (word ∙ c.in-Some.ensures) room)
@@ -59,7 +59,7 @@ returns-then-not-takes-clause-usage c =
     let word = word_is string_bytes strings at c.index-options-at.result c.deref.result.now c.loop-at-test.true c.index-options-at.is c.deref.ensures in
     let value = word_is string_bytes strings (at + 1) c.index-options-at-in-loop-at.result c.deref-in-loop-at.result.now inside c.index-options-at-in-loop-at.is c.deref-in-loop-at.ensures in
     let room : times c.in-Some.flag (take at opts) < most_of c.in-Some.flag =
-        omega (arith, c.if-times_of-most.false, c.most.ensures, c.times_of.ensures, times_is string_bytes strings at c.in-Some.flag) in
+    omega (arith, c.if-times_of-most.false, c.most.ensures, c.times_of.ensures, times_is string_bytes strings at c.in-Some.flag) in
     let unfit : IsValue c.in-Some.flag c.deref-in-loop-at.result.now → ⊥ = search (rules, c.takes.ensures, c.if-not-takes.true) in
     usage_value at opts c.in-Some.flag low c.loop-at.invariant.are (word ∙ c.in-Some.ensures) room (λ is. unfit (subst (λ w. IsValue c.in-Some.flag w) value is))
 
@@ -74,7 +74,7 @@ loop-at-preserved c =
     let word = word_is string_bytes strings at c.index-options-at.result c.deref.result.now c.loop-at-test.true c.index-options-at.is c.deref.ensures in
     let value = word_is string_bytes strings (at + 1) c.index-options-at-in-loop-at.result c.deref-in-loop-at.result.now inside c.index-options-at-in-loop-at.is c.deref-in-loop-at.ensures in
     let room : times c.in-Some.flag (take at opts) < most_of c.in-Some.flag =
-        omega (arith, c.if-times_of-most.false, c.most.ensures, c.times_of.ensures, times_is string_bytes strings at c.in-Some.flag) in
+    omega (arith, c.if-times_of-most.false, c.most.ensures, c.times_of.ensures, times_is string_bytes strings at c.in-Some.flag) in
     let fit : IsValue c.in-Some.flag c.deref-in-loop-at.result.now = search (rules, c.takes.ensures, c.if-not-takes.false) in
     record {
       are = kept_more at opts c.in-Some.flag low c.loop-at.invariant.are (word ∙ c.in-Some.ensures) room (subst (λ w. IsValue c.in-Some.flag w) (sym value) fit);
