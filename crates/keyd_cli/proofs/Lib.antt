@@ -3,3 +3,4 @@ pub mod Options
 pub mod Spaces
 pub mod Usages
 pub mod PartsLemmas
+pub mod Schedules

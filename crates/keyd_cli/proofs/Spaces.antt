@@ -5,7 +5,8 @@ use Rattle.std.proofs.lemmas.Fmt.{decimal_injective, digits_decimal}
 use Rattle.std.proofs.lemmas.Str.Parse.{digit_at}
 use Rattle.keyd_cli.proofs.Numbers.{own}
 use Rattle.keyd_cli.specs.Parts.{IsCut}
-use Rattle.keyd_cli.specs.Words.{Word, IsNoColon, IsNumber, AreParts, IsSpace, space_word}
+use Rattle.keyd_cli.specs.Numbers.{IsNumber}
+use Rattle.keyd_cli.specs.Words.{Word, IsNoColon, AreParts, IsSpace, space_word}
 
 first_of : (c : ℕ) (xs : Word) → All IsNoColon (c ∷ xs) → c ≢ 58
 first_of c xs free = free 0 0 (omega arith)

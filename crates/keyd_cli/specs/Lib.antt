@@ -1,2 +1,5 @@
+pub mod Numbers
 pub mod Words
 pub mod Parts
+pub mod Schedule
+pub mod Lines

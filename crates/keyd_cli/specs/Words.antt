@@ -2,6 +2,7 @@
 use Rattle.std.specs.Prelude.{◌≡◌, ◌≢◌, ◌⊎◌, ℕ, ◌+◌, ◌≤◌, ◌<◌, ◌==◌, Bool, true, false, List, [], ◌∷◌, ◌++◌, length, take, codes, All, count_by}
 use Rattle.std.specs.Fmt.{decimal}
 use Rattle.std.specs.Str.{bytes_eq}
+use Rattle.keyd_cli.specs.Numbers.{IsNumber}
 use Rattle.keyd_cli.specs.Parts.{IsNot}
 use Rattle.keyd_cli.specs.declared.words.Flag.{Flag}
 use Rattle.keyd_cli.specs.declared.words.Flag.TheVariants.{KeyFile, FileKey, Digest, Space, Stop, Choice}
@@ -25,12 +26,6 @@ most_of _ = 1
 
 abbrev pub IsNoColon : ℕ → Type 0
 IsNoColon = IsNot 58
-
--- a number from low to high
-pub record IsNumber (text : Word) (low high n : ℕ) : Type 0 where
-  pub spelled : text ≡ decimal n
-  pub from : low ≤ n
-  pub to : n ≤ high
 
 -- four parts with a colon between them, the last of them the word plain
 pub record AreParts (value a b c : Word) : Type 0 where

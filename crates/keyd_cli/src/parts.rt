@@ -6,6 +6,7 @@ use std::marker::Model;
 
 /// The parts of a text that are left, as the text is cut at each separator. A text without one is
 /// one part, and two separators in a row have an empty part between them.
+#[derive(Drop)]
 pub struct Parts<'a> {
     separator: u8,
     rest: Option<&'a [u8]>,

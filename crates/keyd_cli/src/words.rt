@@ -1,9 +1,9 @@
 // The words of `drill`.
 ghost use Rattle.std.specs.Prelude.{◌≡◌, ◌≢◌, ◌↔◌, IsTrue, MatchOption, All, OnOk, IfErr, map, string_bytes, length, ◌<◌, ◌%◌, ◌==◌, ◌&&◌, [], ◌∷◌, slice_index_or, codes};
 ghost use Rattle.std.specs.Str.{bytes_eq};
-ghost use Rattle.keyd_cli.specs.Words.{IsSpace, IsStop, IsChoice, IsNumber, AreParts, times, name_of, IsDrill, IsUsage};
+ghost use Rattle.keyd_cli.specs.Words.{IsSpace, IsStop, IsChoice, AreParts, times, name_of, IsDrill, IsUsage};
 
-use crate::number::decimal_number;
+use crate::number::number_within;
 use crate::parts::cut_at;
 
 /// An option of `drill`. Each is a word and its value, the next word.
@@ -98,20 +98,6 @@ pub struct SpaceWords {
     pub space: u32,
     pub pages: u32,
     pub key_id: u32,
-}
-
-// The number from low to high that a text writes.
-fn number_within(text: &[u8], low: u32, high: u32) -> Option<u32>
-    ensures { MatchOption result ((n : _) → IsNumber text.now low high n → ⊥) (λ n. IsNumber text.now low high n) }
-{
-    let number = decimal_number(text)?;
-    if number < low as u64 {
-        return None;
-    }
-    if (high as u64) < number {
-        return None;
-    }
-    Some(number as u32)
 }
 
 // The four parts of a space's word.

@@ -1,6 +1,6 @@
 use Rattle.std.proofs.Common.{◌≡◌, ℕ, ◌<◌, ◌≤◌, ◌^◌, arith}
 use Rattle.keyd_cli.proofs.Spaces.{no_other_number}
-use Rattle.keyd_cli.proofs.words.number_within.Goals as goal
+use Rattle.keyd_cli.proofs.number.number_within.Goals as goal
 
 pub returns-then-number-low : goal.returns-then-number-low
 returns-then-number-low c n is =
