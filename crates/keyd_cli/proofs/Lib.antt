@@ -4,3 +4,4 @@ pub mod Spaces
 pub mod Usages
 pub mod PartsLemmas
 pub mod Schedules
+pub mod ReadsLemmas

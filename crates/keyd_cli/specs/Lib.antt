@@ -3,3 +3,4 @@ pub mod Words
 pub mod Parts
 pub mod Schedule
 pub mod Lines
+pub mod Reads

@@ -1,9 +1,10 @@
 // The schedule of a drill.
-ghost use Rattle.std.specs.Prelude.{◌≡◌, ◌≤◌, ◌∷◌, [], MatchOption, IfOk, codes, IsTrue, ◌↔◌, ◌+◌};
+ghost use Rattle.std.specs.Prelude.{◌≡◌, ◌≤◌, ◌∷◌, [], MatchOption, IfOk, codes, IsTrue, ◌↔◌, ◌+◌, IfNone, IfSome, true, if◌then◌else◌, length};
 ghost use Rattle.keyd_cli.specs.Schedule.{words_of, AreNumbers, IsPutLine, IsAct};
 ghost use Rattle.keyd_cli.specs.Lines.{IsLine};
+ghost use Rattle.keyd_cli.specs.Reads.{is_mtr, HasRoom, IsSchedule, IsNotBuilt};
 
-use crate::act::Act;
+use crate::act::{Act, Statement};
 use crate::number::number_within;
 use crate::parts::Parts;
 use crate::words::SpaceWords;
@@ -11,6 +12,7 @@ use cause_core::OutOfMemory;
 use hex::FromHexError;
 use std::alloc::Global;
 use store_model::{Change, Mtr, Piece};
+use thiserror::Error;
 
 // The words of a line `mtr K put SPACE PAGE AT HEX`, but for its two names.
 #[derive(Clone, Copy)]
@@ -133,4 +135,64 @@ fn read_line(alloc: Global, line: &[u8], plan: &SpaceWords) -> Result<LineIs, Ou
         Some(act) => Ok(LineIs::Act(act)),
         None => Ok(LineIs::Other),
     }
+}
+
+/// Why a schedule isn't run.
+#[derive(Clone, Copy, Debug, PartialEq, Eq, Error)]
+pub enum ScheduleFault {
+    /// The line with this number, from 1 on, is the first that isn't a statement of this form.
+    #[error("line {0} not built")]
+    NotBuilt(u32),
+    #[error("out of memory")]
+    OutOfMemory,
+}
+
+// How many mini-transactions there are with this statement. None where there is no room for it.
+fn counted(act: &Act, mtrs: usize) -> Option<usize>
+    requires { mtrs ≤ 256 }
+    ensures none { IfNone result ((is_mtr act.now ≡ true) × (mtrs ≡ 256)) }
+    ensures some { IfSome result (λ n. (n ≡ mtrs + (if is_mtr act.now then 1 else 0)) × HasRoom mtrs act.now × (n ≤ 256)) }
+{
+    match act {
+        Act::Mtr { .. } => { if mtrs == 256 { None } else { Some(mtrs + 1) } }
+        Act::Sync => Some(mtrs),
+    }
+}
+
+/// Reads the schedule of a drill over one space. The log holds 256 mini-transactions.
+pub fn read_schedule(
+    alloc: Global,
+    text: &[u8],
+    plan: &SpaceWords,
+) -> Result<Vec<Statement>, ScheduleFault>
+    requires pages { 2 ≤ plan.now.pages }
+    requires size { length text.now ≤ 1048576 }
+    ensures ok { IfOk result (λ s. IsSchedule plan.now.space plan.now.pages text.now s.items) }
+    ensures not_built { (line : _) → result ≡ Err (ScheduleFault.NotBuilt line) → IsNotBuilt plan.now.space plan.now.pages text.now line }
+{
+    let mut statements = Vec::new(alloc);
+    let mut lines = Parts::new(text, b'\n');
+    let mut number = 0;
+    let mut mtrs = 0;
+    while let Some(line) = lines.next() {
+        number += 1;
+        let Ok(line) = read_line(alloc, line, plan) else {
+            return Err(ScheduleFault::OutOfMemory);
+        };
+        match line {
+            LineIs::Skipped => {}
+            LineIs::Act(act) => {
+                let Some(count) = counted(&act, mtrs) else {
+                    return Err(ScheduleFault::NotBuilt(number));
+                };
+                mtrs = count;
+                let statement = Statement { line: number, act };
+                let Ok(()) = statements.push(statement) else {
+                    return Err(ScheduleFault::OutOfMemory);
+                };
+            }
+            LineIs::Other => return Err(ScheduleFault::NotBuilt(number)),
+        }
+    }
+    Ok(statements)
 }

@@ -1,0 +1,41 @@
+-- A schedule read line by line.
+use Rattle.std.specs.Prelude.{◌≡◌, ℕ, ◌+◌, ◌≤◌, Bool, true, false, List, [], ◌∷◌, ◌++◌, length, count_by}
+use Rattle.keyd_cli.specs.declared.act.Act.{Act}
+use Rattle.keyd_cli.specs.declared.act.Act.TheVariants.{Mtr, Sync}
+use Rattle.keyd_cli.specs.declared.act.Statement.{Statement}
+use Rattle.keyd_cli.specs.Schedule.{lines_of, IsSkipped, IsAct}
+
+abbrev pub is_mtr : Act → Bool
+is_mtr (Mtr session mtr) = true
+is_mtr Sync = false
+
+-- how many mini-transactions there are among the statements
+abbrev pub mtr_count : List Statement → ℕ
+mtr_count statements = count_by (λ s. is_mtr s.act) statements
+
+-- the log holds 256 mini-transactions
+abbrev pub HasRoom : ℕ → Act → Type 0
+HasRoom mtrs act = is_mtr act ≡ true → mtrs ≤ 255
+
+-- These lines are these statements, each with its line's number, from 1 on.
+pub data Reads (space pages : ℕ) : List (List ℕ) → List Statement → Type 0 where
+  ReadNone : Reads space pages [] []
+  ReadSkipped : (lines : List (List ℕ)) (statements : List Statement) (line : List ℕ) → Reads space pages lines statements → IsSkipped line → Reads space pages (lines ++ (line ∷ [])) statements
+  ReadAct : (lines : List (List ℕ)) (statements : List Statement) (line : List ℕ) (act : Act) → Reads space pages lines statements → IsAct space pages line act → HasRoom (mtr_count statements) act
+      → Reads space pages (lines ++ (line ∷ [])) (statements ++ (record { line = length lines + 1; act = act } ∷ []))
+
+-- the text is a schedule of these statements
+abbrev pub IsSchedule : ℕ → ℕ → List ℕ → List Statement → Type 0
+IsSchedule space pages text statements = Reads space pages (lines_of text) statements
+
+-- The first line that isn't skipped and is no statement that there is room for has this number.
+pub record IsNotBuilt (space pages : ℕ) (text : List ℕ) (number : ℕ) : Type 0 where
+  pub before : List (List ℕ)
+  pub line : List ℕ
+  pub behind : List (List ℕ)
+  pub statements : List Statement
+  pub lines : lines_of text ≡ before ++ (line ∷ behind)
+  pub place : number ≡ length before + 1
+  pub reads : Reads space pages before statements
+  pub kept : IsSkipped line → ⊥
+  pub refused : (act : Act) → IsAct space pages line act → HasRoom (mtr_count statements) act → ⊥
