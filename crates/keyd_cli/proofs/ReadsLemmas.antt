@@ -52,7 +52,7 @@ act_more space pages all n line rest statements more act at reads is room grown 
     let read = ReadAct (take n all) statements line act reads is room in
     let number : length (take n all) + 1 ≡ n + 1 = ap (λ k. k + 1) at.size in
     let same : statements ++ (record { line = length (take n all) + 1; act = act } ∷ []) ≡ more =
-        ap (λ k. statements ++ (record { line = k; act = act } ∷ [])) number ∙ sym grown in
+    ap (λ k. statements ++ (record { line = k; act = act } ∷ [])) number ∙ sym grown in
     subst (λ ss. Reads space pages (take (n + 1) all) ss) same (subst (λ ls. Reads space pages ls (statements ++ (record { line = length (take n all) + 1; act = act } ∷ []))) (sym at.more) read)
 
 pub count_more : (statements more : List Statement) (n : ℕ) (act : Act) → more ≡ statements ++ (record { line = n; act = act } ∷ []) → mtr_count more ≡ mtr_count statements + (if is_mtr act then 1 else 0)

@@ -4,3 +4,4 @@ pub mod Parts
 pub mod Schedule
 pub mod Lines
 pub mod Reads
+pub mod Session

@@ -3,11 +3,14 @@
 
 mod act;
 mod number;
+mod outcome;
 mod parts;
 mod schedule;
+mod session;
 mod words;
 
 pub use act::{Act, Statement};
 pub use number::decimal_number;
+pub use outcome::{Answer, DrillEnd, Replies, Reply};
 pub use parts::Parts;
 pub use words::Flag;

@@ -58,9 +58,9 @@ returns-in_default-counted-clause-not_built c line same =
     let read = as_found plan.space plan.pages c.in-Some.line.now c.in-Ok.line (line_is.Act c.in-Act.act) c.in-Act.is c.in-Ok.ensures in
     let none = c.in_default-counted.ensures.none in
     let refused : (act : Act) → IsAct plan.space plan.pages c.in-Some.line.now act → HasRoom (mtr_count c.loop-line.statements.items) act → ⊥ =
-        λ act is room.
-        let mtr : is_mtr act ≡ true = one_act plan.space plan.pages c.in-Some.line.now act c.in-Act.act is read.0 ∙ none.0 in
-        omega (arith, room mtr, none.1, i.count) in
+    λ act is room.
+    let mtr : is_mtr act ≡ true = one_act plan.space plan.pages c.in-Some.line.now act c.in-Act.act is read.0 ∙ none.0 in
+    omega (arith, room mtr, none.1, i.count) in
     subst (λ n. IsNotBuilt plan.space plan.pages text n) (same_number (c.loop-line.number + 1) line same)
     (refused_at plan.space plan.pages text c.loop-line.number c.in-Some.line.now c.next.new.self c.loop-line.statements.items at i.reads read.1 refused)
 

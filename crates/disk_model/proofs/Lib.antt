@@ -1,0 +1,12 @@
+pub mod Moments
+pub mod Blocks
+pub mod FilesLemmas
+pub mod Replay
+pub mod Failed
+pub mod Layers
+pub mod Frame
+pub mod CrashImage
+pub mod Crashes
+pub mod ReadsImage
+pub mod ByName
+pub mod TurnLemmas

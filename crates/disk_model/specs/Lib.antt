@@ -1,0 +1,13 @@
+pub mod Event
+pub mod Image
+pub mod Past
+pub mod Files
+pub mod Memory
+pub mod Does
+pub mod Made
+pub mod Crash
+pub mod Quiet
+pub mod Contents
+pub mod Turns
+pub mod Log
+pub mod Replay

@@ -1,0 +1,60 @@
+-- What a session of a drill does with its statements.
+use Rattle.std.specs.Prelude.{◌≡◌, ℕ, ◌+◌, ◌*◌, ◌≤◌, List, [], ◌∷◌, ◌++◌, length, take, Some}
+use Rattle.engine_core.specs.declared.journal.Entry.{Entry}
+use Rattle.engine_core.specs.Text.{IsSmall}
+use Rattle.store_model.specs.declared.change.Change.{Change}
+use Rattle.keyd_cli.specs.declared.act.Act.{Act}
+use Rattle.keyd_cli.specs.declared.act.Act.TheVariants.{Mtr, Sync}
+use Rattle.keyd_cli.specs.declared.act.Statement.{Statement}
+use Rattle.keyd_cli.specs.declared.outcome.Reply.{Reply}
+use Rattle.keyd_cli.specs.declared.outcome.Answer.{Answer}
+use Rattle.keyd_cli.specs.declared.outcome.Answer.TheVariants.{Place, Acked}
+
+-- the LSN of the entry that follows on so many
+abbrev pub lsn_after : ℕ → ℕ
+lsn_after count = (count + 3) * 4096
+
+-- what a statement adds to a journal of so many entries
+abbrev pub entry_of : ℕ → ℕ → Act → List Entry
+entry_of count line (Mtr session mtr) = record { by = Some (record { session = session; line = line }); lsn = lsn_after count; mtr = mtr } ∷ []
+entry_of count line Sync = []
+
+-- the entries of statements, behind so many
+abbrev pub entries_of : ℕ → List Statement → List Entry
+entries_of count [] = []
+entries_of count (s ∷ ss) = entry_of count s.line s.act ++ entries_of (count + length (entry_of count s.line s.act)) ss
+
+-- the answer to a statement, with so many entries before it
+abbrev pub answer_to : ℕ → Act → Answer
+answer_to count (Mtr session mtr) = Place (count + 1) (lsn_after count)
+answer_to count Sync = Acked count
+
+-- the reply to a statement: the place is the journal's length then
+abbrev pub reply_to : ℕ → Statement → Reply
+reply_to count s = record { line = s.line; place = count + length (entry_of count s.line s.act); answer = answer_to count s.act }
+
+-- the replies to statements, behind so many entries
+abbrev pub replies_to : ℕ → List Statement → List Reply
+replies_to count [] = []
+replies_to count (s ∷ ss) = reply_to count s ∷ replies_to (count + length (entry_of count s.line s.act)) ss
+
+-- so many are acknowledged at the reply at most
+abbrev pub AckedWithin : ℕ → Answer → Type 0
+AckedWithin acked (Acked n) = n ≤ acked
+AckedWithin acked (Place place lsn) = Unit {0}
+
+-- a mini-transaction that one block holds, or no mini-transaction
+abbrev pub IsSmallAct : Act → Type 0
+IsSmallAct (Mtr session mtr) = IsSmall mtr
+IsSmallAct Sync = Unit {0}
+
+-- each of the statements can be run
+abbrev pub AreRunnable : List Statement → Type 0
+AreRunnable [] = Unit {0}
+AreRunnable (s ∷ ss) = IsSmallAct s.act × AreRunnable ss
+
+-- So many statements were done, in order: the journal has their entries, and each has its reply.
+pub record HasRun (statements : List Statement) (done : ℕ) (journal : List Entry) (replies : List Reply) : Type 0 where
+  pub within : done ≤ length statements
+  pub entries : journal ≡ entries_of 0 (take done statements)
+  pub replied : replies ≡ replies_to 0 (take done statements)

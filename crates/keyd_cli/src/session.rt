@@ -1,0 +1,44 @@
+// A session of a drill: its statements in order, on an engine over a memory disk.
+ghost use Rattle.std.specs.Prelude.{◌≡◌, ◌≢◌, ◌+◌, ◌<◌, ◌≤◌, [], ◌∷◌, ◌++◌, length, IfOk, Ok, Some, None, MatchOption};
+ghost use Rattle.engine_core.specs.declared.fault.State.TheVariants as state;
+ghost use Rattle.keyd_cli.specs.Session.{IsSmallAct, AreRunnable, entry_of, reply_to, HasRun};
+ghost use Rattle.keyd_cli.specs.Reads.{mtr_count, is_mtr};
+
+use crate::act::{Act, Statement};
+use crate::outcome::{Answer, Reply};
+use cause_core::OutOfMemory;
+use disk_model::{Disk, MemDisk};
+use engine_core::{Author, Engine, EngineFault};
+use std::alloc::Global;
+
+// Runs one statement. None where the disk was stopped.
+fn answer<D: Disk + Drop>(
+    engine: &mut Engine<D>,
+    statement: Statement,
+) -> Result<Option<Reply>, OutOfMemory>
+    requires small { IsSmallAct statement.act }
+    requires room { length engine.old.journal + length (entry_of 0 0 statement.act) ≤ 256 }
+    requires up { engine.old.state ≡ state.Up }
+    ensures done { IfOk result (λ o. MatchOption o ((engine.new.journal ≡ engine.old.journal) × (engine.new.state ≢ state.Up)) (λ reply. (engine.new.journal ≡ engine.old.journal ++ entry_of (length engine.old.journal) statement.line statement.act) × (reply ≡ reply_to (length engine.old.journal) statement) × (engine.new.state ≡ state.Up))) }
+{
+    let line = statement.line;
+    match statement.act {
+        Act::Mtr { session, mtr } => match engine.commit(Author { session, line }, mtr) {
+            Ok(receipt) => Ok(Some(Reply {
+                line,
+                place: receipt.place,
+                answer: Answer::Place(receipt.place, receipt.lsn),
+            })),
+            Err(_) => Err(OutOfMemory),
+        },
+        Act::Sync => match engine.sync() {
+            Ok(acked) => Ok(Some(Reply {
+                line,
+                place: acked,
+                answer: Answer::Acked(acked),
+            })),
+            Err(EngineFault::DiskFault { .. }) => Ok(None),
+            Err(_) => Err(OutOfMemory),
+        },
+    }
+}
