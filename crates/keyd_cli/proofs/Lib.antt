@@ -5,3 +5,4 @@ pub mod Usages
 pub mod PartsLemmas
 pub mod Schedules
 pub mod ReadsLemmas
+pub mod Sessions

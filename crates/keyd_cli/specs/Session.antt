@@ -1,5 +1,5 @@
 -- What a session of a drill does with its statements.
-use Rattle.std.specs.Prelude.{◌≡◌, ℕ, ◌+◌, ◌*◌, ◌≤◌, List, [], ◌∷◌, ◌++◌, length, take, Some}
+use Rattle.std.specs.Prelude.{◌≡◌, ℕ, ◌+◌, ◌*◌, ◌≤◌, ◌<◌, Bool, true, false, List, [], ◌∷◌, ◌++◌, length, take, Some}
 use Rattle.engine_core.specs.declared.journal.Entry.{Entry}
 use Rattle.engine_core.specs.Text.{IsSmall}
 use Rattle.store_model.specs.declared.change.Change.{Change}
@@ -53,8 +53,11 @@ abbrev pub AreRunnable : List Statement → Type 0
 AreRunnable [] = Unit {0}
 AreRunnable (s ∷ ss) = IsSmallAct s.act × AreRunnable ss
 
--- So many statements were done, in order: the journal has their entries, and each has its reply.
-pub record HasRun (statements : List Statement) (done : ℕ) (journal : List Entry) (replies : List Reply) : Type 0 where
+-- The statements were done in order, all of them or those before one more: the journal has their entries, and each has its reply.
+pub record HasRun (statements : List Statement) (is_whole : Bool) (journal : List Entry) (replies : List Reply) : Type 0 where
+  pub done : ℕ
   pub within : done ≤ length statements
+  pub whole : is_whole ≡ true → done ≡ length statements
+  pub partly : is_whole ≡ false → done < length statements
   pub entries : journal ≡ entries_of 0 (take done statements)
   pub replied : replies ≡ replies_to 0 (take done statements)

@@ -1,5 +1,5 @@
 // A session of a drill: its statements in order, on an engine over a memory disk.
-ghost use Rattle.std.specs.Prelude.{◌≡◌, ◌≢◌, ◌+◌, ◌<◌, ◌≤◌, [], ◌∷◌, ◌++◌, length, IfOk, Ok, Some, None, MatchOption};
+ghost use Rattle.std.specs.Prelude.{◌≡◌, ◌≢◌, ◌+◌, ◌<◌, ◌≤◌, [], ◌∷◌, ◌++◌, length, IfOk, Ok, Some, None, true, false, MatchOption};
 ghost use Rattle.engine_core.specs.declared.fault.State.TheVariants as state;
 ghost use Rattle.keyd_cli.specs.Session.{IsSmallAct, AreRunnable, entry_of, reply_to, HasRun};
 ghost use Rattle.keyd_cli.specs.Reads.{mtr_count, is_mtr};
@@ -41,4 +41,43 @@ fn answer<D: Disk + Drop>(
             Err(_) => Err(OutOfMemory),
         },
     }
+}
+
+/// What was done of a session's statements.
+#[derive(Drop)]
+pub struct Ran {
+    /// The replies to the statements that were done.
+    pub replies: Vec<Reply>,
+    /// Whether all were done. Else the disk was stopped in the next one.
+    pub is_whole: bool,
+}
+
+/// Runs the statements in order, until the disk is stopped.
+pub fn run_statements<D: Disk + Drop>(
+    alloc: Global,
+    engine: &mut Engine<D>,
+    statements: Vec<Statement>,
+) -> Result<Ran, OutOfMemory>
+    requires small { AreRunnable statements.items }
+    requires room { mtr_count statements.items ≤ 256 }
+    requires empty { engine.old.journal ≡ [] }
+    requires up { engine.old.state ≡ state.Up }
+    ensures ran { IfOk result (λ r. HasRun statements.items r.is_whole engine.new.journal r.replies.items) }
+    ensures whole { IfOk result (λ r. r.is_whole ≡ true → engine.new.state ≡ state.Up) }
+    ensures stopped { IfOk result (λ r. r.is_whole ≡ false → engine.new.state ≢ state.Up) }
+{
+    let mut replies = Vec::new(alloc);
+    for statement in statements {
+        let Some(reply) = answer(engine, statement)? else {
+            return Ok(Ran {
+                replies,
+                is_whole: false,
+            });
+        };
+        replies.push(reply)?;
+    }
+    Ok(Ran {
+        replies,
+        is_whole: true,
+    })
 }

@@ -1,0 +1,69 @@
+-- Statements in a row: their entries and replies.
+use Rattle.std.proofs.Common.{◌≡◌, ℕ, ◌+◌, ◌≤◌, ◌<◌, ◌++◌, length, take, arith, sym, ◌∙◌, ap, subst, List, [], ◌∷◌, true, false, Bool, cond, refl, add-zero, drop}
+use Rattle.std.proofs.lemmas.List.{append-nil, length-append, take_all, take-append-le}
+use Rattle.std.proofs.lemmas.List.Sums.{sum_by-append, sum_by-cons}
+use mathlib.Core.List.{append_assoc}
+use Rattle.engine_core.specs.declared.journal.Entry.{Entry}
+use Rattle.keyd_cli.specs.declared.outcome.Reply.{Reply}
+use Rattle.keyd_cli.specs.declared.act.Act.{Act}
+use Rattle.keyd_cli.specs.declared.act.Act.TheVariants.{Mtr, Sync}
+use Rattle.keyd_cli.specs.declared.act.Statement.{Statement}
+use Rattle.keyd_cli.specs.Reads.{is_mtr, mtr_count}
+use Rattle.keyd_cli.specs.Session.{entry_of, entries_of, reply_to, replies_to, IsSmallAct, AreRunnable}
+
+pub entries-append : (count : ℕ) (xs ys : List Statement) → entries_of count (xs ++ ys) ≡ entries_of count xs ++ entries_of (count + length (entries_of count xs)) ys
+entries-append count [] ys = ap (λ n. entries_of n ys) (sym (add-zero count))
+entries-append count (x ∷ xs) ys =
+    let first = entry_of count x.line x.act in
+    let behind = count + length first in
+    let more = entries_of behind xs in
+    let size : behind + length more ≡ count + length (first ++ more) = omega (arith, length-append first more) in
+    ap (λ es. first ++ es) (entries-append behind xs ys) ∙ sym (append_assoc first more (entries_of (behind + length more) ys))
+    ∙ ap (λ n. (first ++ more) ++ entries_of n ys) size
+
+pub replies-append : (count : ℕ) (xs ys : List Statement) → replies_to count (xs ++ ys) ≡ replies_to count xs ++ replies_to (count + length (entries_of count xs)) ys
+replies-append count [] ys = ap (λ n. replies_to n ys) (sym (add-zero count))
+replies-append count (x ∷ xs) ys =
+    let first = entry_of count x.line x.act in
+    let behind = count + length first in
+    let more = entries_of behind xs in
+    let size : behind + length more ≡ count + length (first ++ more) = omega (arith, length-append first more) in
+    ap (λ rs. reply_to count x ∷ rs) (replies-append behind xs ys ∙ ap (λ n. replies_to behind xs ++ replies_to n ys) size)
+
+-- a statement adds an entry where it is a mini-transaction
+pub one_entry : (count line : ℕ) (act : Act) → length (entry_of count line act) ≡ cond (is_mtr act) 1 0
+one_entry count line (Mtr session mtr) = refl
+one_entry count line Sync = refl
+
+pub length-entries : (count : ℕ) (xs : List Statement) → length (entries_of count xs) ≡ mtr_count xs
+length-entries count [] = refl
+length-entries count (x ∷ xs) =
+    let first = entry_of count x.line x.act in
+    let more = entries_of (count + length first) xs in
+    omega (arith, length-append first more, one_entry count x.line x.act, length-entries (count + length first) xs, sum_by-cons (λ s. cond (is_mtr s.act) 1 0) x xs)
+
+-- statements with one more
+pub entries_more : (xs : List Statement) (x : Statement) (old new : List Entry) → old ≡ entries_of 0 xs → new ≡ old ++ entry_of (length old) x.line x.act → new ≡ entries_of 0 (xs ++ (x ∷ []))
+entries_more xs x old new is grown =
+    let at : length old ≡ 0 + length (entries_of 0 xs) = omega (arith, ap length is) in
+    grown ∙ ap (λ es. es ++ entry_of (length old) x.line x.act) is ∙ ap (λ n. entries_of 0 xs ++ entry_of n x.line x.act) at
+    ∙ ap (λ es. entries_of 0 xs ++ es) (sym (append-nil (entry_of (0 + length (entries_of 0 xs)) x.line x.act))) ∙ sym (entries-append 0 xs (x ∷ []))
+
+pub replies_more : (xs : List Statement) (x : Statement) (journal : List Entry) (old new : List Reply) → journal ≡ entries_of 0 xs → old ≡ replies_to 0 xs
+    → new ≡ old ++ (reply_to (length journal) x ∷ []) → new ≡ replies_to 0 (xs ++ (x ∷ []))
+replies_more xs x journal old new are is grown =
+    let at : length journal ≡ 0 + length (entries_of 0 xs) = omega (arith, ap length are) in
+    grown ∙ ap (λ rs. rs ++ (reply_to (length journal) x ∷ [])) is ∙ ap (λ n. replies_to 0 xs ++ (reply_to n x ∷ [])) at ∙ sym (replies-append 0 xs (x ∷ []))
+
+-- the statement after the first ones can be run
+pub next_runnable : (all xs : List Statement) (x : Statement) (rest : List Statement) → all ≡ xs ++ (x ∷ rest) → AreRunnable all → IsSmallAct x.act
+next_runnable all [] x rest is are = (subst AreRunnable is are).0
+next_runnable [] (y ∷ xs) x rest is are = let n : 0 ≡ length (y ∷ (xs ++ (x ∷ rest))) = ap length is in absurd (omega (arith, n))
+next_runnable (a ∷ all) (y ∷ xs) x rest is are = next_runnable all xs x rest (ap (λ l. drop 1 l) is) are.1
+
+pub next_room : (all xs : List Statement) (x : Statement) (rest : List Statement) (journal : List Entry) (count line : ℕ) → all ≡ xs ++ (x ∷ rest) → journal ≡ entries_of 0 xs → mtr_count all ≤ 256
+    → length journal + length (entry_of count line x.act) ≤ 256
+next_room all xs x rest journal count line is are few =
+    let counted : Statement → ℕ = λ s. cond (is_mtr s.act) 1 0 in
+    let whole : mtr_count all ≡ mtr_count xs + mtr_count (x ∷ rest) = ap mtr_count is ∙ sum_by-append counted xs (x ∷ rest) in
+    omega (arith, whole, sum_by-cons counted x rest, ap length are, length-entries 0 xs, one_entry count line x.act, few)
