@@ -5,3 +5,4 @@ pub mod Schedule
 pub mod Lines
 pub mod Reads
 pub mod Session
+pub mod Printed

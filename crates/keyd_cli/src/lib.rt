@@ -5,6 +5,7 @@ mod act;
 mod number;
 mod outcome;
 mod parts;
+mod print;
 mod schedule;
 mod session;
 mod words;
