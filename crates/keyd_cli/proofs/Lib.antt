@@ -6,3 +6,4 @@ pub mod PartsLemmas
 pub mod Schedules
 pub mod ReadsLemmas
 pub mod Sessions
+pub mod Values

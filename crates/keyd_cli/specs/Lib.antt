@@ -6,3 +6,5 @@ pub mod Lines
 pub mod Reads
 pub mod Session
 pub mod Printed
+pub mod Plan
+pub mod PlanOf

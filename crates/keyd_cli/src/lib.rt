@@ -5,6 +5,7 @@ mod act;
 mod number;
 mod outcome;
 mod parts;
+mod plan;
 mod print;
 mod schedule;
 mod session;

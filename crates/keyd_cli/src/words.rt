@@ -38,7 +38,7 @@ impl Flag {
     }
 
     #[tactic(auto, unfolding(crate::specs::Words::name_of))]
-    fn name(self) -> &'static str
+    pub fn name(self) -> &'static str
         ensures { result.now ≡ name_of self }
     {
         match self {
@@ -78,7 +78,7 @@ impl Flag {
 }
 
 // The turn that a stop names.
-fn stop_of(value: &str) -> Option<u32>
+pub fn stop_of(value: &str) -> Option<u32>
     ensures { MatchOption result ((turn : _) → IsStop value.now turn → ⊥) (λ turn. IsStop value.now turn) }
 {
     number_within(value.as_bytes(), 1, 1_000_000)
@@ -125,7 +125,7 @@ fn parts_of(value: &[u8]) -> Option<SpaceParts<'_>>
 }
 
 // A space's word, ID:PAGES:KEY:plain.
-fn space_of(value: &str) -> Option<SpaceWords>
+pub fn space_of(value: &str) -> Option<SpaceWords>
     ensures { MatchOption result ((id pages key : _) → IsSpace value.now id pages key → ⊥) (λ s. IsSpace value.now s.space s.pages s.key_id) }
 {
     let parts = parts_of(value.as_bytes())?;

@@ -1,0 +1,41 @@
+use Rattle.std.proofs.Common.{rules, ◌≡◌, ◌≢◌, ℕ, ◌+◌, ◌<◌, ◌≤◌, List, [], ◌∷◌, length, map, take, get_or, string_bytes, arith, sym, ◌∙◌, ap, subst, Some}
+use Rattle.std.proofs.lemmas.List.{length-map, get_or-map}
+use Rattle.keyd_cli.specs.declared.words.Flag.{Flag}
+use Rattle.keyd_cli.specs.Words.{Word, name_of}
+use Rattle.keyd_cli.specs.Plan.{value_in}
+use Rattle.keyd_cli.proofs.Values.{value_here, value_behind, value_none}
+use Rattle.keyd_cli.proofs.plan.value_of.Goals as goal
+
+word_is : {S : Type 0} (f : S → Word) (strings : List S) (i : ℕ) (x : S) (text : Word) → i < length strings → x ≡ get_or strings i x → text ≡ f x → get_or (map f strings) i [] ≡ text
+word_is f strings i x text low is read = get_or-map f strings i x [] low ∙ ap f (sym is) ∙ sym read
+
+pub returns-then-eq : goal.returns-then-eq
+returns-then-eq c =
+    let strings = c.args.options.now in
+    let ws = map string_bytes strings in
+    let at = c.loop-at.at in
+    let inside : at < length strings = omega (arith, c.loop-at-test.true) in
+    let low : at + 1 < length ws = omega (arith, length-map strings string_bytes, c.loop-at-test.true) in
+    let word = word_is string_bytes strings at c.index-options-at.result c.as_str.result.now inside c.index-options-at.is c.as_str.ensures.value in
+    let value = word_is string_bytes strings (at + 1) c.index-options-at-then-eq.result c.as_str-then-eq.result.now c.loop-at-test.true c.index-options-at-then-eq.is c.as_str-then-eq.ensures.value in
+    let same : c.as_str.result.now ≡ c.name.result.now = search (rules, c.eq.ensures, c.if-eq.true) in
+    let named : get_or ws at [] ≡ name_of c.args.flag = word ∙ same ∙ c.name.ensures in
+    sym c.loop-at.invariant.same ∙ value_here c.args.flag ws at low named ∙ ap Some value
+
+pub loop-at-preserved : goal.loop-at-preserved
+loop-at-preserved c =
+    let strings = c.args.options.now in
+    let ws = map string_bytes strings in
+    let at = c.loop-at.at in
+    let inside : at < length strings = omega (arith, c.loop-at-test.true) in
+    let low : at + 1 < length ws = omega (arith, length-map strings string_bytes, c.loop-at-test.true) in
+    let word = word_is string_bytes strings at c.index-options-at.result c.as_str.result.now inside c.index-options-at.is c.as_str.ensures.value in
+    let other : get_or ws at [] ≡ name_of c.args.flag → ⊥ =
+    λ named. let same : c.as_str.result.now ≡ c.name.result.now = sym word ∙ named ∙ sym c.name.ensures in search (rules, c.eq.ensures, c.if-eq.false, same) in
+    record { same = sym (value_behind c.args.flag ws at low other) ∙ c.loop-at.invariant.same; low = omega (arith, c.loop-at-test.true) }
+
+pub returns : goal.returns
+returns c =
+    let strings = c.args.options.now in
+    let ws = map string_bytes strings in
+    sym c.loop-at.invariant.same ∙ value_none c.args.flag ws c.loop-at.at (λ low. omega (arith, length-map strings string_bytes, low, c.loop-at-test.false))
