@@ -1,0 +1,7 @@
+pub mod Sums
+pub mod Places
+pub mod Events
+pub mod Texts
+pub mod Journals
+pub mod Push
+pub mod Keeping

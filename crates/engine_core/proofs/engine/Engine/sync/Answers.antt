@@ -1,0 +1,61 @@
+use Rattle.std.proofs.Common.{◌≡◌, ◌≤◌, ◌∙◌, length, sym, subst, refl, arith, rules}
+use Rattle.disk_model.specs.Past.{At, Throughout}
+use Rattle.disk_model.proofs.Moments.{and_then, at_last, at_each, weaker}
+use Rattle.engine_core.specs.Layer.{AllRun, Moment, Ready}
+use Rattle.engine_core.proofs.Events.{ready_moment}
+use Rattle.engine_core.proofs.Keeping.{sound_after}
+use Rattle.engine_core.proofs.engine.Engine.sync.Goals as goal
+
+pub write_out-requires-clause-room : goal.write_out-requires-clause-room
+write_out-requires-clause-room g c = omega (arith, c.self.invariant.count, c.self.invariant.room)
+
+pub write_out-requires-clause-order : goal.write_out-requires-clause-order
+write_out-requires-clause-order g c = omega (arith, c.self.invariant.count, c.self.invariant.order)
+
+pub invariant_of-self : goal.invariant_of-self
+invariant_of-self g c =
+    let e = c.in-Err.ensures in
+    sound_after g.D.Disk.past _ c.self.inside.log.blocks.items c.write_out.new.disk c.self.inside.log.settled c.self.inside.log.acked c.write_out.new.turns c.after_fault-state.result.0
+    c.self.invariant e.step.moments c.self.invariant.order e.kept (λ up. absurd (c.after_fault-state.ensures.down up)) (λ up. absurd (c.after_fault-state.ensures.down up)) c.self.invariant.told
+
+pub returns-in-Err-clause-stands : goal.returns-in-Err-clause-stands
+returns-in-Err-clause-stands g c = (invariant_of-self g c).since
+
+pub tell_acked-requires-clause-order : goal.tell_acked-requires-clause-order
+tell_acked-requires-clause-order g c =
+    let long : c.len-self-inside.result ≡ length c.self.inside.log.blocks.items = search rules in
+    omega (arith, long, c.self.invariant.told, c.self.invariant.order, c.self.invariant.count)
+
+pub invariant_of-self-in-Err-tell_acked : goal.invariant_of-self-in-Err-tell_acked
+invariant_of-self-in-Err-tell_acked g c =
+    let blocks = c.self.inside.log.blocks.items in
+    let n = c.len-self-inside.result in
+    let acked = c.self.inside.log.acked in
+    let long : n ≡ length blocks = search rules in
+    let told = c.in-Err-tell_acked.ensures.step in
+    let moments = and_then (AllRun blocks) _ _ _ c.in_default.ensures.step.moments (weaker (λ m at. at.runs) told.moments) in
+    sound_after g.D.Disk.past _ blocks c.tell_acked.new.disk n acked c.write_out.new.turns c.after_fault-state-in-Err-tell_acked.result.0
+    c.self.invariant moments (omega (arith, long, c.self.invariant.count)) (at_last (Moment blocks n acked) _ _ told.moments)
+    (λ up. absurd (c.after_fault-state-in-Err-tell_acked.ensures.down up)) (λ up. absurd (c.after_fault-state-in-Err-tell_acked.ensures.down up))
+    (omega (arith, long, c.self.invariant.told, c.self.invariant.order, c.self.invariant.count))
+
+pub returns-in-Err-tell_acked-clause-stands : goal.returns-in-Err-tell_acked-clause-stands
+returns-in-Err-tell_acked-clause-stands g c = (invariant_of-self-in-Err-tell_acked g c).since
+
+pub invariant_of-self-2 : goal.invariant_of-self-2
+invariant_of-self-2 g c =
+    let blocks = c.self.inside.log.blocks.items in
+    let n = c.len-self-inside.result in
+    let long : n ≡ length blocks = search rules in
+    let told = c.in_default-tell_acked.ensures.step in
+    let moments = and_then (AllRun blocks) _ _ _ c.in_default.ensures.step.moments (weaker (λ m at. at.runs) told.moments) in
+    sound_after g.D.Disk.past _ blocks c.tell_acked.new.disk n n c.write_out.new.turns c.self.inside.state
+    c.self.invariant moments (omega (arith, long, c.self.invariant.count)) (at_each (ready_moment blocks n n n) told.next) (λ up. told.next) (λ up. refl) (omega arith)
+
+pub returns-clause-ok : goal.returns-clause-ok
+returns-clause-ok g c =
+    let long : c.len-self-inside.result ≡ length c.self.inside.log.blocks.items = search rules in
+    (omega (arith, long, c.self.invariant.count), refl, refl, c.in_ok-check_up.ensures.up)
+
+pub returns-clause-stands : goal.returns-clause-stands
+returns-clause-stands g c = (invariant_of-self-2 g c).since

@@ -1,0 +1,6 @@
+pub mod Text
+pub mod Block
+pub mod Log
+pub mod Stands
+pub mod Layer
+pub mod Kept

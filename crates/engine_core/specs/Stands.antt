@@ -1,0 +1,45 @@
+-- An image of the disk stands for a beginning of the journal.
+use Rattle.std.specs.Prelude.{◌≡◌, ℕ, ◌+◌, ◌*◌, ◌≤◌, Bool, false, max, List, [], ◌∷◌, length, map, take}
+use Rattle.disk_model.specs.Event.{Event}
+use Rattle.disk_model.specs.Image.{Image, IsImage, IsLucky}
+use Rattle.disk_model.specs.declared.names.FileName.{FileName}
+use Rattle.disk_model.specs.declared.names.FileName.TheVariants.{Log}
+use Rattle.disk_model.specs.declared.names.Mark.{Mark}
+use Rattle.disk_model.specs.declared.names.Mark.TheVariants.{Started, Acked, Minimum}
+use Rattle.store_model.specs.declared.change.Change.{Change}
+use Rattle.store_model.specs.declared.contents.SpaceContents.{SpaceContents}
+use Rattle.store_model.specs.Fold.{fold}
+use Rattle.engine_core.specs.declared.journal.Entry.{Entry}
+use Rattle.engine_core.specs.Block.{sums_up}
+use Rattle.engine_core.specs.Log.{Recovers}
+
+-- the greatest length acknowledged since the last start, the newest mark first
+abbrev pub acked_of : List Mark → ℕ
+acked_of [] = 0
+acked_of (Started ∷ ms) = 0
+acked_of (Acked n ∷ ms) = max n (acked_of ms)
+acked_of (Minimum a b ∷ ms) = acked_of ms
+
+-- the mini-transactions of a journal
+abbrev pub mtrs : List Entry → List (List Change)
+mtrs journal = map (λ e. e.mtr) journal
+
+-- the contents after the first so many entries
+abbrev pub contents_after : ℕ → List Entry → List SpaceContents → List SpaceContents
+contents_after count journal base = fold (take count (mtrs journal)) base
+
+-- The image recovers to the first so many entries of the journal, and no more than these were acknowledged by then.
+pub record Stands (journal : List Entry) (image : Image) : Type 0 where
+  pub count : ℕ
+  pub within : count ≤ length journal
+  pub recovers : Recovers (image.bytes Log) (take count (mtrs journal))
+  pub acked : acked_of image.told ≤ count
+
+-- whether a torn range passes for what it should hold: a block of the log whose checksum is right
+abbrev pub passes : FileName → List ℕ → Bool
+passes Log bytes = sums_up bytes
+passes _ bytes = false
+
+-- each image of this moment in which no torn range passes its checksum stands for a beginning of the journal
+abbrev pub AllStand : List Entry → List Event → Type 0
+AllStand journal es = (image : Image) → IsImage es image → IsLucky passes image → Stands journal image
