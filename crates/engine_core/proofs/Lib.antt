@@ -5,3 +5,4 @@ pub mod Texts
 pub mod Journals
 pub mod Push
 pub mod Keeping
+pub mod Fresh

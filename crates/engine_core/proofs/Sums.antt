@@ -39,7 +39,7 @@ IsBlock-length {number} {text} b =
 pub IsBlock-sums_up : {number : ℕ} {text block : List ℕ} → IsBlock number text block → sums_up block ≡ true
 IsBlock-sums_up {number} {text} b = ap sums_up b.is ∙ sums_up-sealed (block_head number (length text) ++ text ++ b.rest) (length-front number text b.rest b.size)
 
-take-sealed : (n : ℕ) (text : List ℕ) → n ≤ length text → take n (sealed text) ≡ take n text
+pub take-sealed : (n : ℕ) (text : List ℕ) → n ≤ length text → take n (sealed text) ≡ take n text
 unfolding sealed
 take-sealed n text le = take-append-le n text (to_be_bytes w32 (crc32c text)) le
 

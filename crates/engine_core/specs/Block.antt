@@ -47,9 +47,12 @@ pub record IsCheckpoint (sequence from : ℕ) (block : List ℕ) : Type 0 where
   pub is : block ≡ sealed (checkpoint_head sequence from ++ rest)
 
 -- what the header says of each space
+unfoldable pub space_word : SpaceInfo → List ℕ
+space_word s = to_be_bytes w32 s.space ++ to_be_bytes w32 s.pages ++ to_be_bytes w32 s.key_id
+
 abbrev pub space_words : List SpaceInfo → List ℕ
 space_words [] = []
-space_words (s ∷ ss) = to_be_bytes w32 s.space ++ to_be_bytes w32 s.pages ++ to_be_bytes w32 s.key_id ++ space_words ss
+space_words (s ∷ ss) = space_word s ++ space_words ss
 
 -- the first bytes of a header: format 1, pages of 16384 bytes, 256 ring blocks, the count of spaces, a salt of zero bytes, and the spaces
 unfoldable pub header_head : List SpaceInfo → List ℕ

@@ -4,3 +4,5 @@ pub mod Log
 pub mod Stands
 pub mod Layer
 pub mod Kept
+pub mod Made
+pub mod Faults

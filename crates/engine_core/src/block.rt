@@ -31,7 +31,7 @@ impl Block {
 
 // Adds the checksum of what is there.
 #[tactic(auto, unfolding(crate::specs::Block::sealed))]
-fn seal(text: Vec<u8>) -> Result<Block, AllocError>
+pub fn seal(text: Vec<u8>) -> Result<Block, AllocError>
     ensures { IfOk result (λ b. b ≡ sealed text.items) }
 {
     let mut block = text;
@@ -53,7 +53,7 @@ fn head_bytes(alloc: Global, number: u64, used: u16) -> Result<Vec<u8>, AllocErr
 }
 
 #[tactic(auto, unfolding(crate::specs::Block::zero_rest))]
-fn zero_bytes(alloc: Global, n: usize) -> Result<Vec<u8>, AllocError>
+pub fn zero_bytes(alloc: Global, n: usize) -> Result<Vec<u8>, AllocError>
     ensures { IfOk result (λ v. v.items ≡ zero_rest n) }
 {
     vec![in alloc; 0u8; n]

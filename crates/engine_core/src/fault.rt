@@ -1,4 +1,6 @@
 // Why a call of the engine is refused.
+use disk_model::DiskError;
+use std::alloc::AllocError;
 use thiserror::Error;
 
 /// Whether an engine takes calls.
@@ -32,4 +34,29 @@ pub enum StartFault {
     DiskFault,
     #[error("out of memory")]
     OutOfMemory,
+}
+
+impl From<AllocError> for StartFault {
+    ghost use Rattle.std.specs.Prelude.{◌≡◌};
+    ghost use Rattle.engine_core.specs.declared.fault.StartFault.TheVariants.{OutOfMemory};
+
+    ghost from_gives = { λ _ e. e ≡ OutOfMemory };
+
+    fn from(_e: AllocError) -> StartFault {
+        StartFault::OutOfMemory
+    }
+}
+
+impl From<DiskError> for StartFault {
+    ghost use Rattle.std.specs.Prelude.{◌≡◌};
+    ghost use Rattle.engine_core.specs.Faults.{start_fault};
+
+    ghost from_gives = { λ d e. e ≡ start_fault d };
+
+    fn from(e: DiskError) -> StartFault {
+        match e {
+            DiskError::Failed => StartFault::DiskFault,
+            DiskError::NoMemory => StartFault::OutOfMemory,
+        }
+    }
 }

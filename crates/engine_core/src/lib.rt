@@ -18,10 +18,12 @@
 mod block;
 mod engine;
 mod fault;
+mod format;
 mod journal;
 mod log;
 mod text;
 
 pub use engine::{Engine, Halted, StartRefusal};
+pub use format::create;
 pub use fault::{EngineFault, StartFault, State};
 pub use journal::{Author, Entry, Journal, Receipt};
