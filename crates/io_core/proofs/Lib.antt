@@ -1,0 +1,4 @@
+pub mod Fills
+pub mod Lookups
+pub mod Streams
+pub mod WholeFiles
