@@ -1,3 +1,4 @@
+pub mod Causes
 pub mod Fills
 pub mod Lookups
 pub mod Streams

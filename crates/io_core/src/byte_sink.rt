@@ -63,6 +63,8 @@ impl Sink for ByteSink {
         ensures want { HasWant self.old.wants self.new.wants result }
         ensures failed { (result ≡ Err IoError.Failed) ↔ IsToFail self.old.calls }
         ensures kept { OnErr result (self.new.given ≡ self.old.given) }
+        ensures steady { result ≢ Err IoError.Failed → self.new.calls.faults ≡ self.old.calls.faults }
+        ensures granted { result ≢ Err IoError.NoMemory → self.new.wants ≡ self.old.wants }
         ensures one_more { IsOneMore self.old.calls self.new.calls }
     {
         self.calls.begin()?;

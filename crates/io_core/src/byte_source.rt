@@ -1,5 +1,5 @@
 // A source in memory.
-ghost use Rattle.std.specs.Prelude.{◌≡◌, ◌≢◌, ◌↔◌, ◌+◌, ◌≤◌, ◌<◌, ℕ, min, Some, [], length, take, drop, IfOk, OnErr, IsErr};
+ghost use Rattle.std.specs.Prelude.{◌≡◌, ◌≢◌, ◌↔◌, ◌+◌, ◌≤◌, ◌<◌, ℕ, min, Some, [], length, take, drop, IfOk, OnOk, OnErr, IsErr};
 ghost use Rattle.io_core.specs.Told.{Told};
 ghost use Rattle.io_core.specs.Stream.{prefixed};
 ghost use Rattle.io_core.specs.Cause.{HasCause, HasWant};
@@ -63,6 +63,7 @@ impl Source for ByteSource {
         ensures failed { IsErr result ↔ IsToFail self.old.calls }
         ensures only { result ≢ Err IoError.NoMemory }
         ensures unread { OnErr result (into.new ≡ into.old) }
+        ensures steady { OnOk result (self.new.calls.faults ≡ self.old.calls.faults) }
         ensures one_more { IsOneMore self.old.calls self.new.calls }
     {
         self.calls.begin()?;

@@ -1,5 +1,6 @@
 // How an adapter over std answers for what std answered.
-ghost use Rattle.std.specs.Prelude.{◌≡◌, ◌≤◌, length, IfOk};
+ghost use Rattle.std.specs.Prelude.{◌≡◌, ◌↔◌, ◌≤◌, length, IfOk, IfErr, IsErr, OnOk};
+ghost use Rattle.std.specs.IoError.{error_kind};
 ghost use Rattle.io_core.specs.Cause.{HasCause, HasWant};
 
 use crate::IoError;
@@ -39,6 +40,9 @@ impl Counts {
     /// every other one `Failed`.
     pub fn answer<T>(&mut self, outcome: io::Result<T>) -> Result<T, IoError>
         ensures ok { IfOk result (λ value. outcome ≡ Ok value) }
+        ensures err { IsErr result ↔ IsErr outcome }
+        ensures memory { IfErr outcome (λ e. (result ≡ Err IoError.NoMemory) ↔ (error_kind e ≡ ErrorKind.OutOfMemory)) }
+        ensures steady { OnOk result (self.new ≡ self.old) }
         ensures cause { HasCause self.old.faults self.new.faults result }
         ensures want { HasWant self.old.wants self.new.wants result }
     {

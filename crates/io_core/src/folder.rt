@@ -3,10 +3,9 @@ ghost use Rattle.std.specs.Prelude.{◌≡◌, ◌≤◌, None, length, IfOk};
 
 use crate::counts::{Counts, read_full};
 use crate::{IoError, Library};
-use std::fs;
-use std::io;
 use std::io::{ErrorKind, Seek, SeekFrom};
 use std::rt::Files;
+use std::{fs, io};
 
 /// A library over the files of the current folder: a name is a path from there. It tells nothing of
 /// its files. Each call opens the file anew. What is there but is no regular file, as a folder, is

@@ -46,3 +46,6 @@ pub use source::Source;
 pub use std_sink::StdSink;
 pub use std_source::StdSource;
 pub use whole::{FileContents, SourceContents, read_all, read_file};
+
+#[cfg(test)]
+mod tests;

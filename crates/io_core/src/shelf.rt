@@ -1,5 +1,5 @@
 // A library in memory.
-ghost use Rattle.std.specs.Prelude.{◌≡◌, ◌≢◌, ◌↔◌, ◌≤◌, ℕ, Some, [], length, IfOk, OnErr, IsErr};
+ghost use Rattle.std.specs.Prelude.{◌≡◌, ◌≢◌, ◌↔◌, ◌≤◌, ℕ, Some, None, Ok, All, [], length, IfOk, OnOk, OnErr, IsErr};
 ghost use Rattle.std.specs.Option.{option_map, option_copied};
 ghost use Rattle.io_core.specs.Told.{Told};
 ghost use Rattle.io_core.specs.Files.{bytes_from, IsFilled};
@@ -33,7 +33,10 @@ impl Shelf {
     /// `read`, counted together from 1, that answer `Failed`.
     pub fn new(files: Vec<(String, Vec<u8>)>, failing: Vec<u64>) -> Shelf
         requires { NamesDiffer (listed files.items) }
-        ensures { result ≡ record { files = listed files.items; calls = record { failing = failing.items; made = 0; faults = 0 }; absences = 0 } }
+        ensures made { result ≡ record { files = listed files.items; calls = record { failing = failing.items; made = 0; faults = 0 }; absences = 0 } }
+
+        // Each file of the list is the file of its name.
+        ensures each { All (λ file. files_of result.files file.0 ≡ Some file.1) result.files }
     {
         Shelf {
             files,
@@ -74,6 +77,8 @@ impl Library for Shelf {
         ensures failed { IsErr result ↔ IsToFail self.old.calls }
         ensures only { result ≢ Err IoError.NoMemory }
         ensures kept { self.new.files ≡ self.old.files }
+        ensures present { result ≢ Ok None → self.new.absences ≡ self.old.absences }
+        ensures steady { OnOk result (self.new.calls.faults ≡ self.old.calls.faults) }
         ensures one_more { IsOneMore self.old.calls self.new.calls }
     {
         self.calls.begin()?;
@@ -97,6 +102,8 @@ impl Library for Shelf {
         ensures only { result ≢ Err IoError.NoMemory }
         ensures unread { OnErr result (into.new ≡ into.old) }
         ensures kept { self.new.files ≡ self.old.files }
+        ensures none_absent { self.new.absences ≡ self.old.absences }
+        ensures steady { OnOk result (self.new.calls.faults ≡ self.old.calls.faults) }
         ensures one_more { IsOneMore self.old.calls self.new.calls }
     {
         self.calls.begin()?;

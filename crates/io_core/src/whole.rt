@@ -10,7 +10,7 @@ use crate::{IoError, Library, Source};
 use std::alloc::Global;
 
 /// What a source had.
-#[derive(Debug, Drop)]
+#[derive(Debug, PartialEq, Eq, Drop)]
 pub enum SourceContents {
     /// All its bytes.
     Whole(Vec<u8>),
@@ -19,7 +19,7 @@ pub enum SourceContents {
 }
 
 /// What a library had under a name.
-#[derive(Debug, Drop)]
+#[derive(Debug, PartialEq, Eq, Drop)]
 pub enum FileContents {
     /// All bytes of the file.
     Whole(Vec<u8>),
