@@ -42,11 +42,10 @@ fn a_sink_in_memory_fails_at_each_call_in_turn(rt: HostRuntime) -> Result<(), Fa
     let table = [(1, "cdef"), (2, "abef"), (3, "abcd"), (4, "abcdef")];
     for (failing, want) in table {
         let mut sink = ByteSink::new(rt.alloc(), vec![in rt.alloc(); failing]?);
-        let mut call = 0u64;
-        for bytes in ["ab", "cd", "ef"] {
-            call += 1;
+        for (i, bytes) in ["ab", "cd", "ef"].into_iter().enumerate() {
             let answer = sink.give(bytes.as_bytes());
-            assert_eq!(rt; answer.is_err(), call == failing, "failing {failing}");
+            let fails = i as u64 + 1 == failing;
+            assert_eq!(rt; answer.is_err(), fails, "failing {failing}");
         }
         assert_eq!(rt; sink.bytes(), want.as_bytes(), "failing {failing}");
     }
