@@ -1,21 +1,19 @@
 -- The log that was just made.
-use Rattle.std.proofs.Common.{◌≡◌, ℕ, ◌+◌, ◌-◌, ◌*◌, ◌<◌, ◌≤◌, List, [], ◌∷◌, ◌++◌, length, take, drop, get_or, replicate, codes, refl, sym, ◌∙◌, ap, subst, arith, length-append, append_assoc}
+use Rattle.std.proofs.Common.{◌≡◌, ℕ, ◌+◌, ◌-◌, ◌*◌, ◌<◌, ◌≤◌, List, [], ◌∷◌, ◌++◌, length, take, drop, get_or, replicate, codes, refl, sym, ◌∙◌, ap, subst, arith, length-append}
 use Rattle.std.proofs.lemmas.List.{length-replicate, take-replicate, drop-replicate, take-take, take-append-le}
 use Rattle.std.proofs.lemmas.Nat.{from_be_bytes-to_be_bytes_8}
-use Rattle.std.specs.Int.{to_be_bytes, from_be_bytes, w32, w64}
-use Rattle.bytes_core.specs.Crc.{crc32c}
-use Rattle.disk_model.specs.Event.{Event, Make, Write, Sync, put, zeros, range, marks}
+use Rattle.std.specs.Int.{to_be_bytes, from_be_bytes, w64}
+use Rattle.disk_model.specs.Event.{Event, Make, Write, Sync, put, zeros, range}
 use Rattle.disk_model.specs.Image.{InFile}
 use Rattle.disk_model.specs.declared.names.FileName.TheVariants.{Log}
 use Rattle.disk_model.specs.Past.{Past, At, grow}
 use Rattle.disk_model.proofs.Moments.{at_grow, at_is}
 use Rattle.disk_model.proofs.Blocks.{length-put, range-put_same, range-put_before, range-put_after}
 use Rattle.store_model.specs.declared.contents.SpaceInfo.{SpaceInfo}
-use Rattle.engine_core.specs.Block.{sealed, checkpoint_head, header_head, space_word, space_words, IsBlock, IsCheckpoint, IsHeader}
+use Rattle.engine_core.specs.Block.{checkpoint_head, header_head, space_word, space_words, IsBlock, IsCheckpoint, IsHeader}
 use Rattle.engine_core.specs.Log.{block_at, ring_place, IsFramed}
-use Rattle.engine_core.specs.Stands.{acked_of}
 use Rattle.engine_core.specs.Layer.{entry_at, HasNone, NoBlock, Spaced, IsFilled, IsEmpty, Ready}
-use Rattle.engine_core.specs.Made.{IsNow, HasCheckpoint, IsHeaded}
+use Rattle.engine_core.specs.Made.{IsNow, IsHeaded}
 use Rattle.engine_core.proofs.Places.{place_low, place_high}
 use Rattle.engine_core.proofs.Sums.{length-sealed, take-sealed, IsBlock-first}
 

@@ -1,7 +1,6 @@
 -- The journal and its blocks.
 use Rattle.std.proofs.Common.{◌≡◌, ℕ, zero, suc, ◌+◌, ◌*◌, ◌<◌, ◌≤◌, List, [], ◌∷◌, ◌++◌, length, map, take, get_or, refl, sym, ◌∙◌, ap, subst, arith, length-append, ⊎_elim}
 use Rattle.std.proofs.lemmas.Bool.{cases_lt}
-use Rattle.std.proofs.lemmas.List.{get_or_append_left, get_or_push}
 use Rattle.store_model.specs.declared.change.Change.{Change}
 use Rattle.disk_model.specs.Event.{Event}
 use Rattle.disk_model.specs.declared.names.FileName.TheVariants.{Log}
@@ -11,7 +10,7 @@ use Rattle.engine_core.specs.Text.{text_of, IsSmall, AreSmall}
 use Rattle.engine_core.specs.Block.{IsBlock}
 use Rattle.engine_core.specs.Log.{block_at, ring_place, IsRunFrom, Recovers}
 use Rattle.engine_core.specs.Stands.{mtrs, Stands, AllStand}
-use Rattle.engine_core.specs.Layer.{entry, entry_at, HasNone, AreNumbered, Runs, AllRun, IsFilled}
+use Rattle.engine_core.specs.Layer.{AreNumbered, Runs, AllRun, IsFilled}
 use Rattle.engine_core.specs.Kept.{AreEntries, AreBlocks}
 use Rattle.engine_core.proofs.Events.{full_ring}
 

@@ -1,5 +1,5 @@
 -- What the type of an engine keeps, over each call.
-use Rattle.std.proofs.Common.{◌≡◌, ◌≢◌, ℕ, ◌+◌, ◌*◌, ◌<◌, ◌≤◌, List, [], ◌∷◌, ◌++◌, length, refl, sym, ◌∙◌, ap, subst, arith, length-append}
+use Rattle.std.proofs.Common.{◌≡◌, ℕ, ◌+◌, ◌*◌, ◌<◌, ◌≤◌, List, [], ◌∷◌, ◌++◌, length, refl, sym, ◌∙◌, ap, subst, arith, length-append}
 use Rattle.disk_model.specs.Event.{Event}
 use Rattle.disk_model.specs.Past.{Past, At, Throughout}
 use Rattle.disk_model.proofs.Moments.{at_each, weaker, begins, and_then}
@@ -10,7 +10,7 @@ use Rattle.engine_core.specs.Text.{text_of, IsSmall}
 use Rattle.engine_core.specs.Block.{IsBlock}
 use Rattle.engine_core.specs.Log.{Recovers}
 use Rattle.engine_core.specs.Stands.{AllStand}
-use Rattle.engine_core.specs.Layer.{Ready, Moment, AllRun, durable}
+use Rattle.engine_core.specs.Layer.{Ready, Moment, AllRun}
 use Rattle.engine_core.specs.Kept.{Running, IsSound, IsExact, AreEntries, AreBlocks, with_journal}
 use Rattle.engine_core.proofs.Events.{ready_runs, ready_moment}
 use Rattle.engine_core.proofs.Journals.{all_stand, filled_recovers, blocks-push, entries-push, take-mtrs, stands-push}

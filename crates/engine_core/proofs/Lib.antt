@@ -6,3 +6,4 @@ pub mod Journals
 pub mod Push
 pub mod Keeping
 pub mod Fresh
+pub mod BlocksRead

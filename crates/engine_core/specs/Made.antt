@@ -1,5 +1,5 @@
 -- What a log that is being made reads as.
-use Rattle.std.specs.Prelude.{◌≡◌, ℕ, true, List, length}
+use Rattle.std.specs.Prelude.{◌≡◌, ℕ, true, List}
 use Rattle.disk_model.specs.Event.{Event, put, zeros, is_there, reads, marks}
 use Rattle.disk_model.specs.Image.{Leaves}
 use Rattle.disk_model.specs.declared.names.FileName.TheVariants.{Log}

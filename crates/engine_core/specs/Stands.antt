@@ -1,5 +1,5 @@
 -- An image of the disk stands for a beginning of the journal.
-use Rattle.std.specs.Prelude.{◌≡◌, ℕ, ◌+◌, ◌*◌, ◌≤◌, Bool, false, max, List, [], ◌∷◌, length, map, take}
+use Rattle.std.specs.Prelude.{ℕ, ◌≤◌, Bool, false, max, List, [], ◌∷◌, length, map, take}
 use Rattle.disk_model.specs.Event.{Event}
 use Rattle.disk_model.specs.Image.{Image, IsImage, IsLucky}
 use Rattle.disk_model.specs.declared.names.FileName.{FileName}

@@ -122,11 +122,7 @@ fn write_header<D: Disk>(disk: &mut D, block: &Block, spaces: &[SpaceInfo]) -> R
 
 /// Makes the log of a store with at most 16 spaces, in which no mini-transaction stands: the file,
 /// checkpoint 1, and the header, each synced. It needs a disk with no log.
-pub fn create<D: Disk>(
-    alloc: Global,
-    disk: &mut D,
-    spaces: &[SpaceInfo],
-) -> Result<(), StartFault>
+pub fn create<D: Disk>(alloc: Global, disk: &mut D, spaces: &[SpaceInfo]) -> Result<(), StartFault>
     requires empty { At IsEmpty (D.past disk.old) }
     requires few { length spaces.now ≤ 16 }
     ensures ok { OnOk result (At (Ready [] 0 0 0) (D.past disk.new)) }

@@ -21,9 +21,14 @@ mod fault;
 mod format;
 mod journal;
 mod log;
+mod reading;
 mod text;
 
 pub use engine::{Engine, Halted, StartRefusal};
-pub use format::create;
 pub use fault::{EngineFault, StartFault, State};
+pub use format::create;
 pub use journal::{Author, Entry, Journal, Receipt};
+pub use reading::{read_block, scan};
+
+#[cfg(test)]
+mod tests;

@@ -56,7 +56,11 @@ pub fn write_block<D: Disk>(
 {
     *turns = turns.saturating_add(1);
     let number = i as u64 + 2;
-    disk.write(FileName::Log, ring_place(number) * 4096, log.blocks[i].bytes())
+    disk.write(
+        FileName::Log,
+        ring_place(number) * 4096,
+        log.blocks[i].bytes(),
+    )
 }
 
 /// Writes the blocks that aren't written yet.
@@ -130,7 +134,7 @@ pub fn tell_started<D: Disk>(disk: &mut D) -> Result<(), DiskError>
 
 // The file block of the ring block with this number.
 #[tactic(auto, unfolding(crate::specs::Log::ring_place))]
-fn ring_place(number: u64) -> u64
+pub fn ring_place(number: u64) -> u64
     ensures { result ≡ ring_place number }
 {
     3 + number % 256

@@ -1,4 +1,4 @@
-use Rattle.std.proofs.Common.{◌≡◌, ℕ, length, replicate, refl}
+use Rattle.std.proofs.Common.{ℕ, refl}
 use Rattle.std.proofs.lemmas.List.{length-replicate}
 use Rattle.engine_core.specs.Block.{zero_rest}
 use Rattle.engine_core.proofs.format.checkpoint_block.Goals as goal

@@ -1,4 +1,4 @@
-use Rattle.std.proofs.Common.{◌≡◌, ◌+◌, ◌*◌, ◌<◌, length, sym, ◌∙◌, ap, subst, arith, rules}
+use Rattle.std.proofs.Common.{◌≡◌, ◌+◌, ◌<◌, length, subst, arith, rules}
 use Rattle.engine_core.specs.Text.{text_of}
 use Rattle.engine_core.specs.Block.{IsBlock}
 use Rattle.engine_core.proofs.Keeping.{sound_push}

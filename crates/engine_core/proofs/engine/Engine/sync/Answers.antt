@@ -1,7 +1,6 @@
-use Rattle.std.proofs.Common.{◌≡◌, ◌≤◌, ◌∙◌, length, sym, subst, refl, arith, rules}
-use Rattle.disk_model.specs.Past.{At, Throughout}
+use Rattle.std.proofs.Common.{◌≡◌, length, refl, arith, rules}
 use Rattle.disk_model.proofs.Moments.{and_then, at_last, at_each, weaker}
-use Rattle.engine_core.specs.Layer.{AllRun, Moment, Ready}
+use Rattle.engine_core.specs.Layer.{AllRun, Moment}
 use Rattle.engine_core.proofs.Events.{ready_moment}
 use Rattle.engine_core.proofs.Keeping.{sound_after}
 use Rattle.engine_core.proofs.engine.Engine.sync.Goals as goal
