@@ -7,3 +7,4 @@ pub mod Push
 pub mod Keeping
 pub mod Fresh
 pub mod BlocksRead
+pub mod RunLength

@@ -35,6 +35,12 @@ pub record Stands (journal : List Entry) (image : Image) : Type 0 where
   pub recovers : Recovers (image.bytes Log) (take count (mtrs journal))
   pub acked : acked_of image.told ≤ count
 
+-- The image recovers to exactly so many entries of the journal, and no more than these were acknowledged by then.
+pub record Keeps (journal : List Entry) (image : Image) (kept : ℕ) : Type 0 where
+  pub within : kept ≤ length journal
+  pub recovers : Recovers (image.bytes Log) (take kept (mtrs journal))
+  pub acked : acked_of image.told ≤ kept
+
 -- whether a torn range passes for what it should hold: a block of the log whose checksum is right
 abbrev pub passes : FileName → List ℕ → Bool
 passes Log bytes = sums_up bytes

@@ -139,6 +139,7 @@ impl<D: Disk + Drop> Engine<D> {
         ensures up { IfErr (up_or_refused self.old.state) (λ e. result ≡ Err e) }
         ensures cause { IfErr result (λ e. (e ≡ EngineFault.OutOfMemory) ⊎ (up_or_refused self.old.state ≡ Err e)) }
         ensures stands { StandsSince D.past self.new }
+        ensures exact { At (IsExact self.new.journal self.new.settled self.new.acked) (D.past self.new.disk) }
     {
         check_up(self.state)?;
         let place = self.journal.len() as u64 + 1;
@@ -169,7 +170,10 @@ impl<D: Disk + Drop> Engine<D> {
         ensures fault { (turn : ℕ) → result ≡ Err (EngineFault.DiskFault turn) → (self.new.state ≡ State.Down turn) × (turn ≡ self.new.turns) × Rose (D.faults self.old.disk) (D.faults self.new.disk) }
         ensures down { (turn : ℕ) → result ≡ Err (EngineFault.Down turn) → self.old.state ≡ State.Down turn }
         ensures starved { result ≡ Err EngineFault.OutOfMemory → (self.new.state ≡ State.Starved) × ((self.old.state ≡ State.Starved) ⊎ Rose (D.wants self.old.disk) (D.wants self.new.disk)) }
+        ensures unacked { OnErr result (self.new.acked ≡ self.old.acked) }
+        ensures settled { OnErr result ((self.new.settled ≡ self.old.settled) ⊎ (self.new.settled ≡ length self.new.journal)) }
         ensures stands { StandsSince D.past self.new }
+        ensures exact { At (IsExact self.new.journal self.new.settled self.new.acked) (D.past self.new.disk) }
     {
         check_up(self.state)?;
         if let Err(e) = write_out(&mut self.disk, &mut self.turns, &self.log) {

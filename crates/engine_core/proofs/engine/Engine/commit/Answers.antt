@@ -19,3 +19,6 @@ invariant_of-self-in-Ok-push g c =
 
 pub returns-clause-stands : goal.returns-clause-stands
 returns-clause-stands g c = (invariant_of-self-in-Ok-push g c).since
+
+pub returns-clause-exact : goal.returns-clause-exact
+returns-clause-exact g c = (invariant_of-self-in-Ok-push g c).exact

@@ -58,3 +58,12 @@ returns-clause-ok g c =
 
 pub returns-clause-stands : goal.returns-clause-stands
 returns-clause-stands g c = (invariant_of-self-2 g c).since
+
+pub returns-in-Err-clause-exact : goal.returns-in-Err-clause-exact
+returns-in-Err-clause-exact g c = (invariant_of-self g c).exact
+
+pub returns-in-Err-tell_acked-clause-exact : goal.returns-in-Err-tell_acked-clause-exact
+returns-in-Err-tell_acked-clause-exact g c = (invariant_of-self-in-Err-tell_acked g c).exact
+
+pub returns-clause-exact : goal.returns-clause-exact
+returns-clause-exact g c = (invariant_of-self-2 g c).exact
