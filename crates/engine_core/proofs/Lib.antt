@@ -8,3 +8,4 @@ pub mod Keeping
 pub mod Fresh
 pub mod BlocksRead
 pub mod RunLength
+pub mod TurnCounts

@@ -1,10 +1,9 @@
 -- How many entries an image keeps, as a scan counts them.
-use Rattle.std.proofs.Common.{◌≡◌, ℕ, ◌≤◌, List, [], ◌∷◌, length, map, take, refl, sym, ◌∙◌, ap, subst, arith}
+use Rattle.std.proofs.Common.{◌≡◌, ℕ, ◌≤◌, List, length, map, take, sym, ◌∙◌, ap, subst, arith}
 use Rattle.std.proofs.lemmas.List.{length-take-le, length-map}
 use Rattle.disk_model.specs.Event.{Event}
 use Rattle.disk_model.specs.Image.{Image}
 use Rattle.disk_model.specs.declared.names.FileName.TheVariants.{Log}
-use Rattle.store_model.specs.declared.change.Change.{Change}
 use Rattle.engine_core.specs.declared.journal.Entry.{Entry}
 use Rattle.engine_core.specs.Text.{text_of}
 use Rattle.engine_core.specs.Log.{IsRunFrom, Recovers}

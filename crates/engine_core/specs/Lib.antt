@@ -6,3 +6,4 @@ pub mod Layer
 pub mod Kept
 pub mod Made
 pub mod Faults
+pub mod Turns

@@ -1,8 +1,9 @@
 // The engine: a journal whose entries a log holds.
-ghost use Rattle.std.specs.Prelude.{◌≡◌, ◌≢◌, ◌⊎◌, ℕ, List, Some, Ok, Err, ◌+◌, ◌*◌, ◌<◌, ◌≤◌, ◌++◌, [], ◌∷◌, length, IfOk, IfErr, OnOk, OnErr};
+ghost use Rattle.std.specs.Prelude.{◌-◌, ◌≡◌, ◌≢◌, ◌⊎◌, ℕ, List, Some, Ok, Err, ◌+◌, ◌*◌, ◌<◌, ◌≤◌, ◌++◌, [], ◌∷◌, length, IfOk, IfErr, OnOk, OnErr};
 ghost use Rattle.cause_core.specs.Counts.{Rose};
 ghost use Rattle.disk_model.specs.Event.{Event};
 ghost use Rattle.disk_model.specs.Past.{Later, At, Throughout};
+ghost use Rattle.engine_core.specs.Turns.{turns_after, turns_of};
 ghost use Rattle.engine_core.specs.Text.{IsSmall};
 ghost use Rattle.engine_core.specs.Layer.{Ready};
 ghost use Rattle.engine_core.specs.Stands.{AllStand};
@@ -170,6 +171,8 @@ impl<D: Disk + Drop> Engine<D> {
         ensures fault { (turn : ℕ) → result ≡ Err (EngineFault.DiskFault turn) → (self.new.state ≡ State.Down turn) × (turn ≡ self.new.turns) × Rose (D.faults self.old.disk) (D.faults self.new.disk) }
         ensures down { (turn : ℕ) → result ≡ Err (EngineFault.Down turn) → self.old.state ≡ State.Down turn }
         ensures starved { result ≡ Err EngineFault.OutOfMemory → (self.new.state ≡ State.Starved) × ((self.old.state ≡ State.Starved) ⊎ Rose (D.wants self.old.disk) (D.wants self.new.disk)) }
+        ensures turns { OnOk result (self.new.turns ≡ turns_after self.old.turns (turns_of (length self.old.journal - self.old.settled))) }
+        ensures turn { (turn : ℕ) → result ≡ Err (EngineFault.DiskFault turn) → turn ≤ turns_after self.old.turns (turns_of (length self.old.journal - self.old.settled)) }
         ensures unacked { OnErr result (self.new.acked ≡ self.old.acked) }
         ensures settled { OnErr result ((self.new.settled ≡ self.old.settled) ⊎ (self.new.settled ≡ length self.new.journal)) }
         ensures stands { StandsSince D.past self.new }

@@ -1,6 +1,7 @@
 // The log's file: the device calls, one to a function.
-ghost use Rattle.std.specs.Prelude.{◌∷◌, ◌++◌, ℕ, List, OnOk, ◌≡◌, ◌+◌, ◌<◌, ◌≤◌, [], length, OnErr};
+ghost use Rattle.std.specs.Prelude.{◌^◌, ◌-◌, ◌∷◌, ◌++◌, ℕ, List, OnOk, ◌≡◌, ◌+◌, ◌<◌, ◌≤◌, [], length, OnErr};
 ghost use Rattle.disk_model.specs.Past.{At, Step, HasCause, HasWant};
+ghost use Rattle.engine_core.specs.Turns.{turns_after, turns_of, IsTurnOf};
 ghost use Rattle.engine_core.specs.Layer.{Ready, Moment, AllRun};
 ghost use Rattle.engine_core.specs.Text.{text_of, IsSmall};
 ghost use Rattle.engine_core.specs.Block.{IsBlock};
@@ -53,6 +54,7 @@ pub fn write_block<D: Disk>(
     ensures step { Step (Moment log.now.blocks.items log.now.settled log.now.acked) (Ready log.now.blocks.items log.now.settled (i + 1) log.now.acked) (D.past disk.old) (D.past disk.new) result }
     ensures cause { HasCause (D.faults disk.old) (D.faults disk.new) result }
     ensures want { HasWant (D.wants disk.old) (D.wants disk.new) result }
+    ensures turns { turns.new ≡ turns_after turns.old 1 }
 {
     *turns = turns.saturating_add(1);
     let number = i as u64 + 2;
@@ -72,9 +74,12 @@ pub fn write_pending<D: Disk>(
     requires ready { At (Ready log.now.blocks.items log.now.settled log.now.settled log.now.acked) (D.past disk.old) }
     requires room { length log.now.blocks.items ≤ 256 }
     requires order { log.now.settled ≤ length log.now.blocks.items }
+    requires counted { turns.old < 2 ^ 64 }
     ensures step { Step (Moment log.now.blocks.items log.now.settled log.now.acked) (Ready log.now.blocks.items log.now.settled (length log.now.blocks.items) log.now.acked) (D.past disk.old) (D.past disk.new) result }
     ensures cause { HasCause (D.faults disk.old) (D.faults disk.new) result }
     ensures want { HasWant (D.wants disk.old) (D.wants disk.new) result }
+    ensures turns { OnOk result (turns.new ≡ turns_after turns.old (length log.now.blocks.items - log.now.settled)) }
+    ensures failed { OnErr result (IsTurnOf (length log.now.blocks.items - log.now.settled) turns.old turns.new) }
 {
     for i in log.settled..log.blocks.len() {
         write_block(disk, turns, log, i)?;
@@ -88,6 +93,7 @@ fn sync_log<D: Disk>(disk: &mut D, turns: &mut u64, log: &PlainLog) -> Result<()
     ensures cause { HasCause (D.faults disk.old) (D.faults disk.new) result }
     ensures want { HasWant (D.wants disk.old) (D.wants disk.new) result }
     ensures same { OnErr result (D.past disk.new ≡ D.past disk.old) }
+    ensures turns { turns.new ≡ turns_after turns.old 1 }
 {
     let _ = log;
     *turns = turns.saturating_add(1);
@@ -99,10 +105,13 @@ pub fn write_out<D: Disk>(disk: &mut D, turns: &mut u64, log: &PlainLog) -> Resu
     requires ready { At (Ready log.now.blocks.items log.now.settled log.now.settled log.now.acked) (D.past disk.old) }
     requires room { length log.now.blocks.items ≤ 256 }
     requires order { log.now.settled ≤ length log.now.blocks.items }
+    requires counted { turns.old < 2 ^ 64 }
     ensures step { Step (AllRun log.now.blocks.items) (Ready log.now.blocks.items (length log.now.blocks.items) (length log.now.blocks.items) log.now.acked) (D.past disk.old) (D.past disk.new) result }
     ensures cause { HasCause (D.faults disk.old) (D.faults disk.new) result }
     ensures want { HasWant (D.wants disk.old) (D.wants disk.new) result }
     ensures kept { OnErr result (At (Moment log.now.blocks.items log.now.settled log.now.acked) (D.past disk.new)) }
+    ensures turns { OnOk result (turns.new ≡ turns_after turns.old (turns_of (length log.now.blocks.items - log.now.settled))) }
+    ensures failed { OnErr result (IsTurnOf (turns_of (length log.now.blocks.items - log.now.settled)) turns.old turns.new) }
 {
     if log.settled == log.blocks.len() {
         return Ok(());

@@ -7,9 +7,9 @@ pub returns : goal.returns
 unfolding zero_rest
 returns c =
     let text : List ℕ = c.args.text.now in
-    let n : ℕ = 4076 - length text in
+    let n : ℕ = 4076 - length {A = ℕ} text in
     let long : length (replicate n 0) ≡ n = length-replicate {A = ℕ} n 0 in
-    let sum : length text + n ≡ 4076 = omega (arith, c.requires.most) in
+    let sum : length {A = ℕ} text + n ≡ 4076 = omega (arith, c.requires.most) in
     record {
       small = omega arith;
       some = c.requires.some;

@@ -1,8 +1,9 @@
-use Rattle.std.proofs.Common.{◌≡◌, length, subst, rules}
+use Rattle.std.proofs.Common.{◌≡◌, ◌-◌, length, subst, arith, rules}
 use Rattle.std.proofs.lemmas.Result.{on_err_weaker}
 use Rattle.disk_model.specs.Past.{At}
 use Rattle.disk_model.proofs.Moments.{one_more, ended_by, begins, at_each, at_is, at_last, finished}
 use Rattle.engine_core.proofs.Events.{ready_runs, ready_moment, runs_alone, on_err_always}
+use Rattle.engine_core.proofs.TurnCounts.{turns_same, none_of}
 use Rattle.engine_core.specs.Layer.{AllRun, Ready, Moment}
 use Rattle.engine_core.proofs.log.write_out.Goals as goal
 
@@ -35,3 +36,9 @@ returns-clause-kept g c =
     let blocks = c.args.log.now.blocks.items in
     let before = c.in_ok-write_pending.ensures.step.next in
     on_err_weaker c.sync_log.result (λ same. at_is same (at_each (ready_moment blocks c.args.log.now.settled (length blocks) c.args.log.now.acked) before)) c.sync_log.ensures.same
+
+pub returns-then-log-len-clause-turns : goal.returns-then-log-len-clause-turns
+returns-then-log-len-clause-turns g c =
+    let all : c.args.log.now.settled ≡ length c.args.log.now.blocks.items = search rules in
+    let none : length c.args.log.now.blocks.items - c.args.log.now.settled ≡ 0 = omega (arith, all) in
+    turns_same c.args.turns.now _ c.requires.counted (none_of _ none)

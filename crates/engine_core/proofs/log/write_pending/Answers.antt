@@ -1,7 +1,9 @@
-use Rattle.std.proofs.Common.{◌≡◌, ◌≤◌, length, arith, rules, subst}
+use Rattle.std.proofs.Common.{◌≡◌, ◌+◌, ◌-◌, ◌≤◌, ◌∙◌, ap, length, arith, rules, subst}
 use Rattle.disk_model.proofs.Moments.{begins, and_then, at_each, after, ended_by, finished}
 use Rattle.disk_model.specs.Past.{At}
 use Rattle.engine_core.proofs.Events.{ready_moment}
+use Rattle.engine_core.specs.Turns.{turns_after}
+use Rattle.engine_core.proofs.TurnCounts.{turns_same, turns_more}
 use Rattle.engine_core.specs.Layer.{Moment, Ready}
 use Rattle.engine_core.proofs.log.write_pending.Goals as goal
 
@@ -9,6 +11,7 @@ pub loop-i-init : goal.loop-i-init
 loop-i-init g c = record {
   ready = c.requires.ready;
   moments = begins (Moment c.args.log.now.blocks.items c.args.log.now.settled c.args.log.now.acked) _ (at_each (ready_moment c.args.log.now.blocks.items c.args.log.now.settled c.args.log.now.settled c.args.log.now.acked) c.requires.ready);
+  turns = turns_same c.args.turns.now _ c.requires.counted (omega arith);
   faults = omega arith;
   wants = omega arith;
 }
@@ -23,6 +26,9 @@ pub loop-i-preserved : goal.loop-i-preserved
 loop-i-preserved g c = record {
   ready = c.in_ok-write_block.ensures.step.next;
   moments = and_then (Moment c.args.log.now.blocks.items c.args.log.now.settled c.args.log.now.acked) _ _ _ c.loop-i.invariant.moments c.in_ok-write_block.ensures.step.moments;
+  turns =
+      let before : c.loop-i.i - c.args.log.now.settled + 1 ≡ c.loop-i.i + 1 - c.args.log.now.settled = omega (arith, c.loop-i.auto.i-end) in
+      c.in_ok-write_block.ensures.turns ∙ ap (λ n. turns_after n 1) c.loop-i.invariant.turns ∙ turns_more c.args.turns.now (c.loop-i.i - c.args.log.now.settled) 1 ∙ ap (turns_after c.args.turns.now) before;
   faults = omega (arith, c.loop-i.invariant.faults, c.in_ok-write_block.ensures.cause.later);
   wants = omega (arith, c.loop-i.invariant.wants, c.in_ok-write_block.ensures.want.later);
 }
