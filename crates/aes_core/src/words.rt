@@ -6,9 +6,9 @@ ghost use Rattle.std.specs.Int.{byte_at, to_le_bytes, w32};
 ghost use Rattle.aes_core.specs.Field.{sub_byte, inv_sub_byte};
 ghost use Rattle.aes_core.specs.Cipher.{bytes_of, circulant_times, decrypted_by, encrypted_by, mix_columns, round_key, shift_rows, state_of, sub_bytes, inv_mix_columns, inv_shift_rows, inv_sub_bytes, xored};
 
-use crate::plain::{sub_byte, inv_sub_byte};
+use crate::plain::{inv_sub_byte, sub_byte};
 use crate::tables::{
-    ROUND_0, ROUND_1, ROUND_2, ROUND_3, INV_ROUND_0, INV_ROUND_1, INV_ROUND_2, INV_ROUND_3,
+    INV_ROUND_0, INV_ROUND_1, INV_ROUND_2, INV_ROUND_3, ROUND_0, ROUND_1, ROUND_2, ROUND_3,
 };
 
 // A column of the next state, from the columns that its bytes come from.

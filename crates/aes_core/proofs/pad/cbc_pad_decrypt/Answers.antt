@@ -1,5 +1,5 @@
-use Rattle.std.proofs.Common.{◌≡◌, ℕ, List, ◌-◌, ◌%◌, ◌<◌, ◌≤◌, length, drop, take, refl, sym, ap, ◌∙◌, arith}
-use Rattle.aes_core.specs.Cipher.{AreBytes, IsBlock}
+use Rattle.std.proofs.Common.{◌≡◌, ℕ, List, ◌-◌, length, drop, sym, ap, ◌∙◌, arith}
+use Rattle.aes_core.specs.Cipher.{IsBlock}
 use Rattle.aes_core.specs.Modes.{EndsIn, cbc_pad, padded, uncbc_tail}
 use Rattle.aes_core.proofs.Padding.{accepted_is, ends_padded, long_padded, padded_more, padded_whole, room, taken_is}
 use Rattle.aes_core.proofs.pad.cbc_pad_decrypt.Goals as goal

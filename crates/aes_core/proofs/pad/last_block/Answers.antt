@@ -1,7 +1,6 @@
-use Rattle.std.proofs.Common.{◌≡◌, ℕ, List, ◌-◌, ◌%◌, ◌/◌, ◌*◌, ◌+◌, suc, length, drop, take, refl, sym, ap, ap₂, ◌∙◌, arith, length-drop}
-use Rattle.std.proofs.lemmas.List.{take_all}
-use Rattle.aes_core.specs.Cipher.{AreBytes, IsBlock, decrypted, xored}
-use Rattle.aes_core.specs.Modes.{block_at, block_before, uncbc_tail}
+use Rattle.std.proofs.Common.{◌≡◌, ℕ, List, ◌-◌, ◌/◌, ◌*◌, suc, length, drop, take, sym, ap, ap₂, ◌∙◌, arith}
+use Rattle.aes_core.specs.Cipher.{decrypted, xored}
+use Rattle.aes_core.specs.Modes.{block_at, block_before}
 use Rattle.aes_core.proofs.ModeLaws.{last_undone}
 use Rattle.aes_core.proofs.pad.last_block.Goals as goal
 

@@ -1,7 +1,6 @@
-use Rattle.std.proofs.Common.{◌≡◌, ℕ, List, ◌-◌, ◌<◌, ◌≤◌, length, drop, take, slice_index_or, replicate, refl, sym, ap, ◌∙◌, arith, length-drop}
+use Rattle.std.proofs.Common.{◌≡◌, ℕ, List, ◌-◌, length, drop, take, slice_index_or, replicate, sym, ap, ◌∙◌, arith, length-drop}
 use Rattle.std.proofs.lemmas.List.{take_all, take-replicate}
 use Rattle.std.specs.Cmp.Lexicographic.{other_text, same_text}
-use Rattle.aes_core.specs.Modes.{EndsIn}
 use Rattle.aes_core.proofs.Padding.{last_is}
 use Rattle.aes_core.proofs.pad.pad_of.Goals as goal
 use Rattle.aes_core.proofs.pad.pad_of.Goals.{then-k-eq0-via-then-k-eq0, then-k-eq0-via-else-k-eq0+then-k-gt16}

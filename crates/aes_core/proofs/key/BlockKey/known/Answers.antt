@@ -1,4 +1,4 @@
-use Rattle.std.proofs.Common.{◌≡◌, ◌*◌, length, ap, ◌∙◌, arith}
+use Rattle.std.proofs.Common.{◌≡◌, length, arith}
 use Rattle.aes_core.specs.Cipher.{bytes_of}
 use Rattle.aes_core.proofs.Schedule.{opened_key}
 use Rattle.aes_core.proofs.WordKeys.{length-bytes_of}
