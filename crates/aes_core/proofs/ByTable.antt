@@ -24,12 +24,12 @@ sub_table = refl
 pub sub_at : (a : ℕ) → a < 256 → get_or SUB a 0 ≡ sub_byte a
 sub_at a h = at_table SUB sub_byte 0 sub_table a h
 
-unsub_table : INV_SUB ≡ map inv_sub_byte (range_with_len 0 256)
+inv_sub_table : INV_SUB ≡ map inv_sub_byte (range_with_len 0 256)
 unfolding inv_sub_byte inverse_from product_of
-unsub_table = refl
+inv_sub_table = refl
 
 pub inv_sub_at : (a : ℕ) → a < 256 → get_or INV_SUB a 0 ≡ inv_sub_byte a
-inv_sub_at a h = at_table INV_SUB inv_sub_byte 0 unsub_table a h
+inv_sub_at a h = at_table INV_SUB inv_sub_byte 0 inv_sub_table a h
 
 in_range : map (λ a. nat_lt (get_or SUB a 0) 256) (range_with_len 0 256) ≡ map (λ a. true) (range_with_len 0 256)
 in_range = refl
@@ -40,13 +40,13 @@ sub_byte-lt a h =
     let below = ltb-true (get_or SUB a 0) 256 (everywhere (λ a. nat_lt (get_or SUB a 0) 256) (λ a. true) in_range a h) in
     rw e at below
 
-un_in_range : map (λ a. nat_lt (get_or INV_SUB a 0) 256) (range_with_len 0 256) ≡ map (λ a. true) (range_with_len 0 256)
-un_in_range = refl
+inv_in_range : map (λ a. nat_lt (get_or INV_SUB a 0) 256) (range_with_len 0 256) ≡ map (λ a. true) (range_with_len 0 256)
+inv_in_range = refl
 
 pub inv_sub_byte-lt : (a : ℕ) → a < 256 → inv_sub_byte a < 256
 inv_sub_byte-lt a h =
     let e = inv_sub_at a h in
-    let below = ltb-true (get_or INV_SUB a 0) 256 (everywhere (λ a. nat_lt (get_or INV_SUB a 0) 256) (λ a. true) un_in_range a h) in
+    let below = ltb-true (get_or INV_SUB a 0) 256 (everywhere (λ a. nat_lt (get_or INV_SUB a 0) 256) (λ a. true) inv_in_range a h) in
     rw e at below
 
 there : map (λ a. get_or INV_SUB (get_or SUB a 0) 0) (range_with_len 0 256) ≡ map (λ a. a) (range_with_len 0 256)

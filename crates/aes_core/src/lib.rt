@@ -27,3 +27,6 @@ pub use algorithm::Algorithm;
 pub use key::BlockKey;
 pub use modes::{cbc_tail_decrypt, cbc_tail_encrypt, ctr_apply};
 pub use pad::{PadFault, cbc_pad_decrypt, cbc_pad_encrypt};
+
+#[cfg(test)]
+mod tests;
