@@ -7,6 +7,7 @@ ghost use Rattle.aes_core.specs.Modes.{block_at, cbc_tail, ctr, uncbc_tail};
 
 use crate::key::BlockKey;
 use crate::xor::{xor_sixteen, xor_with};
+use std::simd::prelude::*;
 
 /// Enciphers bytes of any number in place, in CBC with tail (this project's own): the whole blocks
 /// in CBC (SP 800-38A, 6.2), a last partial block by XOR with the first bytes of what the IV
@@ -98,12 +99,20 @@ pub fn cbc_tail_decrypt(key: &BlockKey, iv: &[u8; 16], bytes: &mut [u8])
     xor_with(&mut bytes[16 * count..], &mask[0..left]);
 }
 
+// The bytes of a number, highest first. By lanes it is one shuffle.
+#[inline(always)]
+fn big_endian(n: u128) -> [u8; 16]
+    ensures { result ≡ to_be_bytes w128 n }
+{
+    u8x16::from_array(n.to_le_bytes()).reverse().to_array()
+}
+
 // Block i of the key stream: the counter plus i, modulo 2^128, enciphered.
 #[inline(always)]
 fn stream_block(key: &BlockKey, start: u128, i: usize) -> [u8; 16]
     ensures { result ≡ encrypted key.now (to_be_bytes w128 ((start + i) % 2 ^ 128)) }
 {
-    let mut block = start.wrapping_add(i as u128).to_be_bytes();
+    let mut block = big_endian(start.wrapping_add(i as u128));
     key.encrypt_block(&mut block);
     block
 }
