@@ -6,8 +6,8 @@ ghost use Rattle.aes_core.specs.Cipher.{AreBytes, decrypted, encrypted, xored};
 ghost use Rattle.aes_core.specs.Modes.{block_at, cbc_tail, ctr, uncbc_tail};
 
 use crate::key::BlockKey;
+use crate::words::store;
 use crate::xor::{xor_sixteen, xor_with};
-use std::simd::prelude::*;
 
 /// Enciphers bytes of any number in place, in CBC with tail (this project's own): the whole blocks
 /// in CBC (SP 800-38A, 6.2), a last partial block by XOR with the first bytes of what the IV
@@ -99,22 +99,24 @@ pub fn cbc_tail_decrypt(key: &BlockKey, iv: &[u8; 16], bytes: &mut [u8])
     xor_with(&mut bytes[16 * count..], &mask[0..left]);
 }
 
-// The bytes of a number, highest first. By lanes it is one shuffle.
+// The bytes of a number, highest first: four words, each with its bytes turned round.
 #[inline(always)]
 fn big_endian(n: u128) -> [u8; 16]
     ensures { result ≡ to_be_bytes w128 n }
 {
-    u8x16::from_array(n.to_le_bytes()).reverse().to_array()
+    let a = ((n >> 96) as u32).swap_bytes();
+    let b = (((n >> 64) & 0xffff_ffff) as u32).swap_bytes();
+    let c = (((n >> 32) & 0xffff_ffff) as u32).swap_bytes();
+    let d = ((n & 0xffff_ffff) as u32).swap_bytes();
+    store([a, b, c, d])
 }
 
-// Block i of the key stream: the counter plus i, modulo 2^128, enciphered.
+// Counter i: the first one plus i, modulo 2^128.
 #[inline(always)]
-fn stream_block(key: &BlockKey, start: u128, i: usize) -> [u8; 16]
-    ensures { result ≡ encrypted key.now (to_be_bytes w128 ((start + i) % 2 ^ 128)) }
+fn counter_block(start: u128, i: usize) -> [u8; 16]
+    ensures { result ≡ to_be_bytes w128 ((start + i) % 2 ^ 128) }
 {
-    let mut block = big_endian(start.wrapping_add(i as u128));
-    key.encrypt_block(&mut block);
-    block
+    big_endian(start.wrapping_add(i as u128))
 }
 
 /// Enciphers or deciphers bytes of any number in place, in CTR (SP 800-38A, 6.5): XOR with the key
@@ -135,19 +137,22 @@ pub fn ctr_apply(key: &BlockKey, counter: &[u8; 16], bytes: &mut [u8])
         let b_at = 4 * i + 1;
         let c_at = 4 * i + 2;
         let d_at = 4 * i + 3;
-        let a = stream_block(key, start, a_at);
-        let b = stream_block(key, start, b_at);
-        let c = stream_block(key, start, c_at);
-        let d = stream_block(key, start, d_at);
+        let mut a = counter_block(start, a_at);
+        let mut b = counter_block(start, b_at);
+        let mut c = counter_block(start, c_at);
+        let mut d = counter_block(start, d_at);
+        key.encrypt_four(&mut a, &mut b, &mut c, &mut d);
         xor_sixteen(&mut bytes[16 * a_at..16 * a_at + 16], &a);
         xor_sixteen(&mut bytes[16 * b_at..16 * b_at + 16], &b);
         xor_sixteen(&mut bytes[16 * c_at..16 * c_at + 16], &c);
         xor_sixteen(&mut bytes[16 * d_at..16 * d_at + 16], &d);
     }
     'rest: for k in 4 * fours..count {
-        let block = stream_block(key, start, k);
+        let mut block = counter_block(start, k);
+        key.encrypt_block(&mut block);
         xor_sixteen(&mut bytes[16 * k..16 * k + 16], &block);
     }
-    let last = stream_block(key, start, count);
+    let mut last = counter_block(start, count);
+    key.encrypt_block(&mut last);
     xor_with(&mut bytes[16 * count..], &last[0..left]);
 }

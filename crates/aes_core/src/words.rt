@@ -81,7 +81,7 @@ fn load(s: &[u8], k: &[u32]) -> [u32; 4]
 }
 
 #[inline(always)]
-fn store(w: [u32; 4]) -> [u8; 16]
+pub(crate) fn store(w: [u32; 4]) -> [u8; 16]
     ensures { result ≡ state_of w }
 {
     let a = w[0].to_le_bytes();
@@ -108,6 +108,53 @@ pub(crate) fn encrypt(keys: &[u32], rounds: usize, s: &mut [u8; 16])
     let end = last_round(w, &keys[4 * rounds..4 * rounds + 4]);
     let block = store(end);
     *s = block;
+}
+
+// Four blocks at once, so that the processor has four chains of reads to work on.
+#[inline(never)]
+pub(crate) fn encrypt_four(
+    keys: &[u32],
+    rounds: usize,
+    s: &mut [u8; 16],
+    t: &mut [u8; 16],
+    u: &mut [u8; 16],
+    v: &mut [u8; 16],
+)
+    requires some { 1 ≤ rounds }
+    requires room { 4 * (rounds + 1) ≤ length keys.now }
+    ensures first { s.new ≡ encrypted_by (bytes_of keys.now) rounds s.old }
+    ensures second { t.new ≡ encrypted_by (bytes_of keys.now) rounds t.old }
+    ensures third { u.new ≡ encrypted_by (bytes_of keys.now) rounds u.old }
+    ensures fourth { v.new ≡ encrypted_by (bytes_of keys.now) rounds v.old }
+{
+    let mut ws = load(&s[0..16], &keys[0..4]);
+    let mut wt = load(&t[0..16], &keys[0..4]);
+    let mut wu = load(&u[0..16], &keys[0..4]);
+    let mut wv = load(&v[0..16], &keys[0..4]);
+    for r in 1..rounds {
+        let k = &keys[4 * r..4 * r + 4];
+        let ns = round(ws, k);
+        let nt = round(wt, k);
+        let nu = round(wu, k);
+        let nv = round(wv, k);
+        ws = ns;
+        wt = nt;
+        wu = nu;
+        wv = nv;
+    }
+    let k = &keys[4 * rounds..4 * rounds + 4];
+    let es = last_round(ws, k);
+    let et = last_round(wt, k);
+    let eu = last_round(wu, k);
+    let ev = last_round(wv, k);
+    let bs = store(es);
+    let bt = store(et);
+    let bu = store(eu);
+    let bv = store(ev);
+    *s = bs;
+    *t = bt;
+    *u = bu;
+    *v = bv;
 }
 
 // A column on the way back.
