@@ -105,23 +105,6 @@ impl BlockKey {
         words::encrypt(&self.words[0..4 * (rounds + 1)], rounds, block);
     }
 
-    // Enciphers four blocks.
-    pub(crate) fn encrypt_four(
-        &self,
-        a: &mut [u8; 16],
-        b: &mut [u8; 16],
-        c: &mut [u8; 16],
-        d: &mut [u8; 16],
-    )
-        ensures first { a.new ≡ encrypted self.now a.old }
-        ensures second { b.new ≡ encrypted self.now b.old }
-        ensures third { c.new ≡ encrypted self.now c.old }
-        ensures fourth { d.new ≡ encrypted self.now d.old }
-    {
-        let rounds = self.key_len / 4 + 6;
-        words::encrypt_four(&self.words[0..4 * (rounds + 1)], rounds, a, b, c, d);
-    }
-
     /// Deciphers the block: what it leaves there enciphers to what was there, and what was
     /// enciphered comes back.
     pub fn decrypt_block(&self, block: &mut [u8; 16])
