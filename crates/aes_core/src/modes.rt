@@ -48,7 +48,7 @@ fn block_of(bytes: &[u8], i: usize) -> [u8; 16]
 
 // The plain block of a cipher block in CBC, `before` being the cipher block before it.
 #[inline(always)]
-fn opened(key: &BlockKey, cipher: [u8; 16], before: &[u8; 16]) -> [u8; 16]
+fn plain_block(key: &BlockKey, cipher: [u8; 16], before: &[u8; 16]) -> [u8; 16]
     ensures { result ≡ xored (decrypted key.now cipher) before.now }
 {
     let mut block = cipher;
@@ -78,10 +78,10 @@ pub fn cbc_tail_decrypt(key: &BlockKey, iv: &[u8; 16], bytes: &mut [u8])
         let b = block_of(bytes, b_at);
         let c = block_of(bytes, c_at);
         let d = block_of(bytes, d_at);
-        let ta = opened(key, a, &before);
-        let tb = opened(key, b, &a);
-        let tc = opened(key, c, &b);
-        let td = opened(key, d, &c);
+        let ta = plain_block(key, a, &before);
+        let tb = plain_block(key, b, &a);
+        let tc = plain_block(key, c, &b);
+        let td = plain_block(key, d, &c);
         bytes[16 * a_at..16 * a_at + 16].copy_from_slice(&ta);
         bytes[16 * b_at..16 * b_at + 16].copy_from_slice(&tb);
         bytes[16 * c_at..16 * c_at + 16].copy_from_slice(&tc);
@@ -90,7 +90,7 @@ pub fn cbc_tail_decrypt(key: &BlockKey, iv: &[u8; 16], bytes: &mut [u8])
     }
     'rest: for k in 4 * fours..count {
         let cipher = block_of(bytes, k);
-        let text = opened(key, cipher, &before);
+        let text = plain_block(key, cipher, &before);
         bytes[16 * k..16 * k + 16].copy_from_slice(&text);
         before = cipher;
     }
