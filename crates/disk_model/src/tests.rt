@@ -28,6 +28,9 @@ fn write<D: Disk>(disk: &mut D, file: FileName, at: u64, bytes: &[u8]) -> Result
     }
 }
 
+// A thread may be handed either disk.
+fn assert_send<T: Send>(_value: &T) {}
+
 // The first bytes of a file that has at least four.
 fn four<D: Disk>(disk: &mut D, file: FileName) -> Result<[u8; 4], DiskError> {
     let mut bytes = [0; 4];
@@ -116,6 +119,7 @@ fn each_unsynced_write_takes_its_choice(rt: HostRuntime) -> Result<(), Fail> {
 #[test]
 fn a_crashed_disk_has_nothing_pending(rt: HostRuntime) -> Result<(), Fail> {
     let mut disk = three_unsynced(rt.alloc())?;
+    assert_send(&disk);
     disk.stop_at(1);
     let mut after = disk.crash(&[Choice::Kept])?;
     assert_eq!(rt; after.calls().len(), disk.calls().len());
@@ -223,6 +227,7 @@ fn a_refused_write_may_still_be_there(rt: HostRuntime) -> Result<(), Fail> {
 #[test]
 fn files_of_the_folder_are_a_disk(rt: HostRuntime) -> Result<(), Fail> {
     let mut disk = FileDisk::new(rt.alloc(), &rt);
+    assert_send(&disk);
     for name in ["store.log", "store.marks", "space-7.ibd"] {
         let _ = fs::remove_file(&rt, name);
     }
