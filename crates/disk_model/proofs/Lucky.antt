@@ -4,7 +4,7 @@ use Rattle.std.proofs.Math.ListN.{length-set}
 use Rattle.std.proofs.lemmas.Bool.Decides.{nat_tests}
 use Rattle.disk_model.specs.Event.{Event, same_file, put, range}
 use Rattle.disk_model.specs.Image.{uncovered, IsListed, IsLucky, IsImage}
-use Rattle.disk_model.specs.Crash.{Pending, unsynced, synced, with_choices, torn_bytes, chosen, torn_by, left_of, torn_of, crash_image}
+use Rattle.disk_model.specs.Crash.{Pending, unsynced_writes, synced_bytes, with_choices, torn_bytes, chosen, torn_by, left_of, torn_of, crash_image}
 use Rattle.disk_model.specs.Lucky.{IsSameOrApart, AreApart, AreRefusable}
 use Rattle.disk_model.specs.declared.names.FileName.{FileName}
 use Rattle.disk_model.specs.declared.calls.Choice.{Choice}
@@ -104,7 +104,7 @@ module _ (f : FileName) (test : List ℕ → Bool) (base : List ℕ) where
               moved (inr b) = inr b
 
 -- The image of a crash is lucky, where each unsynced write is one that its test refuses once it is torn.
-pub crash_is_lucky : (test : FileName → List ℕ → Bool) (choices : List Choice) (es : List Event) → ((f : FileName) → AreRefusable f (test f) (length (synced f es)) (unsynced es)) → IsLucky test (crash_image choices es)
+pub crash_is_lucky : (test : FileName → List ℕ → Bool) (choices : List Choice) (es : List Event) → ((f : FileName) → AreRefusable f (test f) (length (synced_bytes f es)) (unsynced_writes es)) → IsLucky test (crash_image choices es)
 crash_is_lucky test choices es refusable = λ f at n listed.
-    refused f (test f) (synced f es) (with_choices choices (unsynced es))
-    (subst (AreRefusable f (test f) (length (synced f es))) (sym (plain-choices choices (unsynced es))) (refusable f)) at n listed
+    refused f (test f) (synced_bytes f es) (with_choices choices (unsynced_writes es))
+    (subst (AreRefusable f (test f) (length (synced_bytes f es))) (sym (plain-choices choices (unsynced_writes es))) (refusable f)) at n listed

@@ -2,7 +2,7 @@
 use Rattle.std.specs.Prelude.{◌≡◌, ◌⊎◌, ◌≤◌, ℕ, ◌+◌, Bool, true, false, List, [], ◌∷◌, length}
 use Rattle.disk_model.specs.Event.{Event, same_file}
 use Rattle.disk_model.specs.Image.{IsLucky}
-use Rattle.disk_model.specs.Crash.{Pending, unsynced, synced, torn_bytes, crash_image}
+use Rattle.disk_model.specs.Crash.{Pending, unsynced_writes, synced_bytes, torn_bytes, crash_image}
 use Rattle.disk_model.specs.declared.names.FileName.{FileName}
 use Rattle.disk_model.specs.declared.calls.Choice.{Choice}
 
@@ -26,4 +26,4 @@ AreRefusable f test size (w ∷ ws) =
 -- Where each unsynced write is such a write, no torn range of the crash's image passes the test.
 abbrev pub IsLuckyCrash : List Choice → List Event → Type 0
 IsLuckyCrash choices es =
-    (test : FileName → List ℕ → Bool) → ((f : FileName) → AreRefusable f (test f) (length (synced f es)) (unsynced es)) → IsLucky test (crash_image choices es)
+    (test : FileName → List ℕ → Bool) → ((f : FileName) → AreRefusable f (test f) (length (synced_bytes f es)) (unsynced_writes es)) → IsLucky test (crash_image choices es)
