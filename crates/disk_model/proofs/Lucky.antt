@@ -1,9 +1,9 @@
 -- When a crash leaves only torn writes that their test refuses.
-use Rattle.std.proofs.Common.{◌≡◌, ℕ, ◌+◌, ◌-◌, ◌≤◌, ◌<◌, Bool, true, false, true≢false, nat_le, ◌&&◌, if◌then◌else◌, List, [], ◌∷◌, length, refl, sym, ◌∙◌, ap, subst, inl, inr, ◌⊎◌, arith}
+use Rattle.std.proofs.Common.{◌≡◌, ℕ, ◌+◌, ◌-◌, ◌≤◌, Bool, true, false, true≢false, nat_le, ◌&&◌, if◌then◌else◌, List, [], ◌∷◌, length, refl, sym, ◌∙◌, ap, subst, inl, inr, ◌⊎◌, arith}
 use Rattle.std.proofs.Math.ListN.{length-set}
 use Rattle.std.proofs.lemmas.Bool.Decides.{nat_tests}
 use Rattle.disk_model.specs.Event.{Event, same_file, put, range}
-use Rattle.disk_model.specs.Image.{uncovered, IsListed, IsLucky, IsImage}
+use Rattle.disk_model.specs.Image.{uncovered, IsListed, IsLucky}
 use Rattle.disk_model.specs.Crash.{Pending, unsynced_writes, synced_bytes, with_choices, torn_bytes, chosen, torn_by, left_of, torn_of, crash_image}
 use Rattle.disk_model.specs.Lucky.{IsSameOrApart, AreApart, AreRefusable}
 use Rattle.disk_model.specs.declared.names.FileName.{FileName}
