@@ -10,8 +10,11 @@ use Rattle.disk_model.proofs.Blocks.{length-put, range-put_same, range-put_befor
 use Rattle.disk_model.proofs.Moments.{weaker}
 use Rattle.engine_core.specs.Block.{IsBlock, IsHeader, IsCheckpoint}
 use Rattle.engine_core.specs.Log.{block_at, ring_place, IsFramed}
-use Rattle.engine_core.specs.Stands.{acked_of, passes}
+use Rattle.disk_model.specs.Marks.{acked as acked_of}
+use Rattle.disk_model.specs.Crash.{unsynced_writes}
+use Rattle.engine_core.specs.Stands.{passes, IsBlockWrite}
 use Rattle.engine_core.specs.Layer.{entry, entry_at, HasNone, Place, Written, NoBlock, IsTorn, Spaced, IsFilled, Holds, Ready, Moment, Runs, AllRun, AreNumbered}
+use Rattle.engine_core.proofs.Refusable.{block_write, others_are}
 use Rattle.engine_core.proofs.Places.{place_low, place_high, place_again, ranges_apart}
 use Rattle.engine_core.proofs.Sums.{IsBlock-length, IsBlock-sums_up, IsBlock-number}
 
@@ -68,6 +71,15 @@ module _ (blocks : List (List ℕ)) (settled written : ℕ) (es : List Event) (h
 
   pub runs : Runs blocks image
   runs = find (written - settled) settled (omega (arith, h.order)) (omega arith) spaced.front
+
+  -- where nothing is written behind the settled blocks, exactly these stand
+  pub filled : written ≤ settled → IsFilled blocks settled file
+  filled le = record { size = spaced.size; framed = spaced.framed; whole = spaced.front; fresh = λ i after lt. fresh i (spaced.rest i after lt) (omega (arith, le, after)) }
+    where
+      fresh : (i : ℕ) → Place blocks written i file (image.torn Log) → written ≤ i → HasNone i file
+      fresh i (Written below same) behind = absurd (omega (arith, below, behind))
+      fresh i (NoBlock none) behind = none
+      fresh i (IsTorn listed) behind = no_torn_block i listed
 
 pub all_run : (blocks : List (List ℕ)) (settled written : ℕ) (es : List Event) → Holds blocks settled written es → AllRun blocks es
 all_run blocks settled written es h image is lucky = runs blocks settled written es h image is lucky
@@ -166,11 +178,15 @@ module _ (blocks : List (List ℕ)) (settled written : ℕ) (es : List Event) (h
       (subst (λ (t : List (ℕ × ℕ)). Spaced blocks settled (written + 1) (put (ring_place (written + 2) * 4096) any old) t) (sym range)
       (spaced_torn blocks settled written old rest (h.images old rest before) h.order (omega (arith, h.room)) any (size ∙ size_of)))
 
+  pub here_is : IsBlockWrite (record { file = Log; at = ring_place (written + 2) * 4096; bytes = entry blocks written })
+  here_is = let b = h.numbered written more in block_write (written + 2) b.0 (entry blocks written) b.1
+
   -- whatever the range reads as then
   pub holds_write : (shows : List ℕ) → Holds blocks settled (written + 1) (Write Log (ring_place (written + 2) * 4096) (entry blocks written) shows ∷ es)
   holds_write shows = record {
     images = after_write;
     synced = h.synced;
+    pending = (here_is, h.pending);
     acked = h.acked;
     order = omega (arith, h.order);
     within = omega arith;
@@ -212,6 +228,7 @@ ready_sync blocks settled written acked es r = record {
       rest = λ i after lt. NoBlock (r.shows.fresh i after lt);
     });
     synced = r.shows;
+    pending = others_are Log (unsynced_writes es) r.holds.pending;
     acked = omega (arith, r.holds.acked, r.holds.order);
     order = omega arith;
     within = r.holds.within;
@@ -229,6 +246,7 @@ ready_tell blocks settled written acked n le es r = record {
   holds = record {
     images = r.holds.images;
     synced = r.holds.synced;
+    pending = r.holds.pending;
     acked = omega (arith, r.holds.acked);
     order = r.holds.order;
     within = r.holds.within;
@@ -245,6 +263,7 @@ ready_start blocks settled written es r = record {
   holds = record {
     images = r.holds.images;
     synced = r.holds.synced;
+    pending = r.holds.pending;
     acked = omega arith;
     order = r.holds.order;
     within = r.holds.within;
@@ -259,11 +278,11 @@ pub ready_runs : (blocks : List (List ℕ)) (settled written acked : ℕ) (es : 
 ready_runs blocks settled written acked es r = all_run blocks settled written es r.holds
 
 pub ready_moment : (blocks : List (List ℕ)) (settled written acked : ℕ) (es : List Event) → Ready blocks settled written acked es → Moment blocks settled acked es
-ready_moment blocks settled written acked es r = record { runs = ready_runs blocks settled written acked es r; synced = r.holds.synced; least = r.least; most = r.holds.acked }
+ready_moment blocks settled written acked es r = record { runs = ready_runs blocks settled written acked es r; synced = r.holds.synced; pending = r.holds.pending; least = r.least; most = r.holds.acked }
 
 -- at least the old length is acknowledged after a new mark
 pub less_told : (blocks : List (List ℕ)) (settled acked n : ℕ) → acked ≤ n → (es : List Event) → Moment blocks settled n es → Moment blocks settled acked es
-less_told blocks settled acked n le es m = record { runs = m.runs; synced = m.synced; least = omega (arith, m.least); most = m.most }
+less_told blocks settled acked n le es m = record { runs = m.runs; synced = m.synced; pending = m.pending; least = omega (arith, m.least); most = m.most }
 
 pub entry_fits : (blocks : List (List ℕ)) (settled number acked : ℕ) → number < length blocks → (bytes : List ℕ) → bytes ≡ entry blocks number → (es : List Event) → Ready blocks settled number acked es
     → InFile Log (ring_place (number + 2) * 4096) (length bytes) es
@@ -287,6 +306,7 @@ module _ (blocks : List (List ℕ)) (settled number acked : ℕ) (more : number 
       (record {
         runs = all_run blocks settled (number + 1) (Write Log here (entry blocks number) shows ∷ es) (holds_write blocks settled number es r.holds more shows);
         synced = r.holds.synced;
+        pending = (here_is blocks settled number es r.holds more, r.holds.pending);
         least = r.least;
         most = r.holds.acked;
       }))

@@ -13,6 +13,8 @@ use Rattle.store_model.specs.declared.contents.SpaceInfo.{SpaceInfo}
 use Rattle.engine_core.specs.Block.{checkpoint_head, header_head, space_word, space_words, IsBlock, IsCheckpoint, IsHeader}
 use Rattle.engine_core.specs.Log.{block_at, ring_place, IsFramed}
 use Rattle.engine_core.specs.Layer.{entry_at, HasNone, NoBlock, Spaced, IsFilled, IsEmpty, Ready}
+use Rattle.disk_model.specs.Crash.{other_writes}
+use Rattle.engine_core.specs.Stands.{AreBlockWrites}
 use Rattle.engine_core.specs.Made.{IsNow, IsHeaded}
 use Rattle.engine_core.proofs.Places.{place_low, place_high}
 use Rattle.engine_core.proofs.Sums.{length-sealed, take-sealed, IsBlock-first}
@@ -66,7 +68,7 @@ no_checkpoint block sequence from none is =
     omega (arith, first)
 
 pub now_make : (es : List Event) → IsEmpty es → IsNow (zeros 1060864) (Make Log 1060864 ∷ es)
-now_make es e = record { there = refl; shows = refl; left = λ f torn l. l.0; synced = refl; untold = e.untold }
+now_make es e = record { there = refl; shows = refl; left = λ f torn l. l.0; synced = refl; pending = e.others; untold = e.untold }
 
 -- a write and a sync
 pub now_synced : (file : List ℕ) (at : ℕ) (block : List ℕ) (es : List Event) → IsNow file es → IsNow (put at block file) (Sync Log ∷ Write Log at block block ∷ es)
@@ -75,6 +77,7 @@ now_synced file at block es n = record {
   shows = ap (λ (l : List ℕ). put at block l) n.shows;
   left = λ f torn l. l.0 ∙ ap (λ (l : List ℕ). put at block l) n.shows;
   synced = ap (λ (l : List ℕ). put at block l) n.shows;
+  pending = ap (other_writes Log) n.pending;
   untold = n.untold;
 }
 
@@ -138,6 +141,7 @@ module _ (size : ℕ) (is_size : size ≡ 1060864) (checkpoint header : List ℕ
       images = λ file torn left. subst (λ (f : List ℕ). Spaced [] 0 0 f torn) (sym (n.left file torn left))
           (record { size = long_two; framed = framed; front = λ i below. absurd (omega arith); rest = λ i after lt. NoBlock (none i) });
       synced = subst (IsFilled [] 0) (sym n.synced) filled;
+      pending = subst AreBlockWrites (sym n.pending) tt;
       acked = omega (arith, n.untold);
       order = omega arith;
       within = omega arith;

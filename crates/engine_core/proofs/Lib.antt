@@ -1,5 +1,6 @@
 pub mod Sums
 pub mod Places
+pub mod Refusable
 pub mod Events
 pub mod Texts
 pub mod Journals

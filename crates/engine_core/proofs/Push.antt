@@ -47,6 +47,7 @@ module _ (blocks : List (List ℕ)) (block : List ℕ) where
       holds = record {
         images = λ file torn left. same_spaced settled written file torn r.holds.order r.holds.within (r.holds.images file torn left);
         synced = filled_push settled _ (omega (arith, r.holds.order, r.holds.within)) r.holds.synced;
+        pending = r.holds.pending;
         acked = r.holds.acked;
         order = r.holds.order;
         within = omega (arith, r.holds.within, one_more);

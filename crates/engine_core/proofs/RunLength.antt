@@ -8,7 +8,7 @@ use Rattle.engine_core.specs.declared.journal.Entry.{Entry}
 use Rattle.engine_core.specs.Text.{text_of}
 use Rattle.engine_core.specs.Log.{IsRunFrom, Recovers}
 use Rattle.engine_core.specs.Stands.{mtrs, Stands, Keeps}
-use Rattle.engine_core.specs.Layer.{durable}
+use Rattle.disk_model.specs.Crash.{synced_bytes}
 use Rattle.engine_core.specs.Kept.{IsExact}
 use Rattle.engine_core.proofs.BlocksRead.{run_once}
 
@@ -28,5 +28,5 @@ kept-scan journal image texts s is =
     subst (Keeps journal image) (sym (run-length (image.bytes Log) journal s.count texts s.within s.recovers is)) (record { within = s.within; recovers = s.recovers; acked = s.acked })
 
 -- Where each later write is lost, the settled entries are kept.
-pub settled-scan : (journal : List Entry) (settled acked : ℕ) (es : List Event) (texts : List (List ℕ)) → settled ≤ length journal → IsExact journal settled acked es → IsRunFrom 2 (durable Log es) texts → length texts ≡ settled
-settled-scan journal settled acked es texts le x is = run-length (durable Log es) journal settled texts le x.recovers is
+pub settled-scan : (journal : List Entry) (settled acked : ℕ) (es : List Event) (texts : List (List ℕ)) → settled ≤ length journal → IsExact journal settled acked es → IsRunFrom 2 (synced_bytes Log es) texts → length texts ≡ settled
+settled-scan journal settled acked es texts le x is = run-length (synced_bytes Log es) journal settled texts le x.recovers is

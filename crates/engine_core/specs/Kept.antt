@@ -1,9 +1,11 @@
 -- What contracts see of an engine, and what its type keeps.
-use Rattle.std.specs.Prelude.{◌≡◌, ℕ, ◌+◌, ◌*◌, ◌≤◌, List, [], ◌∷◌, length, take, refl, Result, Ok, Err}
+use Rattle.std.specs.Prelude.{◌≡◌, ◌≢◌, ◌⊎◌, ℕ, ◌+◌, ◌*◌, ◌≤◌, List, [], ◌∷◌, length, take, refl, Result, Ok, Err}
 use Rattle.std.specs.Coded.{Coded, code_by, coded×, coded_ℕ, coded_list}
 use Rattle.disk_model.specs.Event.{Event, marks}
 use Rattle.disk_model.specs.declared.names.FileName.TheVariants.{Log}
 use Rattle.disk_model.specs.Past.{Past, At, Throughout}
+use Rattle.disk_model.specs.Crash.{synced_bytes}
+use Rattle.disk_model.specs.Marks.{acked as acked_of}
 use Rattle.engine_core.specs.declared.journal.Entry.{Entry}
 use Rattle.engine_core.specs.declared.fault.State.{State}
 use Rattle.engine_core.specs.declared.fault.State.TheVariants.{Up, Down, Starved}
@@ -12,8 +14,8 @@ use Rattle.engine_core.specs.declared.fault.EngineFault.TheVariants as fault
 use Rattle.engine_core.specs.Text.{text_of, IsSmall}
 use Rattle.engine_core.specs.Block.{IsBlock}
 use Rattle.engine_core.specs.Log.{Recovers}
-use Rattle.engine_core.specs.Layer.{Ready, durable}
-use Rattle.engine_core.specs.Stands.{AllStand, mtrs, acked_of}
+use Rattle.engine_core.specs.Layer.{Ready}
+use Rattle.engine_core.specs.Stands.{AllStand, AllRefusable, mtrs}
 
 -- The disk, the disk as `start` left it, the journal, how many of its entries the disk holds for sure, how many were acknowledged, how many turns were made, and whether the engine takes calls.
 pub record Running (D : Type 0) : Type 0 where
@@ -48,15 +50,22 @@ StandsSince past r = Throughout (AllStand r.journal) (past r.first) (past r.disk
 
 -- The log's file at its last sync recovers to the settled entries, and between acked and settled many were acknowledged.
 pub record IsExact (journal : List Entry) (settled acked : ℕ) (es : List Event) : Type 0 where
-  pub recovers : Recovers (durable Log es) (take settled (mtrs journal))
+  pub recovers : Recovers (synced_bytes Log es) (take settled (mtrs journal))
   pub least : acked ≤ acked_of (marks es)
   pub most : acked_of (marks es) ≤ settled
 
-pub record IsSound {D : Type 0} (past : D → Past) (blocks : List (List ℕ)) (r : Running D) : Type 0 where
+-- Where no memory was refused, as many were acknowledged as are settled, or the `tell` of a disk may fail.
+abbrev pub IsEvenOr : {D : Type 0} → (D → Type 0) → State → ℕ → ℕ → Type 0
+IsEvenOr {D} may_fail_to_tell state acked settled = state ≢ Starved → (acked ≡ settled) ⊎ ((d : D) × may_fail_to_tell d)
+
+-- The type of an engine keeps this, by what is known of its disk: the past, and that a `tell` may fail.
+pub record IsSound {D : Type 0} (past : D → Past) (may_fail_to_tell : D → Type 0) (blocks : List (List ℕ)) (r : Running D) : Type 0 where
   pub since : StandsSince past r
   pub exact : At (IsExact r.journal r.settled r.acked) (past r.disk)
   pub ready : r.state ≡ Up → At (Ready blocks r.settled r.settled r.acked) (past r.disk)
+  pub refusable : At AllRefusable (past r.disk)
   pub even : r.state ≡ Up → r.acked ≡ r.settled
+  pub tells : IsEvenOr may_fail_to_tell r.state r.acked r.settled
   pub entries : AreEntries 2 r.journal
   pub blocks_are : AreBlocks 2 r.journal blocks
   pub count : length blocks ≡ length r.journal

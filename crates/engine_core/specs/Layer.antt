@@ -1,12 +1,13 @@
 -- What is known of the disk while the log is written, by the blocks of the journal.
-use Rattle.std.specs.Prelude.{◌≡◌, ℕ, ◌+◌, ◌*◌, ◌<◌, ◌≤◌, true, false, if◌then◌else◌, List, [], ◌∷◌, length, slice_index_or}
-use Rattle.disk_model.specs.Event.{Event, Open, Make, Write, Sync, Tell, same_file, zeros, file_in, is_there, reads, marks}
+use Rattle.std.specs.Prelude.{◌≡◌, ℕ, ◌+◌, ◌*◌, ◌<◌, ◌≤◌, true, false, List, [], ◌∷◌, length, slice_index_or}
+use Rattle.disk_model.specs.Event.{Event, is_there, reads, marks}
 use Rattle.disk_model.specs.Image.{Leaves, Image, IsImage, IsLucky, IsListed}
-use Rattle.disk_model.specs.declared.names.FileName.{FileName}
+use Rattle.disk_model.specs.Crash.{unsynced_writes, other_writes, synced_bytes}
+use Rattle.disk_model.specs.Marks.{acked as acked_of}
 use Rattle.disk_model.specs.declared.names.FileName.TheVariants.{Log}
 use Rattle.engine_core.specs.Block.{IsBlock}
 use Rattle.engine_core.specs.Log.{block_at, ring_place, IsFramed}
-use Rattle.engine_core.specs.Stands.{acked_of, passes}
+use Rattle.engine_core.specs.Stands.{passes, AreBlockWrites}
 
 -- the block of the i-th entry, whose number is i + 2
 abbrev pub entry : List (List ℕ) → ℕ → List ℕ
@@ -39,15 +40,6 @@ pub record IsFilled (blocks : List (List ℕ)) (written : ℕ) (file : List ℕ)
   pub whole : (i : ℕ) → i < written → entry_at i file ≡ entry blocks i
   pub fresh : (i : ℕ) → written ≤ i → i < 256 → HasNone i file
 
--- the file at its last sync: what a crash leaves that loses each later write
-abbrev pub durable : FileName → List Event → List ℕ
-durable f (Open files ms ws ∷ es) = file_in f files
-durable f [] = []
-durable f (Make g n ∷ es) = if same_file f g then zeros n else durable f es
-durable f (Write g at bytes shows ∷ es) = durable f es
-durable f (Sync g ∷ es) = if same_file f g then reads f es else durable f es
-durable f (Tell m ∷ es) = durable f es
-
 -- the blocks of the journal, each with its number
 abbrev pub AreNumbered : List (List ℕ) → Type 0
 AreNumbered blocks = (i : ℕ) → i < length blocks → (text : List ℕ) × IsBlock (i + 2) text (entry blocks i)
@@ -55,7 +47,8 @@ AreNumbered blocks = (i : ℕ) → i < length blocks → (text : List ℕ) × Is
 -- what holds of each image, and of the file at its last sync
 pub record Holds (blocks : List (List ℕ)) (settled written : ℕ) (es : List Event) : Type 0 where
   pub images : (file : List ℕ) (torn : List (ℕ × ℕ)) → Leaves Log es file torn → Spaced blocks settled written file torn
-  pub synced : IsFilled blocks settled (durable Log es)
+  pub synced : IsFilled blocks settled (synced_bytes Log es)
+  pub pending : AreBlockWrites (unsynced_writes es)
   pub acked : acked_of (marks es) ≤ settled
   pub order : settled ≤ written
   pub within : written ≤ length blocks
@@ -82,14 +75,16 @@ pub record Runs (blocks : List (List ℕ)) (image : Image) : Type 0 where
 abbrev pub AllRun : List (List ℕ) → List Event → Type 0
 AllRun blocks es = (image : Image) → IsImage es image → IsLucky passes image → Runs blocks image
 
--- at each moment until the next sync: the run of each image, the file at its last sync, and how many were acknowledged
+-- at each moment until the next sync: the run of each image, the file at its last sync, the unsynced writes, and how many were acknowledged
 pub record Moment (blocks : List (List ℕ)) (settled acked : ℕ) (es : List Event) : Type 0 where
   pub runs : AllRun blocks es
-  pub synced : IsFilled blocks settled (durable Log es)
+  pub synced : IsFilled blocks settled (synced_bytes Log es)
+  pub pending : AreBlockWrites (unsynced_writes es)
   pub least : acked ≤ acked_of (marks es)
   pub most : acked_of (marks es) ≤ settled
 
--- a disk with no log that was acknowledged nothing
+-- a disk with no log that was acknowledged nothing, and with no unsynced write to another file
 pub record IsEmpty (es : List Event) : Type 0 where
   pub absent : is_there Log es ≡ false
+  pub others : other_writes Log (unsynced_writes es) ≡ []
   pub untold : acked_of (marks es) ≡ 0

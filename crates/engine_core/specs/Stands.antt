@@ -1,24 +1,19 @@
 -- An image of the disk stands for a beginning of the journal.
-use Rattle.std.specs.Prelude.{ℕ, ◌≤◌, Bool, false, max, List, [], ◌∷◌, length, map, take}
+use Rattle.std.specs.Prelude.{◌≡◌, ℕ, ◌*◌, ◌<◌, ◌≤◌, Bool, false, List, [], ◌∷◌, length, map, take}
 use Rattle.disk_model.specs.Event.{Event}
 use Rattle.disk_model.specs.Image.{Image, IsImage, IsLucky}
+use Rattle.disk_model.specs.Crash.{Pending, unsynced_writes, synced_bytes}
+use Rattle.disk_model.specs.Lucky.{AreRefusable}
+use Rattle.disk_model.specs.Marks.{acked as acked_of}
 use Rattle.disk_model.specs.declared.names.FileName.{FileName}
 use Rattle.disk_model.specs.declared.names.FileName.TheVariants.{Log}
-use Rattle.disk_model.specs.declared.names.Mark.{Mark}
-use Rattle.disk_model.specs.declared.names.Mark.TheVariants.{Started, Acked, Minimum}
+use Rattle.bytes_core.specs.LastByte.{EndsInCrc32c}
 use Rattle.store_model.specs.declared.change.Change.{Change}
 use Rattle.store_model.specs.declared.contents.SpaceContents.{SpaceContents}
 use Rattle.store_model.specs.Fold.{fold}
 use Rattle.engine_core.specs.declared.journal.Entry.{Entry}
 use Rattle.engine_core.specs.Block.{sums_up}
 use Rattle.engine_core.specs.Log.{Recovers}
-
--- the greatest length acknowledged since the last start, the newest mark first
-abbrev pub acked_of : List Mark → ℕ
-acked_of [] = 0
-acked_of (Started ∷ ms) = 0
-acked_of (Acked n ∷ ms) = max n (acked_of ms)
-acked_of (Minimum a b ∷ ms) = acked_of ms
 
 -- the mini-transactions of a journal
 abbrev pub mtrs : List Entry → List (List Change)
@@ -49,3 +44,24 @@ passes _ bytes = false
 -- each image of this moment in which no torn range passes its checksum stands for a beginning of the journal
 abbrev pub AllStand : List Entry → List Event → Type 0
 AllStand journal es = (image : Image) → IsImage es image → IsLucky passes image → Stands journal image
+
+-- each image of this moment in which no torn range passes its checksum recovers to exactly the first so many entries
+abbrev pub AllRecover : List Entry → ℕ → List Event → Type 0
+AllRecover journal count es = (image : Image) → IsImage es image → IsLucky passes image → Recovers (image.bytes Log) (take count (mtrs journal))
+
+-- a write of one of the log's 259 blocks: 4096 bytes at its place, which end in their checksum
+pub record IsBlockWrite (w : Pending) : Type 0 where
+  pub file : w.file ≡ Log
+  pub place : ℕ
+  pub within : place < 259
+  pub at : w.at ≡ place * 4096
+  pub size : length w.bytes ≡ 4096
+  pub sum : EndsInCrc32c w.bytes
+
+abbrev pub AreBlockWrites : List Pending → Type 0
+AreBlockWrites [] = Unit {0}
+AreBlockWrites (w ∷ ws) = IsBlockWrite w × AreBlockWrites ws
+
+-- Each unsynced write lies within its file and is refused once its last byte is inverted, and two of them have the same range or are apart.
+abbrev pub AllRefusable : List Event → Type 0
+AllRefusable es = (f : FileName) → AreRefusable f (passes f) (length (synced_bytes f es)) (unsynced_writes es)

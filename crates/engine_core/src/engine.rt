@@ -6,8 +6,8 @@ ghost use Rattle.disk_model.specs.Past.{Later, At, Throughout};
 ghost use Rattle.engine_core.specs.Turns.{turns_after, turns_of};
 ghost use Rattle.engine_core.specs.Text.{IsSmall};
 ghost use Rattle.engine_core.specs.Layer.{Ready};
-ghost use Rattle.engine_core.specs.Stands.{AllStand};
-ghost use Rattle.engine_core.specs.Kept.{up_or_refused};
+ghost use Rattle.engine_core.specs.Stands.{AllStand, AllRecover, AllRefusable};
+ghost use Rattle.engine_core.specs.Kept.{up_or_refused, IsEvenOr};
 
 use crate::log::{PlainLog, append, tell_acked, tell_started, write_out};
 use crate::{Author, EngineFault, Entry, Journal, Receipt, StartFault, State};
@@ -42,7 +42,7 @@ impl<D: Disk + Drop> Model for Engine<D> {
 
     ghost view = { λ s. record { disk = s.disk; first = s.first.value; journal = s.journal.items; settled = s.log.settled; acked = s.log.acked; turns = s.turns; state = s.state } };
 
-    ghost invariant = { λ s. IsSound D.past s.log.blocks.items (record { disk = s.disk; first = s.first.value; journal = s.journal.items; settled = s.log.settled; acked = s.log.acked; turns = s.turns; state = s.state }) };
+    ghost invariant = { λ s. IsSound D.past D.may_fail_to_tell s.log.blocks.items (record { disk = s.disk; first = s.first.value; journal = s.journal.items; settled = s.log.settled; acked = s.log.acked; turns = s.turns; state = s.state }) };
 }
 
 /// The disk that an engine wasn't started on, and why.
@@ -97,6 +97,9 @@ impl<D: Disk + Drop> Engine<D> {
         ensures refused { IfErr result (λ r. Throughout (AllStand []) (D.past disk) (D.past r.disk)) }
         ensures cause { IfErr result (λ r. r.why ≡ StartFault.DiskFault → Rose (D.faults disk) (D.faults r.disk)) }
         ensures want { IfErr result (λ r. r.why ≡ StartFault.OutOfMemory → Rose (D.wants disk) (D.wants r.disk)) }
+        ensures tells { IfErr result (λ r. r.why ≡ StartFault.DiskFault → (d : D) × D.may_fail_to_tell d) }
+        ensures later { IfOk result (λ e. D.goes_on disk e.disk) }
+        ensures refused_later { IfErr result (λ r. D.goes_on disk r.disk) }
     {
         let mut disk = disk;
         match tell_started(&mut disk) {
@@ -177,6 +180,8 @@ impl<D: Disk + Drop> Engine<D> {
         ensures settled { OnErr result ((self.new.settled ≡ self.old.settled) ⊎ (self.new.settled ≡ length self.new.journal)) }
         ensures stands { StandsSince D.past self.new }
         ensures exact { At (IsExact self.new.journal self.new.settled self.new.acked) (D.past self.new.disk) }
+        ensures tells { IsEvenOr D.may_fail_to_tell self.new.state self.new.acked self.new.settled }
+        ensures later { D.goes_on self.old.disk self.new.disk }
     {
         check_up(self.state)?;
         if let Err(e) = write_out(&mut self.disk, &mut self.turns, &self.log) {
@@ -204,6 +209,34 @@ impl<D: Disk + Drop> Engine<D> {
         &self.journal
     }
 
+    /// How many entries the disk holds for sure.
+    pub fn settled(&self) -> u64
+        ensures { result ≡ self.now.settled }
+    {
+        self.log.settled as u64
+    }
+
+    /// How many entries were acknowledged.
+    pub fn acked(&self) -> u64
+        ensures { result ≡ self.now.acked }
+    {
+        self.log.acked as u64
+    }
+
+    /// How many turns of the disk, which are writes and syncs, were made since `start`.
+    pub fn turns(&self) -> u64
+        ensures { result ≡ self.now.turns }
+    {
+        self.turns
+    }
+
+    /// Whether calls are taken.
+    pub fn state(&self) -> State
+        ensures { result ≡ self.now.state }
+    {
+        self.state
+    }
+
     /// The disk and the journal, as they are.
     pub fn halt(self) -> Halted<D>
         ensures disk { result.disk ≡ self.disk }
@@ -213,6 +246,15 @@ impl<D: Disk + Drop> Engine<D> {
         ensures stand { At (AllStand self.journal) (D.past self.disk) }
         ensures exact { At (IsExact self.journal self.settled self.acked) (D.past self.disk) }
         ensures even { self.state ≡ State.Up → self.acked ≡ self.settled }
+
+        // Where they differ, memory was refused, or a disk's `tell` may fail.
+        ensures tells { IsEvenOr D.may_fail_to_tell self.state self.acked self.settled }
+
+        // What a crash leaves that tears unsynced writes is lucky.
+        ensures refusable { At AllRefusable (D.past self.disk) }
+
+        // With nothing pending each image has exactly the settled entries.
+        ensures settled { self.state ≡ State.Up → At (AllRecover self.journal self.settled) (D.past self.disk) }
 
         // Each moment of the disk is one that it had by the start, or stands.
         ensures earlier { (m : List Event) → Later (Some m) (D.past self.disk) → Later (Some m) (D.past self.first) ⊎ AllStand self.journal m }

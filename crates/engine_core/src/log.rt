@@ -1,5 +1,5 @@
 // The log's file: the device calls, one to a function.
-ghost use Rattle.std.specs.Prelude.{◌^◌, ◌-◌, ◌∷◌, ◌++◌, ℕ, List, OnOk, ◌≡◌, ◌+◌, ◌<◌, ◌≤◌, [], length, OnErr};
+ghost use Rattle.std.specs.Prelude.{◌^◌, ◌-◌, ◌∷◌, ◌++◌, ℕ, List, OnOk, ◌≡◌, ◌+◌, ◌<◌, ◌≤◌, [], length, OnErr, IsErrOf};
 ghost use Rattle.disk_model.specs.Past.{At, Step, HasCause, HasWant};
 ghost use Rattle.engine_core.specs.Turns.{turns_after, turns_of, IsTurnOf};
 ghost use Rattle.engine_core.specs.Layer.{Ready, Moment, AllRun};
@@ -54,6 +54,7 @@ pub fn write_block<D: Disk>(
     ensures step { Step (Moment log.now.blocks.items log.now.settled log.now.acked) (Ready log.now.blocks.items log.now.settled (i + 1) log.now.acked) (D.past disk.old) (D.past disk.new) result }
     ensures cause { HasCause (D.faults disk.old) (D.faults disk.new) result }
     ensures want { HasWant (D.wants disk.old) (D.wants disk.new) result }
+    ensures later { D.goes_on disk.old disk.new }
     ensures turns { turns.new ≡ turns_after turns.old 1 }
 {
     *turns = turns.saturating_add(1);
@@ -78,6 +79,7 @@ pub fn write_pending<D: Disk>(
     ensures step { Step (Moment log.now.blocks.items log.now.settled log.now.acked) (Ready log.now.blocks.items log.now.settled (length log.now.blocks.items) log.now.acked) (D.past disk.old) (D.past disk.new) result }
     ensures cause { HasCause (D.faults disk.old) (D.faults disk.new) result }
     ensures want { HasWant (D.wants disk.old) (D.wants disk.new) result }
+    ensures later { D.goes_on disk.old disk.new }
     ensures turns { OnOk result (turns.new ≡ turns_after turns.old (length log.now.blocks.items - log.now.settled)) }
     ensures failed { OnErr result (IsTurnOf (length log.now.blocks.items - log.now.settled) turns.old turns.new) }
 {
@@ -92,6 +94,7 @@ fn sync_log<D: Disk>(disk: &mut D, turns: &mut u64, log: &PlainLog) -> Result<()
     ensures step { Step (AllRun log.now.blocks.items) (Ready log.now.blocks.items (length log.now.blocks.items) (length log.now.blocks.items) log.now.acked) (D.past disk.old) (D.past disk.new) result }
     ensures cause { HasCause (D.faults disk.old) (D.faults disk.new) result }
     ensures want { HasWant (D.wants disk.old) (D.wants disk.new) result }
+    ensures later { D.goes_on disk.old disk.new }
     ensures same { OnErr result (D.past disk.new ≡ D.past disk.old) }
     ensures turns { turns.new ≡ turns_after turns.old 1 }
 {
@@ -109,6 +112,7 @@ pub fn write_out<D: Disk>(disk: &mut D, turns: &mut u64, log: &PlainLog) -> Resu
     ensures step { Step (AllRun log.now.blocks.items) (Ready log.now.blocks.items (length log.now.blocks.items) (length log.now.blocks.items) log.now.acked) (D.past disk.old) (D.past disk.new) result }
     ensures cause { HasCause (D.faults disk.old) (D.faults disk.new) result }
     ensures want { HasWant (D.wants disk.old) (D.wants disk.new) result }
+    ensures later { D.goes_on disk.old disk.new }
     ensures kept { OnErr result (At (Moment log.now.blocks.items log.now.settled log.now.acked) (D.past disk.new)) }
     ensures turns { OnOk result (turns.new ≡ turns_after turns.old (turns_of (length log.now.blocks.items - log.now.settled))) }
     ensures failed { OnErr result (IsTurnOf (turns_of (length log.now.blocks.items - log.now.settled)) turns.old turns.new) }
@@ -127,6 +131,8 @@ pub fn tell_acked<D: Disk>(disk: &mut D, log: &PlainLog) -> Result<(), DiskError
     ensures step { Step (Moment log.now.blocks.items log.now.settled log.now.acked) (Ready log.now.blocks.items log.now.settled log.now.settled log.now.settled) (D.past disk.old) (D.past disk.new) result }
     ensures cause { HasCause (D.faults disk.old) (D.faults disk.new) result }
     ensures want { HasWant (D.wants disk.old) (D.wants disk.new) result }
+    ensures later { D.goes_on disk.old disk.new }
+    ensures tells { IsErrOf result DiskError.Failed → D.may_fail_to_tell disk.old }
 {
     disk.tell(Mark::Acked(log.settled as u64))
 }
@@ -137,6 +143,8 @@ pub fn tell_started<D: Disk>(disk: &mut D) -> Result<(), DiskError>
     ensures step { Step (AllRun []) (Ready [] 0 0 0) (D.past disk.old) (D.past disk.new) result }
     ensures cause { HasCause (D.faults disk.old) (D.faults disk.new) result }
     ensures want { HasWant (D.wants disk.old) (D.wants disk.new) result }
+    ensures later { D.goes_on disk.old disk.new }
+    ensures tells { IsErrOf result DiskError.Failed → D.may_fail_to_tell disk.old }
 {
     disk.tell(Mark::Started)
 }

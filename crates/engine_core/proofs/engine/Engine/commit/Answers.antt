@@ -15,7 +15,7 @@ invariant_of-self-in-Ok-push g c =
     let appended = c.in-Ok.ensures.ok in
     let number : IsBlock (length journal + 2) (text_of c.args.mtr) appended.0 = subst (λ k. IsBlock (k + 2) (text_of c.args.mtr) appended.0) c.self.invariant.count appended.2 in
     rw (c.in-Ok-push.ensures.items, appended.1, c.in-Ok.ensures.settled, c.in-Ok.ensures.acked)
-    (sound_push g.D.Disk.past _ _ _ appended.0 c.self.invariant number c.requires.small (omega (arith, long)) room)
+    (sound_push g.D.Disk.past g.D.Disk.may_fail_to_tell _ _ _ appended.0 c.self.invariant number c.requires.small (omega (arith, long)) room)
 
 pub returns-clause-stands : goal.returns-clause-stands
 returns-clause-stands g c = (invariant_of-self-in-Ok-push g c).since

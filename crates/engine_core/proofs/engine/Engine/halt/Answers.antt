@@ -1,10 +1,17 @@
-use Rattle.std.proofs.Common.{subst}
+use Rattle.std.proofs.Common.{◌≡◌, subst}
 use Rattle.disk_model.proofs.Moments.{or_before}
-use Rattle.engine_core.specs.Stands.{AllStand}
-use Rattle.engine_core.specs.Kept.{StandsSince}
+use Rattle.engine_core.specs.Stands.{AllStand, AllRecover}
+use Rattle.disk_model.specs.Past.{At}
+use Rattle.engine_core.specs.declared.fault.State.TheVariants.{Up}
+use Rattle.engine_core.specs.Kept.{Running, StandsSince}
+use Rattle.engine_core.proofs.Keeping.{sound_recover}
 use Rattle.engine_core.proofs.engine.Engine.halt.Goals as goal
 
 pub returns-clause-earlier : goal.returns-clause-earlier
 returns-clause-earlier g c =
     let since : StandsSince g.D.Disk.past c.args.self = subst (StandsSince g.D.Disk.past) c.self.view_is c.self.invariant.since in
     λ m to. or_before (AllStand c.args.self.journal) (g.D.Disk.past c.args.self.first) (g.D.Disk.past c.args.self.disk) m since to
+
+pub returns-clause-settled : goal.returns-clause-settled
+returns-clause-settled g c =
+    subst (λ (r : Running _). r.state ≡ Up → At (AllRecover r.journal r.settled) (g.D.Disk.past r.disk)) c.self.view_is (sound_recover g.D.Disk.past g.D.Disk.may_fail_to_tell _ _ c.self.invariant)

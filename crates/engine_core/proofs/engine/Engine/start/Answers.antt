@@ -6,11 +6,11 @@ use Rattle.engine_core.proofs.engine.Engine.start.Goals as goal
 
 pub invariant_of-result : goal.invariant_of-result
 invariant_of-result g c =
-    rw (c.new.ensures.items, c.new-in-Ok.ensures.items) (sound_start g.D.Disk.past c.tell_started.new.disk c.of-first.result.value c.of-first.ensures c.in-Ok.ensures.step.next)
+    rw (c.new.ensures.items, c.new-in-Ok.ensures.items) (sound_start g.D.Disk.past g.D.Disk.may_fail_to_tell c.tell_started.new.disk c.of-first.result.value c.of-first.ensures c.in-Ok.ensures.step.next)
 
 pub returns-in-Ok-clause-stands : goal.returns-in-Ok-clause-stands
 returns-in-Ok-clause-stands g c =
-    rw (c.new-in-Ok.ensures.items) (sound_start g.D.Disk.past c.tell_started.new.disk c.of-first.result.value c.of-first.ensures c.in-Ok.ensures.step.next).since
+    rw (c.new-in-Ok.ensures.items) (sound_start g.D.Disk.past g.D.Disk.may_fail_to_tell c.tell_started.new.disk c.of-first.result.value c.of-first.ensures c.in-Ok.ensures.step.next).since
 
 pub returns-in-Ok-clause-begun : goal.returns-in-Ok-clause-begun
 returns-in-Ok-clause-begun g c = weaker (all_stand [] [] tt tt) c.in-Ok.ensures.step.moments
