@@ -13,8 +13,8 @@ use Rattle.engine_core.specs.Log.{block_at, ring_place, IsFramed}
 use Rattle.disk_model.specs.Marks.{acked as acked_of}
 use Rattle.disk_model.specs.Crash.{unsynced_writes}
 use Rattle.engine_core.specs.Stands.{passes, IsBlockWrite}
-use Rattle.engine_core.specs.Layer.{entry, entry_at, HasNone, Place, Written, NoBlock, IsTorn, Spaced, IsFilled, Holds, Ready, Moment, Runs, AllRun, AreNumbered}
-use Rattle.engine_core.proofs.Refusable.{block_write, others_are}
+use Rattle.engine_core.specs.Layer.{entry, entry_at, HasNone, Place, Written, NoBlock, IsTorn, Spaced, IsFilled, Holds, Ready, Moment, Runs, AllRun, IsCrashSafe, AreNumbered}
+use Rattle.engine_core.proofs.Refusable.{block_write, others_are, all_refusable}
 use Rattle.engine_core.proofs.Places.{place_low, place_high, place_again, ranges_apart}
 use Rattle.engine_core.proofs.Sums.{IsBlock-length, IsBlock-sums_up, IsBlock-number}
 
@@ -274,11 +274,17 @@ ready_start blocks settled written es r = record {
   shows = r.shows;
 }
 
-pub ready_runs : (blocks : List (List ℕ)) (settled written acked : ℕ) (es : List Event) → Ready blocks settled written acked es → AllRun blocks es
+ready_runs : (blocks : List (List ℕ)) (settled written acked : ℕ) (es : List Event) → Ready blocks settled written acked es → AllRun blocks es
 ready_runs blocks settled written acked es r = all_run blocks settled written es r.holds
 
 pub ready_moment : (blocks : List (List ℕ)) (settled written acked : ℕ) (es : List Event) → Ready blocks settled written acked es → Moment blocks settled acked es
 ready_moment blocks settled written acked es r = record { runs = ready_runs blocks settled written acked es r; synced = r.holds.synced; pending = r.holds.pending; least = r.least; most = r.holds.acked }
+
+pub moment_safe : (blocks : List (List ℕ)) (settled acked : ℕ) (es : List Event) → Moment blocks settled acked es → IsCrashSafe blocks es
+moment_safe blocks settled acked es m = record { runs = m.runs; refusable = all_refusable blocks settled acked es m }
+
+pub ready_safe : (blocks : List (List ℕ)) (settled written acked : ℕ) (es : List Event) → Ready blocks settled written acked es → IsCrashSafe blocks es
+ready_safe blocks settled written acked es r = moment_safe blocks settled acked es (ready_moment blocks settled written acked es r)
 
 -- at least the old length is acknowledged after a new mark
 pub less_told : (blocks : List (List ℕ)) (settled acked n : ℕ) → acked ≤ n → (es : List Event) → Moment blocks settled n es → Moment blocks settled acked es
@@ -311,10 +317,10 @@ module _ (blocks : List (List ℕ)) (settled number acked : ℕ) (more : number 
         most = r.holds.acked;
       }))
 
--- the runs of each moment
-pub runs_alone : {T X : Type 0} {Q : List Event → Type 0} {old new : Past} {result : Result T X} (blocks : List (List ℕ)) (settled acked : ℕ)
-    → Step (Moment blocks settled acked) Q old new result → Step (AllRun blocks) Q old new result
-runs_alone blocks settled acked step = record { moments = weaker (λ m at. at.runs) step.moments; next = step.next }
+-- what is known of each moment, whatever is settled
+pub safe_alone : {T X : Type 0} {Q : List Event → Type 0} {old new : Past} {result : Result T X} (blocks : List (List ℕ)) (settled acked : ℕ)
+    → Step (Moment blocks settled acked) Q old new result → Step (IsCrashSafe blocks) Q old new result
+safe_alone blocks settled acked step = record { moments = weaker (moment_safe blocks settled acked) step.moments; next = step.next }
 
 pub on_err_always : {T X P : Type 0} (result : Result T X) → P → OnErr result P
 on_err_always (Ok v) p = tt

@@ -13,11 +13,10 @@ use Rattle.disk_model.specs.declared.names.DiskError.TheVariants.{Failed, NoMemo
 use Rattle.engine_core.specs.Text.{text_of, IsSmall}
 use Rattle.engine_core.specs.Block.{IsBlock}
 use Rattle.engine_core.specs.Log.{Recovers}
-use Rattle.engine_core.specs.Stands.{AllStand, AllRecover}
-use Rattle.engine_core.specs.Layer.{Ready, Moment, AllRun}
-use Rattle.engine_core.proofs.Refusable.{all_refusable}
+use Rattle.engine_core.specs.Stands.{AllStand, AllRecover, AllRefusable}
+use Rattle.engine_core.specs.Layer.{Ready, Moment, IsCrashSafe}
 use Rattle.engine_core.specs.Kept.{Running, IsSound, IsEvenOr, IsExact, AreEntries, AreBlocks, with_journal}
-use Rattle.engine_core.proofs.Events.{ready_runs, ready_moment, filled}
+use Rattle.engine_core.proofs.Events.{ready_safe, ready_moment, filled}
 use Rattle.engine_core.proofs.Journals.{all_stand, filled_recovers, blocks-push, entries-push, take-mtrs, stands-push}
 use Rattle.engine_core.proofs.Push.{ready_push}
 
@@ -45,10 +44,10 @@ module _ {D : Type 0} (past : D → Past) (may_fail_to_tell : D → Type 0) wher
   pub sound_start : (disk first : D) → first ≡ disk → At (Ready [] 0 0 0) (past disk) → IsSound past may_fail_to_tell [] (record { disk = disk; first = first; journal = []; settled = 0; acked = 0; turns = 0; state = Up })
   sound_start disk first same ready = record {
     since = subst (λ f. Throughout (AllStand []) (past f) (past disk)) (sym same)
-        (begins (AllStand []) (past disk) (at_each (λ es r. all_stand [] [] tt tt es (ready_runs [] 0 0 0 es r)) ready));
+        (begins (AllStand []) (past disk) (at_each (λ es r. all_stand [] [] tt tt es (ready_safe [] 0 0 0 es r).runs) ready));
     exact = at_each (λ es r. exact_of [] [] 0 0 tt tt (omega arith) (omega arith) es (ready_moment [] 0 0 0 es r)) ready;
     ready = λ up. ready;
-    refusable = at_each (λ es r. all_refusable [] 0 0 es (ready_moment [] 0 0 0 es r)) ready;
+    refusable = subst (λ f. Throughout AllRefusable (past f) (past disk)) (sym same) (begins AllRefusable (past disk) (at_each (λ es r. (ready_safe [] 0 0 0 es r).refusable) ready));
     even = λ up. refl;
     tells = λ fed. inl refl;
     entries = tt;
@@ -82,14 +81,14 @@ module _ {D : Type 0} (past : D → Past) (may_fail_to_tell : D → Type 0) wher
       }
 
   -- after a call of the disk
-  pub sound_after : (r : Running D) (blocks : List (List ℕ)) (disk : D) (settled acked turns : ℕ) (state : State) → IsSound past may_fail_to_tell blocks r → Throughout (AllRun blocks) (past r.disk) (past disk)
+  pub sound_after : (r : Running D) (blocks : List (List ℕ)) (disk : D) (settled acked turns : ℕ) (state : State) → IsSound past may_fail_to_tell blocks r → Throughout (IsCrashSafe blocks) (past r.disk) (past disk)
       → settled ≤ length r.journal → At (Moment blocks settled acked) (past disk) → (state ≡ Up → At (Ready blocks settled settled acked) (past disk)) → (state ≡ Up → acked ≡ settled) → IsEvenOr may_fail_to_tell state acked settled → acked ≤ settled
       → IsSound past may_fail_to_tell blocks (record { disk = disk; first = r.first; journal = r.journal; settled = settled; acked = acked; turns = turns; state = state })
   sound_after r blocks disk settled acked turns state s moments le now ready even tells told = record {
-    since = and_then (AllStand r.journal) (past r.first) (past r.disk) (past disk) s.since (weaker (all_stand r.journal blocks s.blocks_are s.entries) moments);
+    since = and_then (AllStand r.journal) (past r.first) (past r.disk) (past disk) s.since (weaker (λ m a. all_stand r.journal blocks s.blocks_are s.entries m a.runs) moments);
     exact = at_each (exact_of r.journal blocks settled acked s.blocks_are s.entries le s.room) now;
     ready = ready;
-    refusable = at_each (all_refusable blocks settled acked) now;
+    refusable = and_then AllRefusable (past r.first) (past r.disk) (past disk) s.refusable (weaker (λ m a. a.refusable) moments);
     even = even;
     tells = tells;
     entries = s.entries;

@@ -63,7 +63,7 @@ pub record IsSound {D : Type 0} (past : D → Past) (may_fail_to_tell : D → Ty
   pub since : StandsSince past r
   pub exact : At (IsExact r.journal r.settled r.acked) (past r.disk)
   pub ready : r.state ≡ Up → At (Ready blocks r.settled r.settled r.acked) (past r.disk)
-  pub refusable : At AllRefusable (past r.disk)
+  pub refusable : Throughout AllRefusable (past r.first) (past r.disk)
   pub even : r.state ≡ Up → r.acked ≡ r.settled
   pub tells : IsEvenOr may_fail_to_tell r.state r.acked r.settled
   pub entries : AreEntries 2 r.journal

@@ -1,5 +1,5 @@
 -- What is known of the disk while the log is written, by the blocks of the journal.
-use Rattle.std.specs.Prelude.{◌≡◌, ℕ, ◌+◌, ◌*◌, ◌<◌, ◌≤◌, true, false, List, [], ◌∷◌, length, slice_index_or}
+use Rattle.std.specs.Prelude.{◌≡◌, ℕ, ◌+◌, ◌*◌, ◌<◌, ◌≤◌, true, false, List, [], length, slice_index_or}
 use Rattle.disk_model.specs.Event.{Event, is_there, reads, marks}
 use Rattle.disk_model.specs.Image.{Leaves, Image, IsImage, IsLucky, IsListed}
 use Rattle.disk_model.specs.Crash.{unsynced_writes, other_writes, synced_bytes}
@@ -7,7 +7,7 @@ use Rattle.disk_model.specs.Marks.{acked as acked_of}
 use Rattle.disk_model.specs.declared.names.FileName.TheVariants.{Log}
 use Rattle.engine_core.specs.Block.{IsBlock}
 use Rattle.engine_core.specs.Log.{block_at, ring_place, IsFramed}
-use Rattle.engine_core.specs.Stands.{passes, AreBlockWrites}
+use Rattle.engine_core.specs.Stands.{passes, AreBlockWrites, AllRefusable}
 
 -- the block of the i-th entry, whose number is i + 2
 abbrev pub entry : List (List ℕ) → ℕ → List ℕ
@@ -74,6 +74,11 @@ pub record Runs (blocks : List (List ℕ)) (image : Image) : Type 0 where
 
 abbrev pub AllRun : List (List ℕ) → List Event → Type 0
 AllRun blocks es = (image : Image) → IsImage es image → IsLucky passes image → Runs blocks image
+
+-- at each moment: the run of each image, and that torn writes are refused
+pub record IsCrashSafe (blocks : List (List ℕ)) (es : List Event) : Type 0 where
+  pub runs : AllRun blocks es
+  pub refusable : AllRefusable es
 
 -- at each moment until the next sync: the run of each image, the file at its last sync, the unsynced writes, and how many were acknowledged
 pub record Moment (blocks : List (List ℕ)) (settled acked : ℕ) (es : List Event) : Type 0 where

@@ -95,6 +95,8 @@ impl<D: Disk + Drop> Engine<D> {
         ensures stands { IfOk result (λ e. StandsSince D.past e) }
         ensures begun { IfOk result (λ e. Throughout (AllStand []) (D.past disk) (D.past e.disk)) }
         ensures refused { IfErr result (λ r. Throughout (AllStand []) (D.past disk) (D.past r.disk)) }
+        ensures begun_refusable { IfOk result (λ e. Throughout AllRefusable (D.past disk) (D.past e.disk)) }
+        ensures refused_refusable { IfErr result (λ r. Throughout AllRefusable (D.past disk) (D.past r.disk)) }
         ensures cause { IfErr result (λ r. r.why ≡ StartFault.DiskFault → Rose (D.faults disk) (D.faults r.disk)) }
         ensures want { IfErr result (λ r. r.why ≡ StartFault.OutOfMemory → Rose (D.wants disk) (D.wants r.disk)) }
         ensures tells { IfErr result (λ r. r.why ≡ StartFault.DiskFault → (d : D) × D.may_fail_to_tell d) }
@@ -250,8 +252,9 @@ impl<D: Disk + Drop> Engine<D> {
         // Where they differ, memory was refused, or a disk's `tell` may fail.
         ensures tells { IsEvenOr D.may_fail_to_tell self.state self.acked self.settled }
 
-        // What a crash leaves that tears unsynced writes is lucky.
+        // A crash whose torn writes have their last byte inverted is lucky, now and at each moment since `start`.
         ensures refusable { At AllRefusable (D.past self.disk) }
+        ensures refusable_since { Throughout AllRefusable (D.past self.first) (D.past self.disk) }
 
         // With nothing pending each image has exactly the settled entries.
         ensures settled { self.state ≡ State.Up → At (AllRecover self.journal self.settled) (D.past self.disk) }

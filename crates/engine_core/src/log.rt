@@ -2,7 +2,7 @@
 ghost use Rattle.std.specs.Prelude.{◌^◌, ◌-◌, ◌∷◌, ◌++◌, ℕ, List, OnOk, ◌≡◌, ◌+◌, ◌<◌, ◌≤◌, [], length, OnErr, IsErrOf};
 ghost use Rattle.disk_model.specs.Past.{At, Step, HasCause, HasWant};
 ghost use Rattle.engine_core.specs.Turns.{turns_after, turns_of, IsTurnOf};
-ghost use Rattle.engine_core.specs.Layer.{Ready, Moment, AllRun};
+ghost use Rattle.engine_core.specs.Layer.{Ready, Moment, IsCrashSafe};
 ghost use Rattle.engine_core.specs.Text.{text_of, IsSmall};
 ghost use Rattle.engine_core.specs.Block.{IsBlock};
 ghost use Rattle.engine_core.specs.Log.{ring_place};
@@ -91,7 +91,7 @@ pub fn write_pending<D: Disk>(
 
 fn sync_log<D: Disk>(disk: &mut D, turns: &mut u64, log: &PlainLog) -> Result<(), DiskError>
     requires { At (Ready log.now.blocks.items log.now.settled (length log.now.blocks.items) log.now.acked) (D.past disk.old) }
-    ensures step { Step (AllRun log.now.blocks.items) (Ready log.now.blocks.items (length log.now.blocks.items) (length log.now.blocks.items) log.now.acked) (D.past disk.old) (D.past disk.new) result }
+    ensures step { Step (IsCrashSafe log.now.blocks.items) (Ready log.now.blocks.items (length log.now.blocks.items) (length log.now.blocks.items) log.now.acked) (D.past disk.old) (D.past disk.new) result }
     ensures cause { HasCause (D.faults disk.old) (D.faults disk.new) result }
     ensures want { HasWant (D.wants disk.old) (D.wants disk.new) result }
     ensures later { D.goes_on disk.old disk.new }
@@ -109,7 +109,7 @@ pub fn write_out<D: Disk>(disk: &mut D, turns: &mut u64, log: &PlainLog) -> Resu
     requires room { length log.now.blocks.items ≤ 256 }
     requires order { log.now.settled ≤ length log.now.blocks.items }
     requires counted { turns.old < 2 ^ 64 }
-    ensures step { Step (AllRun log.now.blocks.items) (Ready log.now.blocks.items (length log.now.blocks.items) (length log.now.blocks.items) log.now.acked) (D.past disk.old) (D.past disk.new) result }
+    ensures step { Step (IsCrashSafe log.now.blocks.items) (Ready log.now.blocks.items (length log.now.blocks.items) (length log.now.blocks.items) log.now.acked) (D.past disk.old) (D.past disk.new) result }
     ensures cause { HasCause (D.faults disk.old) (D.faults disk.new) result }
     ensures want { HasWant (D.wants disk.old) (D.wants disk.new) result }
     ensures later { D.goes_on disk.old disk.new }
@@ -140,7 +140,7 @@ pub fn tell_acked<D: Disk>(disk: &mut D, log: &PlainLog) -> Result<(), DiskError
 /// Says that a session begins.
 pub fn tell_started<D: Disk>(disk: &mut D) -> Result<(), DiskError>
     requires { At (Ready [] 0 0 0) (D.past disk.old) }
-    ensures step { Step (AllRun []) (Ready [] 0 0 0) (D.past disk.old) (D.past disk.new) result }
+    ensures step { Step (IsCrashSafe []) (Ready [] 0 0 0) (D.past disk.old) (D.past disk.new) result }
     ensures cause { HasCause (D.faults disk.old) (D.faults disk.new) result }
     ensures want { HasWant (D.wants disk.old) (D.wants disk.new) result }
     ensures later { D.goes_on disk.old disk.new }

@@ -2,9 +2,9 @@ use Rattle.std.proofs.Common.{◌≡◌, ◌-◌, length, subst, arith, rules}
 use Rattle.std.proofs.lemmas.Result.{on_err_weaker}
 use Rattle.disk_model.specs.Past.{At}
 use Rattle.disk_model.proofs.Moments.{one_more, ended_by, begins, at_each, at_is, at_last, finished}
-use Rattle.engine_core.proofs.Events.{ready_runs, ready_moment, runs_alone, on_err_always}
+use Rattle.engine_core.proofs.Events.{ready_safe, ready_moment, safe_alone, on_err_always}
 use Rattle.engine_core.proofs.TurnCounts.{turns_same, none_of}
-use Rattle.engine_core.specs.Layer.{AllRun, Ready, Moment}
+use Rattle.engine_core.specs.Layer.{IsCrashSafe, Ready, Moment}
 use Rattle.engine_core.proofs.log.write_out.Goals as goal
 
 pub returns-then-log-len-clause-step : goal.returns-then-log-len-clause-step
@@ -13,13 +13,13 @@ returns-then-log-len-clause-step g c =
     let settled = c.args.log.now.settled in
     let acked = c.args.log.now.acked in
     let all : settled ≡ length blocks = search rules in
-    finished (begins (AllRun blocks) _ (at_each (ready_runs blocks settled settled acked) c.requires.ready))
+    finished (begins (IsCrashSafe blocks) _ (at_each (ready_safe blocks settled settled acked) c.requires.ready))
     (subst (λ n. At (Ready blocks n n acked) (g.D.Disk.past c.args.disk.now)) all c.requires.ready)
 
 pub returns-in_err-write_pending-clause-step : goal.returns-in_err-write_pending-clause-step
 returns-in_err-write_pending-clause-step g c =
     let blocks = c.args.log.now.blocks.items in
-    ended_by _ _ c.from_residual.ensures.1 (runs_alone blocks c.args.log.now.settled c.args.log.now.acked c.in_err-write_pending.ensures.step)
+    ended_by _ _ c.from_residual.ensures.1 (safe_alone blocks c.args.log.now.settled c.args.log.now.acked c.in_err-write_pending.ensures.step)
 
 pub returns-in_err-write_pending-clause-kept : goal.returns-in_err-write_pending-clause-kept
 returns-in_err-write_pending-clause-kept g c =
@@ -29,7 +29,7 @@ returns-in_err-write_pending-clause-kept g c =
 pub returns-clause-step : goal.returns-clause-step
 returns-clause-step g c =
     let blocks = c.args.log.now.blocks.items in
-    one_more (runs_alone blocks c.args.log.now.settled c.args.log.now.acked c.in_ok-write_pending.ensures.step) c.sync_log.ensures.step
+    one_more (safe_alone blocks c.args.log.now.settled c.args.log.now.acked c.in_ok-write_pending.ensures.step) c.sync_log.ensures.step
 
 pub returns-clause-kept : goal.returns-clause-kept
 returns-clause-kept g c =

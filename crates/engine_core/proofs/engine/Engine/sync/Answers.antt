@@ -1,7 +1,7 @@
 use Rattle.std.proofs.Common.{◌≡◌, length, refl, inl, inr, arith, rules}
 use Rattle.disk_model.proofs.Moments.{and_then, at_last, at_each, weaker}
-use Rattle.engine_core.specs.Layer.{AllRun, Moment}
-use Rattle.engine_core.proofs.Events.{ready_moment}
+use Rattle.engine_core.specs.Layer.{IsCrashSafe, Moment}
+use Rattle.engine_core.proofs.Events.{ready_moment, moment_safe}
 use Rattle.engine_core.proofs.Keeping.{sound_after, failed_of}
 use Rattle.engine_core.proofs.engine.Engine.sync.Goals as goal
 
@@ -32,7 +32,7 @@ invariant_of-self-in-Err-tell_acked g c =
     let acked = c.self.inside.log.acked in
     let long : n ≡ length blocks = search rules in
     let told = c.in-Err-tell_acked.ensures.step in
-    let moments = and_then (AllRun blocks) _ _ _ c.in_default.ensures.step.moments (weaker (λ m at. at.runs) told.moments) in
+    let moments = and_then (IsCrashSafe blocks) _ _ _ c.in_default.ensures.step.moments (weaker (moment_safe blocks n acked) told.moments) in
     sound_after g.D.Disk.past g.D.Disk.may_fail_to_tell _ blocks c.tell_acked.new.disk n acked c.write_out.new.turns c.after_fault-state-in-Err-tell_acked.result.0
     c.self.invariant moments (omega (arith, long, c.self.invariant.count)) (at_last (Moment blocks n acked) _ _ told.moments)
     (λ up. absurd (c.after_fault-state-in-Err-tell_acked.ensures.down up)) (λ up. absurd (c.after_fault-state-in-Err-tell_acked.ensures.down up))
@@ -48,7 +48,7 @@ invariant_of-self-2 g c =
     let n = c.len-self-inside.result in
     let long : n ≡ length blocks = search rules in
     let told = c.in_default-tell_acked.ensures.step in
-    let moments = and_then (AllRun blocks) _ _ _ c.in_default.ensures.step.moments (weaker (λ m at. at.runs) told.moments) in
+    let moments = and_then (IsCrashSafe blocks) _ _ _ c.in_default.ensures.step.moments (weaker (moment_safe blocks n c.self.inside.log.acked) told.moments) in
     sound_after g.D.Disk.past g.D.Disk.may_fail_to_tell _ blocks c.tell_acked.new.disk n n c.write_out.new.turns c.self.inside.state
     c.self.invariant moments (omega (arith, long, c.self.invariant.count)) (at_each (ready_moment blocks n n n) told.next) (λ up. told.next) (λ up. refl) (λ fed. inl refl) (omega arith)
 
