@@ -1,0 +1,12 @@
+pub mod Sums
+pub mod Places
+pub mod Refusable
+pub mod Events
+pub mod Texts
+pub mod Journals
+pub mod Push
+pub mod Keeping
+pub mod Fresh
+pub mod BlocksRead
+pub mod RunLength
+pub mod TurnCounts

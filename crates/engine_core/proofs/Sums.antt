@@ -1,0 +1,63 @@
+-- A block has its length, its checksum and one number.
+use Rattle.std.proofs.Common.{◌≡◌, ℕ, ◌+◌, ◌≤◌, true, List, [], ◌∷◌, ◌++◌, length, take, drop, refl, sym, ◌∙◌, ap, arith, length-append, append_assoc}
+use Rattle.std.proofs.lemmas.List.{take_at, drop_at, take-append-le}
+use Rattle.std.proofs.lemmas.Bool.Decides.{nat_tests}
+use Rattle.std.proofs.lemmas.Nat.{from_be_bytes-to_be_bytes_8}
+use Rattle.std.specs.Int.{to_be_bytes, from_be_bytes, w32, w64}
+use Rattle.bytes_core.specs.Crc.{crc32c}
+use Rattle.engine_core.specs.Block.{sealed, same_bytes, sums_up, block_head, IsBlock}
+
+pub same_bytes-itself : (bs : List ℕ) → same_bytes bs bs ≡ true
+same_bytes-itself [] = refl
+same_bytes-itself (b ∷ bs) = let rest = same_bytes-itself bs in grind (arith, nat_tests)
+
+pub length-sealed : (text : List ℕ) → length (sealed text) ≡ length text + 4
+unfolding sealed
+length-sealed text = let four : length (to_be_bytes w32 (crc32c text)) ≡ 4 = refl in omega (arith, four, length-append text (to_be_bytes w32 (crc32c text)))
+
+pub sums_up-sealed : (text : List ℕ) → length text ≡ 4092 → sums_up (sealed text) ≡ true
+unfolding sealed sums_up
+sums_up-sealed text size =
+    let sum = to_be_bytes w32 (crc32c text) in
+    let front : take 4092 (text ++ sum) ≡ text = take_at text sum 4092 size in
+    let back : drop 4092 (text ++ sum) ≡ sum = drop_at text sum 4092 size in
+    ap (λ (l : List ℕ). same_bytes l (to_be_bytes w32 (crc32c (take 4092 (text ++ sum))))) back
+    ∙ ap (λ (l : List ℕ). same_bytes sum (to_be_bytes w32 (crc32c l))) front ∙ same_bytes-itself sum
+
+pub length-block_head : (number used : ℕ) → length (block_head number used) ≡ 16
+unfolding block_head
+length-block_head number used = refl
+
+pub length-front : (number : ℕ) (text rest : List ℕ) → length text + length rest ≡ 4076 → length (block_head number (length text) ++ text ++ rest) ≡ 4092
+length-front number text rest size =
+    omega (arith, length-block_head number (length text), length-append (block_head number (length text) ++ text) rest, length-append (block_head number (length text)) text)
+
+pub IsBlock-length : {number : ℕ} {text block : List ℕ} → IsBlock number text block → length block ≡ 4096
+IsBlock-length {number} {text} b =
+    omega (arith, ap length b.is, length-sealed (block_head number (length text) ++ text ++ b.rest), length-front number text b.rest b.size)
+
+pub IsBlock-sums_up : {number : ℕ} {text block : List ℕ} → IsBlock number text block → sums_up block ≡ true
+IsBlock-sums_up {number} {text} b = ap sums_up b.is ∙ sums_up-sealed (block_head number (length text) ++ text ++ b.rest) (length-front number text b.rest b.size)
+
+pub take-sealed : (n : ℕ) (text : List ℕ) → n ≤ length text → take n (sealed text) ≡ take n text
+unfolding sealed
+take-sealed n text le = take-append-le n text (to_be_bytes w32 (crc32c text)) le
+
+head_first : (number used : ℕ) → take 8 (block_head number used) ≡ to_be_bytes w64 number
+unfolding block_head
+head_first number used = refl
+
+pub IsBlock-first : {number : ℕ} {text block : List ℕ} → IsBlock number text block → take 8 block ≡ to_be_bytes w64 number
+IsBlock-first {number} {text} b =
+    let head = block_head number (length text) in
+    let long = length-block_head number (length text) in
+    ap (λ (l : List ℕ). take 8 l) b.is
+    ∙ take-sealed 8 (head ++ text ++ b.rest) (omega (arith, length-front number text b.rest b.size))
+    ∙ ap (λ (l : List ℕ). take 8 l) (append_assoc head text b.rest)
+    ∙ take-append-le 8 head (text ++ b.rest) (omega (arith, long))
+    ∙ head_first number (length text)
+
+-- a block has one number
+pub IsBlock-number : {m n : ℕ} {a b block : List ℕ} → IsBlock m a block → IsBlock n b block → m ≡ n
+IsBlock-number {m} {n} x y =
+    sym (from_be_bytes-to_be_bytes_8 m x.small) ∙ ap (from_be_bytes w64) (sym (IsBlock-first x) ∙ IsBlock-first y) ∙ from_be_bytes-to_be_bytes_8 n y.small

@@ -1,0 +1,126 @@
+// The log is read back. Reading adds no event.
+ghost use Rattle.std.specs.Prelude.{◌≡◌, ◌≢◌, ◌+◌, ◌*◌, ◌<◌, ◌≤◌, true, false, ℕ, List, Err, length, IfOk, IfSome, IfNone, OnOk};
+ghost use Rattle.cause_core.specs.Counts.{Rose};
+ghost use Rattle.disk_model.specs.Event.{reads};
+ghost use Rattle.disk_model.specs.Image.{InFile};
+ghost use Rattle.disk_model.specs.Past.{At, HasCause, HasWant};
+ghost use Rattle.disk_model.specs.declared.names.FileName.TheVariants.{Log};
+ghost use Rattle.std.specs.Int.{to_be_bytes, w32};
+ghost use Rattle.bytes_core.specs.Crc.{crc32c};
+ghost use Rattle.engine_core.specs.Block.{IsBlock, block_head};
+ghost use Rattle.engine_core.specs.Log.{IsRunFrom, block_at, ring_place};
+
+use crate::StartFault;
+use crate::log::ring_place;
+use bytes_core::crc32c;
+use disk_model::{Disk, DiskError, FileName};
+use std::alloc::{AllocError, Global};
+use store_model::Piece;
+
+#[tactic(auto, unfolding(crate::specs::Block::block_head))]
+fn head_array(number: u64, used: u16) -> [u8; 16]
+    ensures { result ≡ block_head number used }
+{
+    let [a, b, c, d, e, f, g, h] = number.to_be_bytes();
+    let [u, v] = used.to_be_bytes();
+    [a, b, c, d, e, f, g, h, 0, 0, 0, 0, u, v, 0, 3]
+}
+
+fn has_head(head: &[u8], number: u64, used: u16) -> bool
+    ensures yes { result ≡ true → head.now ≡ block_head number used }
+    ensures no { result ≡ false → head.now ≢ block_head number used }
+{
+    let wanted = head_array(number, used);
+    let wanted: &[u8] = &wanted;
+    head == wanted
+}
+
+fn has_sum(front: &[u8], sum: &[u8]) -> bool
+    ensures yes { result ≡ true → sum.now ≡ to_be_bytes w32 (crc32c front.now) }
+    ensures no { result ≡ false → sum.now ≢ to_be_bytes w32 (crc32c front.now) }
+{
+    let wanted = crc32c(front).to_be_bytes();
+    let wanted: &[u8] = &wanted;
+    sum == wanted
+}
+
+/// The text of a ring block of 4096 bytes, if it is a valid block of this number.
+pub fn read_block(block: &[u8], number: u64) -> Option<&[u8]>
+    requires { length block.now ≡ 4096 }
+    ensures found { IfSome result (λ text. IsBlock number text.now block.now) }
+    ensures none { IfNone result ((text : List ℕ) → IsBlock number text block.now → ⊥) }
+{
+    let (front, sum) = block.split_at(4092);
+    let (head, body) = front.split_at(16);
+    let used = u16::from_be_bytes([head[12], head[13]]);
+    if used == 0 || used > 4076 {
+        return None;
+    }
+    if !has_head(head, number, used) {
+        return None;
+    }
+    if !has_sum(front, sum) {
+        return None;
+    }
+    let (text, _rest) = body.split_at(used as usize);
+    Some(text)
+}
+
+// Reads the ring block at the place of this number.
+fn read_ring_block<D: Disk>(disk: &mut D, number: u64, buffer: &mut [u8]) -> Result<(), DiskError>
+    requires inside { At (InFile Log 0 1060864) (D.past disk.old) }
+    requires size { length buffer.old ≡ 4096 }
+    ensures block { OnOk result (At (λ es. buffer.new ≡ block_at (ring_place number) (reads Log es)) (D.past disk.old)) }
+    ensures same { D.past disk.new ≡ D.past disk.old }
+    ensures cause { HasCause (D.faults disk.old) (D.faults disk.new) result }
+    ensures want { HasWant (D.wants disk.old) (D.wants disk.new) result }
+    ensures later { D.goes_on disk.old disk.new }
+{
+    disk.read(FileName::Log, ring_place(number) * 4096, buffer)
+}
+
+fn copied(alloc: Global, text: &[u8]) -> Result<Piece, AllocError>
+    ensures { IfOk result (λ piece. piece ≡ text.now) }
+{
+    Ok(Piece::of(text.to_vec(alloc)?))
+}
+
+fn scan_into<D: Disk>(
+    alloc: Global,
+    disk: &mut D,
+    buffer: &mut [u8],
+) -> Result<Vec<Piece>, StartFault>
+    requires inside { At (InFile Log 0 1060864) (D.past disk.old) }
+    requires size { length buffer.old ≡ 4096 }
+    ensures run { IfOk result (λ texts. At (λ es. IsRunFrom 2 (reads Log es) texts.items) (D.past disk.old)) }
+    ensures same { D.past disk.new ≡ D.past disk.old }
+    ensures cause { result ≡ Err StartFault.DiskFault → Rose (D.faults disk.old) (D.faults disk.new) }
+    ensures later { D.goes_on disk.old disk.new }
+{
+    let mut texts = Vec::new(alloc);
+    for i in 0..256u64 {
+        read_ring_block(disk, i + 2, buffer)?;
+        let Some(text) = read_block(buffer, i + 2) else {
+            return Ok(texts);
+        };
+        let piece = copied(alloc, text)?;
+        let Ok(()) = texts.push(piece) else {
+            return Err(StartFault::OutOfMemory);
+        };
+    }
+    Ok(texts)
+}
+
+/// The texts of the longest run of valid ring blocks from block 2 on, as the disk reads: the
+/// recovered run, one text to a mini-transaction. Where the disk tells its bytes its log must have
+/// the bytes of a log.
+pub fn scan<D: Disk>(alloc: Global, disk: &mut D) -> Result<Vec<Piece>, StartFault>
+    requires inside { At (InFile Log 0 1060864) (D.past disk.old) }
+    ensures run { IfOk result (λ texts. At (λ es. IsRunFrom 2 (reads Log es) texts.items) (D.past disk.old)) }
+    ensures same { D.past disk.new ≡ D.past disk.old }
+    ensures cause { result ≡ Err StartFault.DiskFault → Rose (D.faults disk.old) (D.faults disk.new) }
+    ensures later { D.goes_on disk.old disk.new }
+{
+    let mut buffer = [0u8; 4096];
+    scan_into(alloc, disk, &mut buffer)
+}
