@@ -5,11 +5,13 @@ use Rattle.std.proofs.lemmas.List.Sums.{sum_by-append, sum_by-cons}
 use mathlib.Core.List.{append_assoc}
 use Rattle.engine_core.specs.declared.journal.Entry.{Entry}
 use Rattle.keyd_cli.specs.declared.outcome.Reply.{Reply}
+use Rattle.keyd_cli.specs.declared.outcome.Answer.{Answer}
+use Rattle.keyd_cli.specs.declared.outcome.Answer.TheVariants.{Place, Acked}
 use Rattle.keyd_cli.specs.declared.act.Act.{Act}
 use Rattle.keyd_cli.specs.declared.act.Act.TheVariants.{Mtr, Sync}
 use Rattle.keyd_cli.specs.declared.act.Statement.{Statement}
 use Rattle.keyd_cli.specs.Reads.{is_mtr, mtr_count}
-use Rattle.keyd_cli.specs.Session.{entry_of, entries_of, reply_to, replies_to, IsSmallAct, AreRunnable}
+use Rattle.keyd_cli.specs.Session.{entry_of, entries_of, answer_to, reply_to, replies_to, IsSmallAct, AreRunnable, AckedWithin, AreAckedWithin, acked_by}
 
 pub entries-append : (count : ℕ) (xs ys : List Statement) → entries_of count (xs ++ ys) ≡ entries_of count xs ++ entries_of (count + length (entries_of count xs)) ys
 entries-append count [] ys = ap (λ n. entries_of n ys) (sym (add-zero count))
@@ -67,3 +69,29 @@ next_room all xs x rest journal count line is are few =
     let counted : Statement → ℕ = λ s. cond (is_mtr s.act) 1 0 in
     let whole : mtr_count all ≡ mtr_count xs + mtr_count (x ∷ rest) = ap mtr_count is ∙ sum_by-append counted xs (x ∷ rest) in
     omega (arith, whole, sum_by-cons counted x rest, ap length are, length-entries 0 xs, one_entry count line x.act, few)
+
+within_more : (a b : ℕ) (rs : List Reply) → a ≤ b → AreAckedWithin a rs → AreAckedWithin b rs
+within_more a b [] le are = tt
+within_more a b (r ∷ rs) le are = (one r.answer are.0, within_more a b rs le are.1)
+  where
+    one : (answer : Answer) → AckedWithin a answer → AckedWithin b answer
+    one (Acked n) low = omega (arith, le, low)
+    one (Place place lsn) low = tt
+
+within_push : (a : ℕ) (rs : List Reply) (r : Reply) → AreAckedWithin a rs → AckedWithin a r.answer → AreAckedWithin a (rs ++ (r ∷ []))
+within_push a [] r are low = (low, tt)
+within_push a (x ∷ rs) r are low = (are.0, within_push a rs r are.1 low)
+
+-- the acknowledgements of one statement more
+pub acked_more : (line : ℕ) (act : Act) (old new : List Entry) (a b : ℕ) (rs more : List Reply) (reply : Reply) → new ≡ old ++ entry_of (length old) line act → reply.answer ≡ answer_to (length old) act
+    → more ≡ rs ++ (reply ∷ []) → b ≡ acked_by reply.answer a (length new) → AreAckedWithin a rs → a ≤ length old → AreAckedWithin b more × (b ≤ length new)
+acked_more line (Mtr session mtr) old new a b rs more reply grown answered pushed is are low =
+    let same : b ≡ a = is ∙ ap (λ x. acked_by x a (length new)) answered in
+    let long : length new ≡ length old + 1 = ap length grown ∙ length-append old (entry_of (length old) line (Mtr session mtr)) in
+    let fits : AckedWithin b reply.answer = subst (λ x. AckedWithin b x) (sym answered) tt in
+    (subst (AreAckedWithin b) (sym pushed) (within_push b rs reply (within_more a b rs (omega (arith, same)) are) fits), omega (arith, same, long, low))
+acked_more line Sync old new a b rs more reply grown answered pushed is are low =
+    let same : b ≡ length new = is ∙ ap (λ x. acked_by x a (length new)) answered in
+    let long : length new ≡ length old + 0 = ap length grown ∙ length-append old [] in
+    let fits : AckedWithin b reply.answer = subst (λ x. AckedWithin b x) (sym answered) (let le : length old ≤ b = omega (arith, same, long) in le) in
+    (subst (AreAckedWithin b) (sym pushed) (within_push b rs reply (within_more a b rs (omega (arith, same, long, low)) are) fits), omega (arith, same))

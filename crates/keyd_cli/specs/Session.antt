@@ -1,5 +1,5 @@
 -- What a session of a drill does with its statements.
-use Rattle.std.specs.Prelude.{◌≡◌, ℕ, ◌+◌, ◌*◌, ◌≤◌, ◌<◌, Bool, true, false, List, [], ◌∷◌, ◌++◌, length, take, Some}
+use Rattle.std.specs.Prelude.{◌≡◌, ℕ, ◌+◌, ◌*◌, ◌≤◌, ◌<◌, Bool, true, false, List, [], ◌∷◌, ◌++◌, length, take, Option, Some, None}
 use Rattle.engine_core.specs.declared.journal.Entry.{Entry}
 use Rattle.engine_core.specs.Text.{IsSmall}
 use Rattle.store_model.specs.declared.change.Change.{Change}
@@ -42,6 +42,20 @@ replies_to count (s ∷ ss) = reply_to count s ∷ replies_to (count + length (e
 abbrev pub AckedWithin : ℕ → Answer → Type 0
 AckedWithin acked (Acked n) = n ≤ acked
 AckedWithin acked (Place place lsn) = Unit {0}
+
+abbrev pub acked_by : Answer → ℕ → ℕ → ℕ
+acked_by (Acked n) acked count = count
+acked_by (Place place lsn) acked count = acked
+
+-- each of the replies that acknowledges says no more than this
+abbrev pub AreAckedWithin : ℕ → List Reply → Type 0
+AreAckedWithin acked [] = Unit {0}
+AreAckedWithin acked (r ∷ rs) = AckedWithin acked r.answer × AreAckedWithin acked rs
+
+-- How many are acknowledged after a reply, of which so many were before it, with a journal of so many entries. No reply acknowledges none.
+abbrev pub acked_after : Option Reply → ℕ → ℕ → ℕ
+acked_after None acked count = acked
+acked_after (Some r) acked count = acked_by r.answer acked count
 
 -- a mini-transaction that one block holds, or no mini-transaction
 abbrev pub IsSmallAct : Act → Type 0

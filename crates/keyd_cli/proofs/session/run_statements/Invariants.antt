@@ -1,7 +1,7 @@
-use Rattle.std.proofs.Common.{◌≡◌, ◌++◌, length}
+use Rattle.std.proofs.Common.{◌≡◌, ◌++◌, ◌≤◌, length}
 use Rattle.std.specs.Vec.Iter.{into_iter_items}
 use Rattle.engine_core.specs.declared.fault.State.TheVariants as state
-use Rattle.keyd_cli.specs.Session.{entries_of, replies_to}
+use Rattle.keyd_cli.specs.Session.{entries_of, replies_to, AreAckedWithin}
 use Rattle.keyd_cli.proofs.session.run_statements.Given as goal
 
 abbrev pub invariant-loop-statement : goal.invariant-loop-statement
@@ -12,4 +12,7 @@ invariant-loop-statement g l = record {
   entries : l.engine.journal ≡ entries_of 0 l.yielded;
   replied : l.replies.items ≡ replies_to 0 l.yielded;
   up : l.engine.state ≡ state.Up;
+  within : AreAckedWithin l.engine.acked l.replies.items;
+  low : l.engine.acked ≤ length l.engine.journal;
+  later : g.D.Disk.goes_on l.fn.engine.disk l.engine.disk;
 }
