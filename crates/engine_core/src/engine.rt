@@ -95,6 +95,7 @@ impl<D: Disk + Drop> Engine<D> {
         ensures stands { IfOk result (λ e. StandsSince D.past e) }
         ensures begun { IfOk result (λ e. Throughout (AllStand []) (D.past disk) (D.past e.disk)) }
         ensures refused { IfErr result (λ r. Throughout (AllStand []) (D.past disk) (D.past r.disk)) }
+        ensures later { IfOk result (λ e. D.goes_on disk e.disk) }
         ensures cause { IfErr result (λ r. r.why ≡ StartFault.DiskFault → Rose (D.faults disk) (D.faults r.disk)) }
         ensures want { IfErr result (λ r. r.why ≡ StartFault.OutOfMemory → Rose (D.wants disk) (D.wants r.disk)) }
     {
@@ -173,6 +174,7 @@ impl<D: Disk + Drop> Engine<D> {
         ensures starved { result ≡ Err EngineFault.OutOfMemory → (self.new.state ≡ State.Starved) × ((self.old.state ≡ State.Starved) ⊎ Rose (D.wants self.old.disk) (D.wants self.new.disk)) }
         ensures turns { OnOk result (self.new.turns ≡ turns_after self.old.turns (turns_of (length self.old.journal - self.old.settled))) }
         ensures turn { (turn : ℕ) → result ≡ Err (EngineFault.DiskFault turn) → turn ≤ turns_after self.old.turns (turns_of (length self.old.journal - self.old.settled)) }
+        ensures later { D.goes_on self.old.disk self.new.disk }
         ensures unacked { OnErr result (self.new.acked ≡ self.old.acked) }
         ensures settled { OnErr result ((self.new.settled ≡ self.old.settled) ⊎ (self.new.settled ≡ length self.new.journal)) }
         ensures stands { StandsSince D.past self.new }

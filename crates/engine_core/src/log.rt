@@ -1,5 +1,5 @@
 // The log's file: the device calls, one to a function.
-ghost use Rattle.std.specs.Prelude.{◌^◌, ◌-◌, ◌∷◌, ◌++◌, ℕ, List, OnOk, ◌≡◌, ◌+◌, ◌<◌, ◌≤◌, [], length, OnErr};
+ghost use Rattle.std.specs.Prelude.{IsErrOf, ◌^◌, ◌-◌, ◌∷◌, ◌++◌, ℕ, List, OnOk, ◌≡◌, ◌+◌, ◌<◌, ◌≤◌, [], length, OnErr};
 ghost use Rattle.disk_model.specs.Past.{At, Step, HasCause, HasWant};
 ghost use Rattle.engine_core.specs.Turns.{turns_after, turns_of, IsTurnOf};
 ghost use Rattle.engine_core.specs.Layer.{Ready, Moment, AllRun};
@@ -52,6 +52,7 @@ pub fn write_block<D: Disk>(
     requires more { i < length log.now.blocks.items }
     requires room { length log.now.blocks.items ≤ 256 }
     ensures step { Step (Moment log.now.blocks.items log.now.settled log.now.acked) (Ready log.now.blocks.items log.now.settled (i + 1) log.now.acked) (D.past disk.old) (D.past disk.new) result }
+    ensures later { D.goes_on disk.old disk.new }
     ensures cause { HasCause (D.faults disk.old) (D.faults disk.new) result }
     ensures want { HasWant (D.wants disk.old) (D.wants disk.new) result }
     ensures turns { turns.new ≡ turns_after turns.old 1 }
@@ -76,6 +77,7 @@ pub fn write_pending<D: Disk>(
     requires order { log.now.settled ≤ length log.now.blocks.items }
     requires counted { turns.old < 2 ^ 64 }
     ensures step { Step (Moment log.now.blocks.items log.now.settled log.now.acked) (Ready log.now.blocks.items log.now.settled (length log.now.blocks.items) log.now.acked) (D.past disk.old) (D.past disk.new) result }
+    ensures later { D.goes_on disk.old disk.new }
     ensures cause { HasCause (D.faults disk.old) (D.faults disk.new) result }
     ensures want { HasWant (D.wants disk.old) (D.wants disk.new) result }
     ensures turns { OnOk result (turns.new ≡ turns_after turns.old (length log.now.blocks.items - log.now.settled)) }
@@ -90,6 +92,7 @@ pub fn write_pending<D: Disk>(
 fn sync_log<D: Disk>(disk: &mut D, turns: &mut u64, log: &PlainLog) -> Result<(), DiskError>
     requires { At (Ready log.now.blocks.items log.now.settled (length log.now.blocks.items) log.now.acked) (D.past disk.old) }
     ensures step { Step (AllRun log.now.blocks.items) (Ready log.now.blocks.items (length log.now.blocks.items) (length log.now.blocks.items) log.now.acked) (D.past disk.old) (D.past disk.new) result }
+    ensures later { D.goes_on disk.old disk.new }
     ensures cause { HasCause (D.faults disk.old) (D.faults disk.new) result }
     ensures want { HasWant (D.wants disk.old) (D.wants disk.new) result }
     ensures same { OnErr result (D.past disk.new ≡ D.past disk.old) }
@@ -107,6 +110,7 @@ pub fn write_out<D: Disk>(disk: &mut D, turns: &mut u64, log: &PlainLog) -> Resu
     requires order { log.now.settled ≤ length log.now.blocks.items }
     requires counted { turns.old < 2 ^ 64 }
     ensures step { Step (AllRun log.now.blocks.items) (Ready log.now.blocks.items (length log.now.blocks.items) (length log.now.blocks.items) log.now.acked) (D.past disk.old) (D.past disk.new) result }
+    ensures later { D.goes_on disk.old disk.new }
     ensures cause { HasCause (D.faults disk.old) (D.faults disk.new) result }
     ensures want { HasWant (D.wants disk.old) (D.wants disk.new) result }
     ensures kept { OnErr result (At (Moment log.now.blocks.items log.now.settled log.now.acked) (D.past disk.new)) }
@@ -125,6 +129,8 @@ pub fn tell_acked<D: Disk>(disk: &mut D, log: &PlainLog) -> Result<(), DiskError
     requires order { log.now.acked ≤ log.now.settled }
     requires ready { At (Ready log.now.blocks.items log.now.settled log.now.settled log.now.acked) (D.past disk.old) }
     ensures step { Step (Moment log.now.blocks.items log.now.settled log.now.acked) (Ready log.now.blocks.items log.now.settled log.now.settled log.now.settled) (D.past disk.old) (D.past disk.new) result }
+    ensures later { D.goes_on disk.old disk.new }
+    ensures tells { IsErrOf result DiskError.Failed → D.may_fail_to_tell disk.old }
     ensures cause { HasCause (D.faults disk.old) (D.faults disk.new) result }
     ensures want { HasWant (D.wants disk.old) (D.wants disk.new) result }
 {
@@ -135,6 +141,8 @@ pub fn tell_acked<D: Disk>(disk: &mut D, log: &PlainLog) -> Result<(), DiskError
 pub fn tell_started<D: Disk>(disk: &mut D) -> Result<(), DiskError>
     requires { At (Ready [] 0 0 0) (D.past disk.old) }
     ensures step { Step (AllRun []) (Ready [] 0 0 0) (D.past disk.old) (D.past disk.new) result }
+    ensures later { D.goes_on disk.old disk.new }
+    ensures tells { IsErrOf result DiskError.Failed → D.may_fail_to_tell disk.old }
     ensures cause { HasCause (D.faults disk.old) (D.faults disk.new) result }
     ensures want { HasWant (D.wants disk.old) (D.wants disk.new) result }
 {

@@ -67,3 +67,19 @@ returns-in-Err-tell_acked-clause-exact g c = (invariant_of-self-in-Err-tell_acke
 
 pub returns-clause-exact : goal.returns-clause-exact
 returns-clause-exact g c = (invariant_of-self-2 g c).exact
+
+pub returns-in_err-check_up-clause-later : goal.returns-in_err-check_up-clause-later
+returns-in_err-check_up-clause-later g c = g.met.D.Disk.goes_on_same _
+
+pub returns-in-Err-clause-later : goal.returns-in-Err-clause-later
+returns-in-Err-clause-later g c = rw (← c.self.view_is) c.write_out.ensures.later
+
+pub returns-in-Err-tell_acked-clause-later : goal.returns-in-Err-tell_acked-clause-later
+returns-in-Err-tell_acked-clause-later g c =
+    let all : g.D.Disk.goes_on c.self.inside.disk c.tell_acked.new.disk = g.met.D.Disk.goes_on_then _ _ _ c.write_out.ensures.later c.tell_acked.ensures.later in
+    rw (← c.self.view_is) all
+
+pub returns-clause-later : goal.returns-clause-later
+returns-clause-later g c =
+    let all : g.D.Disk.goes_on c.self.inside.disk c.tell_acked.new.disk = g.met.D.Disk.goes_on_then _ _ _ c.write_out.ensures.later c.tell_acked.ensures.later in
+    rw (← c.self.view_is) all
