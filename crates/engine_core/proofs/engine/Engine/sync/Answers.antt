@@ -1,5 +1,6 @@
-use Rattle.std.proofs.Common.{◌≡◌, length, refl, arith, rules}
+use Rattle.std.proofs.Common.{◌≡◌, ◌∙◌, length, refl, ap, inr, Err, arith, rules}
 use Rattle.disk_model.proofs.Moments.{and_then, at_last, at_each, weaker}
+use Rattle.engine_core.specs.declared.fault.EngineFault.TheVariants.{DiskFault}
 use Rattle.engine_core.specs.Layer.{AllRun, Moment}
 use Rattle.engine_core.proofs.Events.{ready_moment}
 use Rattle.engine_core.proofs.Keeping.{sound_after}
@@ -83,3 +84,9 @@ pub returns-clause-later : goal.returns-clause-later
 returns-clause-later g c =
     let all : g.D.Disk.goes_on c.self.inside.disk c.tell_acked.new.disk = g.met.D.Disk.goes_on_then _ _ _ c.write_out.ensures.later c.tell_acked.ensures.later in
     rw (← c.self.view_is) all
+
+pub returns-in-Err-tell_acked-clause-tells : goal.returns-in-Err-tell_acked-clause-tells
+returns-in-Err-tell_acked-clause-tells g c = λ turn is.
+    let fault : c.after_fault-state-in-Err-tell_acked.result.1 ≡ DiskFault turn = cc in
+    let failed = c.after_fault-state-in-Err-tell_acked.ensures.why turn fault in
+    inr (c.write_out.new.disk, c.tell_acked.ensures.tells (c.in-Err-tell_acked.is ∙ ap (λ e. Err e) failed))
