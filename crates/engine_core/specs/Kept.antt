@@ -82,3 +82,7 @@ abbrev pub up_or_refused : State → Result (Unit {0}) EngineFault
 up_or_refused Up = Ok tt
 up_or_refused (Down turn) = Err (fault.Down turn)
 up_or_refused Starved = Err fault.OutOfMemory
+
+-- some disk of this type has the property
+abbrev pub Somewhere : {D : Type 0} → (D → Type 0) → Type 0
+Somewhere {D} P = (d : D) × P d

@@ -1,5 +1,5 @@
 //! The engine over a plain log: mini-transactions are committed to a journal, written out by
-//! `sync`, and recovered from what a crash leaves.
+//! `sync`, and counted again in what a crash leaves.
 //!
 //! What the layer above may rely on, over any `Disk`:
 //!
@@ -7,12 +7,18 @@
 //!    the first k entries of the journal, and no more than k were acknowledged by then
 //!    (`StandsSince`). Each call shows it after Ok and after each refusal, for each moment inside
 //!    it too; the engine's type keeps it in terms of a snapshot of the disk that `start` took.
-//! 2. `commit` adds one entry, with its place and its LSN, or changes nothing.
-//! 3. `sync` acknowledges the whole journal, after the log's sync and not before, and changes
-//!    nothing of the journal.
-//! 4. After a fault of the disk every call that can be refused answers `Down` with the same turn.
-//! 5. The log's file, which is interim: a header, two checkpoints and 256 ring blocks, of which each
-//!    holds one mini-transaction in clear.
+//! 2. The log's file at its last sync, which is what a crash leaves that loses each later write,
+//!    recovers to exactly the settled entries, and from `acked` to `settled` many were acknowledged
+//!    (`IsExact`). The two are equal but after an acknowledgement that the disk refused.
+//! 3. `commit` adds one entry, with its place and its LSN, or changes nothing.
+//! 4. `sync` acknowledges the whole journal, after the log's sync and not before, and changes
+//!    nothing of the journal. Its turns are a write for each pending block and one sync.
+//! 5. After a fault of the disk every call that can be refused answers `Down` with the same turn,
+//!    and after a refused growth of the disk `OutOfMemory`.
+//! 6. `scan` gives the texts of the longest run of valid blocks, as the disk reads. A file has one
+//!    such run, so an image that stands keeps as many entries as `scan` gives texts (`kept-scan`).
+//! 7. The log's file, which is interim: a header, two checkpoints and 256 ring blocks, of which each
+//!    holds one mini-transaction in clear. `create` makes it.
 #![tactic(auto)]
 
 mod block;
