@@ -100,7 +100,7 @@ impl<D: Disk + Drop> Engine<D> {
         ensures refused_refusable { IfErr result (λ r. Throughout AllRefusable (D.past disk) (D.past r.disk)) }
         ensures cause { IfErr result (λ r. r.why ≡ StartFault.DiskFault → Rose (D.faults disk) (D.faults r.disk)) }
         ensures want { IfErr result (λ r. r.why ≡ StartFault.OutOfMemory → Rose (D.wants disk) (D.wants r.disk)) }
-        ensures tells { IfErr result (λ r. r.why ≡ StartFault.DiskFault → (d : D) × D.may_fail_to_tell d) }
+        ensures tells { IfErr result (λ r. r.why ≡ StartFault.DiskFault → Somewhere D.may_fail_to_tell) }
         ensures later { IfOk result (λ e. D.goes_on disk e.disk) }
         ensures refused_later { IfErr result (λ r. D.goes_on disk r.disk) }
     {
@@ -185,8 +185,7 @@ impl<D: Disk + Drop> Engine<D> {
         ensures settled { OnErr result ((self.new.settled ≡ self.old.settled) ⊎ (self.new.settled ≡ length self.new.journal)) }
         ensures stands { StandsSince D.past self.new }
         ensures exact { At (IsExact self.new.journal self.new.settled self.new.acked) (D.past self.new.disk) }
-        ensures tells { IsEvenOr D.may_fail_to_tell self.new.state self.new.acked self.new.settled }
-        ensures later { D.goes_on self.old.disk self.new.disk }
+        ensures even { IsEvenOr D.may_fail_to_tell self.new.state self.new.acked self.new.settled }
     {
         check_up(self.state)?;
         if let Err(e) = write_out(&mut self.disk, &mut self.turns, &self.log) {

@@ -52,7 +52,6 @@ pub fn write_block<D: Disk>(
     requires more { i < length log.now.blocks.items }
     requires room { length log.now.blocks.items ≤ 256 }
     ensures step { Step (Moment log.now.blocks.items log.now.settled log.now.acked) (Ready log.now.blocks.items log.now.settled (i + 1) log.now.acked) (D.past disk.old) (D.past disk.new) result }
-    ensures later { D.goes_on disk.old disk.new }
     ensures cause { HasCause (D.faults disk.old) (D.faults disk.new) result }
     ensures want { HasWant (D.wants disk.old) (D.wants disk.new) result }
     ensures later { D.goes_on disk.old disk.new }
@@ -78,7 +77,6 @@ pub fn write_pending<D: Disk>(
     requires order { log.now.settled ≤ length log.now.blocks.items }
     requires counted { turns.old < 2 ^ 64 }
     ensures step { Step (Moment log.now.blocks.items log.now.settled log.now.acked) (Ready log.now.blocks.items log.now.settled (length log.now.blocks.items) log.now.acked) (D.past disk.old) (D.past disk.new) result }
-    ensures later { D.goes_on disk.old disk.new }
     ensures cause { HasCause (D.faults disk.old) (D.faults disk.new) result }
     ensures want { HasWant (D.wants disk.old) (D.wants disk.new) result }
     ensures later { D.goes_on disk.old disk.new }
@@ -131,8 +129,6 @@ pub fn tell_acked<D: Disk>(disk: &mut D, log: &PlainLog) -> Result<(), DiskError
     requires order { log.now.acked ≤ log.now.settled }
     requires ready { At (Ready log.now.blocks.items log.now.settled log.now.settled log.now.acked) (D.past disk.old) }
     ensures step { Step (Moment log.now.blocks.items log.now.settled log.now.acked) (Ready log.now.blocks.items log.now.settled log.now.settled log.now.settled) (D.past disk.old) (D.past disk.new) result }
-    ensures later { D.goes_on disk.old disk.new }
-    ensures tells { IsErrOf result DiskError.Failed → D.may_fail_to_tell disk.old }
     ensures cause { HasCause (D.faults disk.old) (D.faults disk.new) result }
     ensures want { HasWant (D.wants disk.old) (D.wants disk.new) result }
     ensures later { D.goes_on disk.old disk.new }

@@ -42,9 +42,3 @@ returns-then-log-len-clause-turns g c =
     let all : c.args.log.now.settled ≡ length c.args.log.now.blocks.items = search rules in
     let none : length c.args.log.now.blocks.items - c.args.log.now.settled ≡ 0 = omega (arith, all) in
     turns_same c.args.turns.now _ c.requires.counted (none_of _ none)
-
-pub returns-then-log-len-clause-later : goal.returns-then-log-len-clause-later
-returns-then-log-len-clause-later g c = g.met.D.Disk.goes_on_same _
-
-pub returns-clause-later : goal.returns-clause-later
-returns-clause-later g c = g.met.D.Disk.goes_on_then _ _ _ c.write_pending.ensures.later c.sync_log.ensures.later

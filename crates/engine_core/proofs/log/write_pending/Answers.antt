@@ -12,7 +12,6 @@ loop-i-init g c = record {
   ready = c.requires.ready;
   moments = begins (Moment c.args.log.now.blocks.items c.args.log.now.settled c.args.log.now.acked) _ (at_each (ready_moment c.args.log.now.blocks.items c.args.log.now.settled c.args.log.now.settled c.args.log.now.acked) c.requires.ready);
   turns = turns_same c.args.turns.now _ c.requires.counted (omega arith);
-  later = g.met.D.Disk.goes_on_same _;
   faults = omega arith;
   wants = omega arith;
   later = g.met.D.Disk.goes_on_same c.args.disk.now;
@@ -31,7 +30,6 @@ loop-i-preserved g c = record {
   turns =
       let before : c.loop-i.i - c.args.log.now.settled + 1 ≡ c.loop-i.i + 1 - c.args.log.now.settled = omega (arith, c.loop-i.auto.i-end) in
       c.in_ok-write_block.ensures.turns ∙ ap (λ n. turns_after n 1) c.loop-i.invariant.turns ∙ turns_more c.args.turns.now (c.loop-i.i - c.args.log.now.settled) 1 ∙ ap (turns_after c.args.turns.now) before;
-  later = g.met.D.Disk.goes_on_then _ _ _ c.loop-i.invariant.later c.write_block.ensures.later;
   faults = omega (arith, c.loop-i.invariant.faults, c.in_ok-write_block.ensures.cause.later);
   wants = omega (arith, c.loop-i.invariant.wants, c.in_ok-write_block.ensures.want.later);
   later = g.met.D.Disk.goes_on_then _ _ _ c.loop-i.invariant.later c.in_ok-write_block.ensures.later;
@@ -43,6 +41,3 @@ returns-clause-step g c =
     let order : c.args.log.now.settled ≤ c.len-i-end.result = omega (arith, long) in
     let all : c.loop-i.i ≡ length c.args.log.now.blocks.items = omega (arith, c.loop-i.auto.i-end order, long) in
     finished c.loop-i.invariant.moments (subst (λ n. At (Ready c.args.log.now.blocks.items c.args.log.now.settled n c.args.log.now.acked) (g.D.Disk.past c.loop-i.disk)) all c.loop-i.invariant.ready)
-
-pub returns-in_err-write_block-clause-later : goal.returns-in_err-write_block-clause-later
-returns-in_err-write_block-clause-later g c = g.met.D.Disk.goes_on_then _ _ _ c.loop-i.invariant.later c.write_block.ensures.later

@@ -9,7 +9,6 @@ invariant-loop-i g l = record {
   ready : At (Ready l.log.blocks.items l.log.settled l.i l.log.acked) (g.D.Disk.past l.disk);
   moments : Throughout (Moment l.log.blocks.items l.log.settled l.log.acked) (g.D.Disk.past l.fn.disk) (g.D.Disk.past l.disk);
   turns : l.turns ≡ turns_after l.fn.turns (l.i - l.log.settled);
-  later : g.D.Disk.goes_on l.fn.disk l.disk;
   faults : g.D.Disk.faults l.fn.disk ≤ g.D.Disk.faults l.disk;
   wants : g.D.Disk.wants l.fn.disk ≤ g.D.Disk.wants l.disk;
   later : g.D.Disk.goes_on l.fn.disk l.disk;
