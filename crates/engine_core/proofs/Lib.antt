@@ -10,3 +10,4 @@ pub mod Fresh
 pub mod BlocksRead
 pub mod RunLength
 pub mod TurnCounts
+pub mod Crashes

@@ -70,9 +70,9 @@ same_or_apart : (v w : Pending) → IsBlockWrite v → IsBlockWrite w → IsSame
 same_or_apart v w a b = ⊎_elim
     (λ (e : a.place ≡ b.place). inl (a.at ∙ ap (λ (n : ℕ). n * 4096) e ∙ sym b.at, a.size ∙ sym b.size))
     (λ (ne : a.place ≡ b.place → ⊥). ⊎_elim
-        (λ (lt : a.place < b.place). inr (inl (omega (arith, lt, a.at, b.at, a.size))))
-        (λ (ge : b.place ≤ a.place). inr (inr (omega (arith, ge, ne, a.at, b.at, b.size))))
-        (cases_lt a.place b.place))
+    (λ (lt : a.place < b.place). inr (inl (omega (arith, lt, a.at, b.at, a.size))))
+    (λ (ge : b.place ≤ a.place). inr (inr (omega (arith, ge, ne, a.at, b.at, b.size))))
+    (cases_lt a.place b.place))
     (cases_eq a.place b.place)
 
 are_apart : (f : FileName) (v : Pending) (ws : List Pending) → IsBlockWrite v → AreBlockWrites ws → AreApart f v.at (length v.bytes) ws
@@ -82,11 +82,13 @@ are_apart f v (w ∷ ws) a are = (λ same. same_or_apart v w a are.0, are_apart 
 are_refusable : (f : FileName) (size : ℕ) → (f ≡ Log → size ≡ 1060864) → (ws : List Pending) → AreBlockWrites ws → AreRefusable f (passes f) size ws
 are_refusable f size is [] are = tt
 are_refusable f size is (w ∷ ws) are =
-    let b = are.0 in
-    (λ same.
-    let log : f ≡ Log = same_file-≡ f w.file same ∙ b.file in
-    (omega (arith, is log, b.at, b.size, b.within), subst (λ (g : FileName). passes g (torn_bytes w.bytes) ≡ false) (sym log) (torn_refused w.bytes b.size b.sum)),
-    are_apart f w ws b are.1, are_refusable f size is ws are.1)
+    let b = are.0 in (
+      λ same.
+          let log : f ≡ Log = same_file-≡ f w.file same ∙ b.file in
+          (omega (arith, is log, b.at, b.size, b.within), subst (λ (g : FileName). passes g (torn_bytes w.bytes) ≡ false) (sym log) (torn_refused w.bytes b.size b.sum)),
+      are_apart f w ws b are.1,
+      are_refusable f size is ws are.1,
+    )
 
 pub all_refusable : (blocks : List (List ℕ)) (settled acked : ℕ) (es : List Event) → Moment blocks settled acked es → AllRefusable es
 all_refusable blocks settled acked es m = λ f. are_refusable f (length (synced_bytes f es)) (λ is. ap (λ (g : FileName). length (synced_bytes g es)) is ∙ m.synced.size) (unsynced_writes es) m.pending

@@ -54,9 +54,13 @@ pub record IsExact (journal : List Entry) (settled acked : ℕ) (es : List Event
   pub least : acked ≤ acked_of (marks es)
   pub most : acked_of (marks es) ≤ settled
 
+-- some disk of this type has the property
+abbrev pub Somewhere : {D : Type 0} → (D → Type 0) → Type 0
+Somewhere {D} P = (d : D) × P d
+
 -- Where no memory was refused, as many were acknowledged as are settled, or the `tell` of a disk may fail.
 abbrev pub IsEvenOr : {D : Type 0} → (D → Type 0) → State → ℕ → ℕ → Type 0
-IsEvenOr {D} may_fail_to_tell state acked settled = state ≢ Starved → (acked ≡ settled) ⊎ ((d : D) × may_fail_to_tell d)
+IsEvenOr may_fail_to_tell state acked settled = state ≢ Starved → (acked ≡ settled) ⊎ Somewhere may_fail_to_tell
 
 -- The type of an engine keeps this, by what is known of its disk: the past, and that a `tell` may fail.
 pub record IsSound {D : Type 0} (past : D → Past) (may_fail_to_tell : D → Type 0) (blocks : List (List ℕ)) (r : Running D) : Type 0 where

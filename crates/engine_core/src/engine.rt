@@ -63,6 +63,7 @@ pub struct Halted<D> {
 fn after_fault(e: DiskError, turns: u64) -> (State, EngineFault)
     ensures failed { e ≡ DiskError.Failed → result ≡ (State.Down turns, EngineFault.DiskFault turns) }
     ensures down { result.0 ≢ State.Up }
+    ensures why { (turn : ℕ) → result.1 ≡ EngineFault.DiskFault turn → e ≡ DiskError.Failed }
     ensures refused { e ≡ DiskError.NoMemory → result ≡ (State.Starved, EngineFault.OutOfMemory) }
 {
     match e {
@@ -84,7 +85,7 @@ fn check_up(state: State) -> Result<(), EngineFault>
 }
 
 impl<D: Disk + Drop> Engine<D> {
-    ghost use Rattle.engine_core.specs.Kept.{IsExact, StandsSince, AreEntries, with_journal};
+    ghost use Rattle.engine_core.specs.Kept.{IsExact, Somewhere, StandsSince, AreEntries, with_journal};
 
     /// Starts a session on a log that holds no mini-transaction, as `create` makes it: tells `Started`,
     /// and takes the snapshot from which on each image stands for a beginning of the journal. A
@@ -99,7 +100,7 @@ impl<D: Disk + Drop> Engine<D> {
         ensures refused_refusable { IfErr result (λ r. Throughout AllRefusable (D.past disk) (D.past r.disk)) }
         ensures cause { IfErr result (λ r. r.why ≡ StartFault.DiskFault → Rose (D.faults disk) (D.faults r.disk)) }
         ensures want { IfErr result (λ r. r.why ≡ StartFault.OutOfMemory → Rose (D.wants disk) (D.wants r.disk)) }
-        ensures tells { IfErr result (λ r. r.why ≡ StartFault.DiskFault → (d : D) × D.may_fail_to_tell d) }
+        ensures tells { IfErr result (λ r. r.why ≡ StartFault.DiskFault → Somewhere D.may_fail_to_tell) }
         ensures later { IfOk result (λ e. D.goes_on disk e.disk) }
         ensures refused_later { IfErr result (λ r. D.goes_on disk r.disk) }
     {
@@ -178,12 +179,13 @@ impl<D: Disk + Drop> Engine<D> {
         ensures starved { result ≡ Err EngineFault.OutOfMemory → (self.new.state ≡ State.Starved) × ((self.old.state ≡ State.Starved) ⊎ Rose (D.wants self.old.disk) (D.wants self.new.disk)) }
         ensures turns { OnOk result (self.new.turns ≡ turns_after self.old.turns (turns_of (length self.old.journal - self.old.settled))) }
         ensures turn { (turn : ℕ) → result ≡ Err (EngineFault.DiskFault turn) → turn ≤ turns_after self.old.turns (turns_of (length self.old.journal - self.old.settled)) }
+        ensures later { D.goes_on self.old.disk self.new.disk }
+        ensures tells { (turn : ℕ) → result ≡ Err (EngineFault.DiskFault turn) → (self.new.settled ≡ self.old.settled) ⊎ Somewhere D.may_fail_to_tell }
         ensures unacked { OnErr result (self.new.acked ≡ self.old.acked) }
         ensures settled { OnErr result ((self.new.settled ≡ self.old.settled) ⊎ (self.new.settled ≡ length self.new.journal)) }
         ensures stands { StandsSince D.past self.new }
         ensures exact { At (IsExact self.new.journal self.new.settled self.new.acked) (D.past self.new.disk) }
-        ensures tells { IsEvenOr D.may_fail_to_tell self.new.state self.new.acked self.new.settled }
-        ensures later { D.goes_on self.old.disk self.new.disk }
+        ensures even { IsEvenOr D.may_fail_to_tell self.new.state self.new.acked self.new.settled }
     {
         check_up(self.state)?;
         if let Err(e) = write_out(&mut self.disk, &mut self.turns, &self.log) {

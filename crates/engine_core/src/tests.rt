@@ -1,7 +1,7 @@
 ghost use Rattle.std.specs.Prelude.{◌≡◌, [], IfOk};
 ghost use Rattle.engine_core.specs.Text.{IsSmall};
 
-use crate::{Author, Engine, EngineFault, StartFault, create, scan};
+use crate::{Author, Engine, EngineFault, StartFault, State, create, scan};
 use disk_model::{Choice, Disk, FileName, MemDisk};
 use std::alloc::{AllocError, Global};
 use std::test::Fail;
@@ -101,6 +101,11 @@ fn a_commit_is_acknowledged_or_the_engine_is_down(rt: HostRuntime) -> Result<(),
     assert_eq!(rt; receipt.place, 1);
     assert_eq!(rt; receipt.lsn, 12288);
     assert_eq!(rt; engine.journal().len(), 1);
+    assert!(rt; (engine.settled(), engine.acked(), engine.turns()) == (0, 0, 0));
+    let synced = engine.sync()?;
+    assert_eq!(rt; synced, 1);
+    assert!(rt; (engine.settled(), engine.acked(), engine.turns()) == (1, 1, 2));
+    assert!(rt; engine.state() == State::Up);
     let done = kept(alloc, 1_000_000)?;
     assert!(rt; done == (Ok(1), Ok(1), [1, 1, 1]));
     let fault = Err(EngineFault::DiskFault { turn: 1 });

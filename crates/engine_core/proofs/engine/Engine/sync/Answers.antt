@@ -1,5 +1,6 @@
-use Rattle.std.proofs.Common.{◌≡◌, length, refl, inl, inr, arith, rules}
+use Rattle.std.proofs.Common.{◌≡◌, ◌∙◌, length, refl, ap, Err, inl, inr, arith, rules}
 use Rattle.disk_model.proofs.Moments.{and_then, at_last, at_each, weaker}
+use Rattle.engine_core.specs.declared.fault.EngineFault.TheVariants.{DiskFault}
 use Rattle.engine_core.specs.Layer.{IsCrashSafe, Moment}
 use Rattle.engine_core.proofs.Events.{ready_moment, moment_safe}
 use Rattle.engine_core.proofs.Keeping.{sound_after, failed_of}
@@ -69,11 +70,17 @@ returns-in-Err-tell_acked-clause-exact g c = (invariant_of-self-in-Err-tell_acke
 pub returns-clause-exact : goal.returns-clause-exact
 returns-clause-exact g c = (invariant_of-self-2 g c).exact
 
-pub returns-in-Err-clause-tells : goal.returns-in-Err-clause-tells
-returns-in-Err-clause-tells g c = (invariant_of-self g c).tells
+pub returns-in-Err-clause-even : goal.returns-in-Err-clause-even
+returns-in-Err-clause-even g c = (invariant_of-self g c).tells
+
+pub returns-in-Err-tell_acked-clause-even : goal.returns-in-Err-tell_acked-clause-even
+returns-in-Err-tell_acked-clause-even g c = (invariant_of-self-in-Err-tell_acked g c).tells
+
+pub returns-clause-even : goal.returns-clause-even
+returns-clause-even g c = (invariant_of-self-2 g c).tells
 
 pub returns-in-Err-tell_acked-clause-tells : goal.returns-in-Err-tell_acked-clause-tells
-returns-in-Err-tell_acked-clause-tells g c = (invariant_of-self-in-Err-tell_acked g c).tells
-
-pub returns-clause-tells : goal.returns-clause-tells
-returns-clause-tells g c = (invariant_of-self-2 g c).tells
+returns-in-Err-tell_acked-clause-tells g c = λ turn is.
+    let fault : c.after_fault-state-in-Err-tell_acked.result.1 ≡ DiskFault turn = cc in
+    let failed = c.after_fault-state-in-Err-tell_acked.ensures.why turn fault in
+    inr (c.write_out.new.disk, c.tell_acked.ensures.tells (c.in-Err-tell_acked.is ∙ ap (λ e. Err e) failed))
