@@ -1,0 +1,23 @@
+-- A list of bytes cut at two places.
+use Rattle.std.proofs.Common.{◌≡◌, ℕ, ◌+◌, ◌-◌, ◌≤◌, List, ◌++◌, length, length-drop, take, drop, sym, ap, ◌∙◌, arith, drop-drop, take-append-drop}
+use Rattle.std.proofs.Math.Seq.{take-length}
+use Rattle.page_text.specs.Parts.{part_of, IsPageSize, header, body, trailer}
+
+-- the bytes before a place, from there up to another, and after are all of them
+pub cut_at : (xs : List ℕ) (i j : ℕ) → i ≤ j → take i xs ++ (part_of xs i j ++ drop j xs) ≡ xs
+cut_at xs i j le =
+    let rest : drop (j - i) (drop i xs) ≡ drop j xs = drop-drop (j - i) i xs ∙ ap (λ n. drop n xs) (let e : i + (j - i) ≡ j = omega arith in e) in
+    let inner : part_of xs i j ++ drop j xs ≡ drop i xs = ap (λ t. part_of xs i j ++ t) (sym rest) ∙ take-append-drop (j - i) (drop i xs) in
+    ap (λ t. take i xs ++ t) inner ∙ take-append-drop i xs
+
+pub longer : (n : ℕ) → IsPageSize n → 46 ≤ n
+longer n size = grind arith
+
+-- a part up to the end
+part_rest : (xs : List ℕ) (i : ℕ) → part_of xs i (length xs) ≡ drop i xs
+part_rest xs i = ap (λ n. take n (drop i xs)) (sym (length-drop i xs)) ∙ take-length (drop i xs)
+
+pub parts_joined : (page : List ℕ) → IsPageSize (length page) → header page ++ (body page ++ trailer page) ≡ page
+parts_joined page size =
+    let enough : 46 ≤ length page = longer (length page) size in
+    ap (λ t. take 38 page ++ (body page ++ t)) (part_rest page (length page - 8)) ∙ cut_at page 38 (length page - 8) (omega arith)
