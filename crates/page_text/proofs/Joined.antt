@@ -1,7 +1,7 @@
 -- A list of bytes cut at two places.
-use Rattle.std.proofs.Common.{◌≡◌, ℕ, ◌+◌, ◌-◌, ◌≤◌, List, ◌++◌, length, length-drop, take, drop, sym, ap, ◌∙◌, arith, drop-drop, take-append-drop}
+use Rattle.std.proofs.Common.{◌≡◌, ℕ, ◌+◌, ◌-◌, ◌≤◌, List, ◌++◌, length, length-append, length-drop, length-take, take, drop, sym, ap, subst, ◌∙◌, arith, drop-drop, take-append-drop}
 use Rattle.std.proofs.Math.Seq.{take-length}
-use Rattle.page_text.specs.Parts.{part_of, IsPageSize, header, body, trailer}
+use Rattle.page_text.specs.Parts.{part_of, with_part, IsPageSize, header, body, trailer}
 
 -- the bytes before a place, from there up to another, and after are all of them
 pub cut_at : (xs : List ℕ) (i j : ℕ) → i ≤ j → take i xs ++ (part_of xs i j ++ drop j xs) ≡ xs
@@ -21,3 +21,11 @@ pub parts_joined : (page : List ℕ) → IsPageSize (length page) → header pag
 parts_joined page size =
     let enough : 46 ≤ length page = longer (length page) size in
     ap (λ t. take 38 page ++ (body page ++ t)) (part_rest page (length page - 8)) ∙ cut_at page 38 (length page - 8) (omega arith)
+
+-- a part that is as long as the one in whose place it is put keeps the page's length
+pub length_with_part : (page : List ℕ) (at to : ℕ) (part : List ℕ) → length part + at ≡ to → to ≤ length page → length (with_part page at to part) ≡ length page
+length_with_part page at to part long inside =
+    omega (arith, length-append (take at page) (part ++ drop to page), length-append part (drop to page), length-take at page, length-drop to page)
+
+pub stays_a_page : (page : List ℕ) (at to : ℕ) (part : List ℕ) → IsPageSize (length page) → length part + at ≡ to → to ≤ length page → IsPageSize (length (with_part page at to part))
+stays_a_page page at to part size long inside = subst IsPageSize (sym (length_with_part page at to part long inside)) size

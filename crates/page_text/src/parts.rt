@@ -1,6 +1,6 @@
 // A page that is written in place, through the parts that it lends.
 
-ghost use Rattle.std.specs.Prelude.{◌≡◌, ℕ, ◌-◌, ◌≤◌, Bool, true, List, length, IfSome, MatchOption};
+ghost use Rattle.std.specs.Prelude.{◌≡◌, ℕ, ◌+◌, ◌-◌, ◌≤◌, Bool, true, List, length, IfSome, MatchOption};
 ghost use Rattle.std.specs.Borrow.{sem, Lends, Array, u8};
 ghost use Rattle.page_text.specs.Parts.{IsPageSize, body, cipher_part, header, part_of, trailer, with_part};
 
@@ -29,7 +29,7 @@ pub trait PageBytes {
     fn part_mut(&mut self, at: usize, to: usize) -> &mut [u8]
         requires { (at ≤ to) × (to ≤ length (Self.bytes self.old)) }
         ensures* writes_back { sem 𝓛 (Lends Self.row (Array u8 0) self.entry result (λ part. Self.with_bytes self.old (with_part (Self.bytes self.old) at to part))) }
-        ensures value { result.now ≡ part_of (Self.bytes self.old) at to };
+        ensures value { (result.now ≡ part_of (Self.bytes self.old) at to) × (length result.now + at ≡ to) };
 }
 
 impl PageBytes for &mut [u8] {
@@ -93,18 +93,20 @@ impl<B: PageBytes> WritablePage<B> {
 
     /// Bytes 0 to 38, to be written.
     pub fn header_mut(&mut self) -> &mut [u8]
-        requires { IsPageSize (length (B.bytes self.old.bytes)) }
+        requires { 46 ≤ length (B.bytes self.old.bytes) }
         ensures* writes_back { sem 𝓛 (LendsPart B.row B.bytes B.with_bytes self.entry 0 38 result) }
         ensures value { result.now ≡ header (B.bytes self.old.bytes) }
+        ensures long { length result.now ≡ 38 }
     {
         self.bytes.part_mut(0, 38)
     }
 
     /// The bytes from 38 up to the last eight, to be written.
     pub fn body_mut(&mut self) -> &mut [u8]
-        requires { IsPageSize (length (B.bytes self.old.bytes)) }
+        requires { 46 ≤ length (B.bytes self.old.bytes) }
         ensures* writes_back { sem 𝓛 (LendsPart B.row B.bytes B.with_bytes self.entry 38 (length (B.bytes self.old.bytes) - 8) result) }
         ensures value { result.now ≡ body (B.bytes self.old.bytes) }
+        ensures long { length result.now + 46 ≡ length (B.bytes self.old.bytes) }
     {
         let end = self.bytes.count() - 8;
         self.bytes.part_mut(38, end)
@@ -112,9 +114,10 @@ impl<B: PageBytes> WritablePage<B> {
 
     /// The part that is ciphered, to be written: the bytes from 26 up to the last four.
     pub fn cipher_mut(&mut self) -> &mut [u8]
-        requires { IsPageSize (length (B.bytes self.old.bytes)) }
+        requires { 46 ≤ length (B.bytes self.old.bytes) }
         ensures* writes_back { sem 𝓛 (LendsPart B.row B.bytes B.with_bytes self.entry 26 (length (B.bytes self.old.bytes) - 4) result) }
         ensures value { result.now ≡ cipher_part (B.bytes self.old.bytes) }
+        ensures long { length result.now + 30 ≡ length (B.bytes self.old.bytes) }
     {
         let end = self.bytes.count() - 4;
         self.bytes.part_mut(26, end)
@@ -122,9 +125,10 @@ impl<B: PageBytes> WritablePage<B> {
 
     /// The last eight bytes, to be written.
     pub fn trailer_mut(&mut self) -> &mut [u8]
-        requires { IsPageSize (length (B.bytes self.old.bytes)) }
+        requires { 46 ≤ length (B.bytes self.old.bytes) }
         ensures* writes_back { sem 𝓛 (LendsPart B.row B.bytes B.with_bytes self.entry (length (B.bytes self.old.bytes) - 8) (length (B.bytes self.old.bytes)) result) }
         ensures value { result.now ≡ trailer (B.bytes self.old.bytes) }
+        ensures long { length result.now ≡ 8 }
     {
         let end = self.bytes.count();
         self.bytes.part_mut(end - 8, end)

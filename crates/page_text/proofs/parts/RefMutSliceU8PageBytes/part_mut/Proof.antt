@@ -64,6 +64,7 @@ part_mut_spec 𝓤 𝓛 𝓜 𝓡 wired =
     let i = a.1.0 in let j = a.1.1.0 in let Sl = Inner κs.1.0 in
     let b' = x.ref_ptr.0 in let o' = x.ref_ptr.1 in let front = take i xs in let run = take (j - i) (drop_list i xs) in let back = drop_list j xs in
     let long : length front ≡ i = length-front xs i j le.0 le.1 in let count : length run ≡ j - i = length-run xs i j le.0 le.1 in
+    let told : (run ≡ run) × (length run + i ≡ j) = (refl, omega (arith, count)) in
     let fits : j < 2 ^ 64 = are.1.1.0.1 in let shorter : j - i < 2 ^ 64 = omega arith in
     let y : W.Ghost = ((κs, qs, bounds, a, (mut_vals a.0, (uint_vals w64 i, (uint_vals w64 j, tt)))), tt) in
     qed 𝓛 ((‵ (flft κ q) ⊛ (‵ (flft κs.1.0 qs.1.0) ⊛ ‵ ftrue)) ∷ ‵ (owns (types_at f.ended.signature.params κs) a y.0.4) ∷ []) ∵
@@ -96,4 +97,4 @@ part_mut_spec 𝓤 𝓛 𝓜 𝓡 wired =
     -- [what the outer ends as; the run; the tokens]
     returns ! (look_at ! 0 refl) $ free_all ! refl $
     suffices ! _ (ends_at 𝓛 f.ended stayed c y (slice_val (b', i + o') (j - i)) (record { ref_ptr = (b', i + o'); ghost_name = ε; now = run }) (tt, (tt, (tt, tt))) (tt, (tt, (tt, tt)))) $
-    nothing ! $ nothing ! $ fjoin ! $ nothing ! $ fjoin ! $ nothing ! $ fjoin ! $ move ! (0 ∷ 2 ∷ []) $ join ! $ move ! (2 ∷ 3 ∷ []) $ join ! $ join ! $ frame ! $ says ! refl $ done !)))))))
+    nothing ! $ nothing ! $ fjoin ! $ nothing ! $ fjoin ! $ nothing ! $ fjoin ! $ move ! (0 ∷ 2 ∷ []) $ join ! $ move ! (2 ∷ 3 ∷ []) $ join ! $ join ! $ frame ! $ says ! told $ done !)))))))
