@@ -12,5 +12,5 @@ mod view;
 pub use parts::{PageBytes, PageMut, WritablePage, is_page_size};
 pub use view::PageView;
 
-
+#[cfg(test)]
 mod tests;
