@@ -42,7 +42,7 @@ impl<'a> PageView<'a> {
     }
 
     /// The bytes from 38 up to the last eight.
-    #[tactic(auto, using(crate::proofs::Joined::parts_joined))]
+    #[tactic(auto, using(crate::proofs::PartLaws::parts_joined))]
     pub fn body(&self) -> &'a [u8]
         ensures value { result.now ≡ body self.now }
         ensures joined { header self.now ++ (result.now ++ trailer self.now) ≡ self.now }

@@ -1,5 +1,6 @@
--- A list of bytes cut at two places.
-use Rattle.std.proofs.Common.{◌≡◌, ℕ, ◌+◌, ◌-◌, ◌≤◌, List, ◌++◌, length, length-append, length-drop, length-take, take, drop, sym, ap, subst, ◌∙◌, arith, drop-drop, take-append-drop}
+-- The parts of a list of bytes, read and put in place of others.
+use Rattle.std.proofs.Common.{◌≡◌, ℕ, ◌+◌, ◌-◌, ◌<◌, ◌≤◌, List, ◌++◌, length, length-append, length-drop, length-take, take, drop, set, sym, ap, subst, ◌∙◌, arith, drop-drop, take-append-drop}
+use Rattle.std.proofs.lemmas.List.{set-append_left, set-append_right}
 use Rattle.std.proofs.Math.Seq.{take-length}
 use Rattle.page_text.specs.Parts.{part_of, with_part, IsPageSize, header, body, trailer}
 
@@ -29,3 +30,16 @@ length_with_part page at to part long inside =
 
 pub stays_a_page : (page : List ℕ) (at to : ℕ) (part : List ℕ) → IsPageSize (length page) → length part + at ≡ to → to ≤ length page → IsPageSize (length (with_part page at to part))
 stays_a_page page at to part size long inside = subst IsPageSize (sym (length_with_part page at to part long inside)) size
+
+-- a byte that is set in a part is set in the page
+pub set_in_part : (page : List ℕ) (at to i x : ℕ) → at ≤ to → to ≤ length page → at + i < to → with_part page at to (set (part_of page at to) i x) ≡ set page (at + i) x
+set_in_part page at to i x le inside below =
+    let front : length (take at page) ≡ at = omega (arith, length-take at page) in
+    let inner : i < length (part_of page at to) = omega (arith, length-take (to - at) (drop at page), length-drop at page) in
+    let back : at + i - at ≡ i = omega arith in
+    let whole : set page (at + i) x ≡ set (take at page ++ (part_of page at to ++ drop to page)) (at + i) x = ap (λ p. set p (at + i) x) (sym (cut_at page at to le)) in
+    let past : set (take at page ++ (part_of page at to ++ drop to page)) (at + i) x ≡ take at page ++ set (part_of page at to ++ drop to page) (at + i - at) x =
+    set-append_right (take at page) (part_of page at to ++ drop to page) at (at + i) x front (omega arith) in
+    let within : set (part_of page at to ++ drop to page) (at + i - at) x ≡ set (part_of page at to) i x ++ drop to page =
+    ap (λ k. set (part_of page at to ++ drop to page) k x) back ∙ set-append_left (part_of page at to) (drop to page) i x inner in
+    sym (whole ∙ (past ∙ ap (λ t. take at page ++ t) within))
