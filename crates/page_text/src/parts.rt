@@ -12,8 +12,9 @@ pub fn is_page_size(length: usize) -> bool
     matches!(length, 4096 | 8192 | 16384 | 32768 | 65536)
 }
 
-/// Bytes that lend their parts to be written, as a `&mut [u8]` does. It stands between a page and
-/// its bytes so that what is written through a part is known of the page.
+/// Bytes that lend their parts to be written, as a `&mut [u8]` does. A page is generic over them,
+/// since a proof follows what is written through a part of a slice that a struct holds only where
+/// the slice stands behind a type parameter.
 pub trait PageBytes {
     /// The bytes, as a list.
     ghost bytes: { Self → List ℕ };
@@ -54,7 +55,7 @@ pub struct WritablePage<B> {
 }
 
 /// A page that is written in place in a borrowed slice. In contracts `bytes.now` of it is the list
-/// of its bytes.
+/// of its bytes, and `bytes.ghost_name` stands for the slice: what takes a `&mut PageMut` keeps it.
 pub type PageMut<'a> = WritablePage<&'a mut [u8]>;
 
 impl<'a> WritablePage<&'a mut [u8]> {
@@ -91,7 +92,8 @@ impl<'a> WritablePage<&'a mut [u8]> {
 impl<B: PageBytes> WritablePage<B> {
     ghost use Rattle.page_text.specs.Lends.{LendsPart};
 
-    /// Bytes 0 to 38, to be written.
+    /// Bytes 0 to 38, to be written. Each part needs the 46 bytes of header and trailer, which a page
+    /// of every size has.
     pub fn header_mut(&mut self) -> &mut [u8]
         requires { 46 ≤ length (B.bytes self.old.bytes) }
         ensures* writes_back { sem 𝓛 (LendsPart B.row B.bytes B.with_bytes self.entry 0 38 result) }
