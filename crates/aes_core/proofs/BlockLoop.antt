@@ -1,0 +1,91 @@
+-- One step of a loop that writes a text block by block: what is written so far, and the rest as it was.
+use Rattle.std.proofs.Common.{◌≡◌, ℕ, zero, suc, ◌+◌, ◌*◌, ◌<◌, ◌≤◌, List, [], ◌++◌, length, take, drop, refl, sym, ap, ◌∙◌, arith, add-one, length-append, length-drop, append_assoc}
+use Rattle.std.proofs.lemmas.List.{append-nil, drop-drop, drop_all, drop_at, length-take-le, take_all, take_at}
+use borrow.Author.Count.{below_more}
+use borrow.Rule.Slice.PartMut.{mid_of, post_of, put_mid, same_len_mid}
+use Rattle.aes_core.specs.Modes.{block_at, joined}
+
+-- the first n are blocks
+pub record AreBlocks (f : ℕ → List ℕ) (n : ℕ) : Type 0 where
+  pub long : (j : ℕ) → j < n → length (f j) ≡ 16
+
+pub length-joined : (f : ℕ → List ℕ) (n : ℕ) → AreBlocks f n → length (joined f n) ≡ 16 * n
+unfolding joined
+length-joined f zero h = refl
+length-joined f (suc n) h =
+    let before : length (joined f n) ≡ 16 * n = length-joined f n (record { long = λ j lt. h.long j (omega arith) }) in
+    omega (arith, length-append (joined f n) (f n), before, h.long n (omega arith))
+
+pub length-block_at : (xs : List ℕ) (i : ℕ) → 16 * i + 16 ≤ length xs → length (block_at xs i) ≡ 16
+length-block_at xs i h = length-take-le 16 (drop (16 * i) xs) (omega (arith, length-drop (16 * i) xs))
+
+-- what is read is the block as it was
+pub read_block : (f : ℕ → List ℕ) (xs : List ℕ) (i k : ℕ) → AreBlocks f i → k ≡ 16
+    → take k (drop (16 * i) (joined f i ++ drop (16 * i) xs)) ≡ block_at xs i
+read_block f xs i k h e =
+    ap (λ (n : ℕ). take n (drop (16 * i) (joined f i ++ drop (16 * i) xs))) e
+    ∙ ap (take 16) (drop_at (joined f i) (drop (16 * i) xs) (16 * i) (length-joined f i h))
+
+joined_more : (f : ℕ → List ℕ) (n : ℕ) → joined f (n + 1) ≡ joined f n ++ f n
+unfolding joined
+joined_more f n = rw add-one refl
+
+-- what is written is the next block
+pub write_block : (f : ℕ → List ℕ) (xs ys : List ℕ) (i k : ℕ) → AreBlocks f i → k ≡ 16 → ys ≡ f i
+    → put_mid (16 * i) k (joined f i ++ drop (16 * i) xs) ys ≡ joined f (i + 1) ++ drop (16 * (i + 1)) xs
+write_block f xs ys i k h e made =
+    let len : length (joined f i) ≡ 16 * i = length-joined f i h in
+    let at : 16 * i + 16 ≡ 16 * (i + 1) = omega arith in
+    let rest : post_of (16 * i) k (joined f i ++ drop (16 * i) xs) ≡ drop (16 * (i + 1)) xs =
+    ap (drop k) (drop_at (joined f i) (drop (16 * i) xs) (16 * i) len) ∙ ap (λ (n : ℕ). drop n (drop (16 * i) xs)) e
+    ∙ drop-drop 16 (16 * i) xs ∙ ap (λ (n : ℕ). drop n xs) at in
+    (λ t. take_at (joined f i) (drop (16 * i) xs) (16 * i) len t ++ (made t ++ rest t))
+    ∙ sym (append_assoc (joined f i) (f i) (drop (16 * (i + 1)) xs))
+    ∙ ap (λ (l : List ℕ). l ++ drop (16 * (i + 1)) xs) (sym (joined_more f i))
+
+-- the part after the blocks is read and written
+pub read_tail : (f : ℕ → List ℕ) (xs : List ℕ) (n k : ℕ) → AreBlocks f n → length xs ≤ 16 * n + k
+    → take k (drop (16 * n) (joined f n ++ drop (16 * n) xs)) ≡ drop (16 * n) xs
+read_tail f xs n k h le =
+    ap (take k) (drop_at (joined f n) (drop (16 * n) xs) (16 * n) (length-joined f n h)) ∙ take_all k (drop (16 * n) xs) (omega (arith, length-drop (16 * n) xs))
+
+pub write_tail : (f : ℕ → List ℕ) (xs ys : List ℕ) (n k : ℕ) → AreBlocks f n → length xs ≤ 16 * n + k
+    → put_mid (16 * n) k (joined f n ++ drop (16 * n) xs) ys ≡ joined f n ++ ys
+write_tail f xs ys n k h le =
+    let len : length (joined f n) ≡ 16 * n = length-joined f n h in
+    let rest : post_of (16 * n) k (joined f n ++ drop (16 * n) xs) ≡ [] =
+    ap (drop k) (drop_at (joined f n) (drop (16 * n) xs) (16 * n) len) ∙ drop_all k (drop (16 * n) xs) (omega (arith, length-drop (16 * n) xs)) in
+    (λ t. take_at (joined f n) (drop (16 * n) xs) (16 * n) len t ++ (ys ++ rest t)) ∙ ap (λ (l : List ℕ). joined f n ++ l) (append-nil ys)
+
+-- ---- the invariant of such a loop
+
+-- of the text xs the first i blocks are written, block j being f j
+pub record Written (f : ℕ → List ℕ) (xs now : List ℕ) (i : ℕ) : Type 0 where
+  pub blocks : AreBlocks f i
+  pub long : length now ≡ length xs
+  pub text : now ≡ joined f i ++ drop (16 * i) xs
+
+pub written_none : (f : ℕ → List ℕ) (xs : List ℕ) → Written f xs xs 0
+unfolding joined
+written_none f xs = record { blocks = record { long = λ j lt. absurd (omega arith) }; long = refl; text = refl }
+
+-- what the next block is read as
+pub written_read : (f : ℕ → List ℕ) (xs now : List ℕ) (i k : ℕ) → Written f xs now i → k ≡ 16 → take k (drop (16 * i) now) ≡ block_at xs i
+written_read f xs now i k w e = ap (λ (l : List ℕ). take k (drop (16 * i) l)) w.text ∙ read_block f xs i k w.blocks e
+
+pub written_more : (f : ℕ → List ℕ) (xs now ys : List ℕ) (i k : ℕ) → Written f xs now i → 16 * i + 16 ≤ length xs → k ≡ 16 → ys ≡ f i → length ys ≡ 16
+    → Written f xs (put_mid (16 * i) k now ys) (i + 1)
+written_more f xs now ys i k w room e made ly =
+    let mid : length (mid_of (16 * i) k now) ≡ k = length-take-le k (drop (16 * i) now) (omega (arith, length-drop (16 * i) now, w.long)) in
+    record {
+      blocks = record { long = below_more (λ (j : ℕ). length (f j) ≡ 16) i w.blocks.long (sym (ap length made) ∙ ly) };
+      long = same_len_mid (16 * i) k now ys (ly ∙ sym e ∙ sym mid) ∙ w.long;
+      text = ap (λ (l : List ℕ). put_mid (16 * i) k l ys) w.text ∙ write_block f xs ys i k w.blocks e made;
+    }
+
+-- the rest after the last block
+pub written_rest : (f : ℕ → List ℕ) (xs now : List ℕ) (n k : ℕ) → Written f xs now n → length xs ≤ 16 * n + k → take k (drop (16 * n) now) ≡ drop (16 * n) xs
+written_rest f xs now n k w le = ap (λ (l : List ℕ). take k (drop (16 * n) l)) w.text ∙ read_tail f xs n k w.blocks le
+
+pub written_all : (f : ℕ → List ℕ) (xs now ys : List ℕ) (n k : ℕ) → Written f xs now n → length xs ≤ 16 * n + k → put_mid (16 * n) k now ys ≡ joined f n ++ ys
+written_all f xs now ys n k w le = ap (λ (l : List ℕ). put_mid (16 * n) k l ys) w.text ∙ write_tail f xs ys n k w.blocks le

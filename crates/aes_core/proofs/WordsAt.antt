@@ -1,0 +1,236 @@
+-- A round by tables is a round.
+use Rattle.std.proofs.Common.{slice_index, ◌++◌, ap₂, ◌≡◌, ℕ, zero, suc, ◌≤◌, length, take, drop, ◌+◌, ◌*◌, ◌/◌, ◌%◌, ◌^◌, ◌<◌, List, [], ◌∷◌, map, get_or, bit_and, bit_xor, refl, sym, ap, ◌∙◌, arith}
+use Rattle.std.specs.Int.{byte_at, from_le_bytes, to_le_bytes, w32}
+use Rattle.std.specs.List.{range_with_len}
+use Rattle.std.proofs.lemmas.Nat.{and_mask, le_bytes_4, xor_mod, xor_shr}
+use lib.Bits.{xor_zero_l, xor_zero_r}
+use Rattle.aes_core.specs.Field.{product_of, sub_byte, times, inv_sub_byte}
+use Rattle.aes_core.specs.Cipher.{bytes_of, circulant_times, round_key, state_of, sub_bytes, inv_mix_columns, xored}
+use Rattle.aes_core.specs.declared.tables.TheConstants.{ROUND_0, ROUND_1, ROUND_2, ROUND_3, SUB, INV_ROUND_0, INV_ROUND_1, INV_ROUND_2, INV_ROUND_3, INV_SUB}
+use Rattle.aes_core.proofs.Inverse.{bytes_four, sixteen_of}
+use Rattle.aes_core.proofs.Linear.{row_times-xor}
+use Rattle.aes_core.proofs.ByTable.{everywhere, sub_at, inv_sub_at}
+
+pub bytes_xor : (a b : ℕ) → to_le_bytes w32 (bit_xor a b) ≡ xored (to_le_bytes w32 a) (to_le_bytes w32 b)
+bytes_xor a b =
+    let at : (k : ℕ) → bit_xor a b / 2 ^ k % 2 ^ 8 ≡ bit_xor (a / 2 ^ k % 2 ^ 8) (b / 2 ^ k % 2 ^ 8) =
+    λ k. ap (λ (n : ℕ). n % 2 ^ 8) (xor_shr a b k) ∙ xor_mod (a / 2 ^ k) (b / 2 ^ k) 8 in
+    (λ i. xor_mod a b 8 i ∷ at 8 i ∷ at 16 i ∷ at 24 i ∷ [])
+
+column_0 : map (λ a. to_le_bytes w32 (get_or ROUND_0 a 0)) (range_with_len 0 256)
+    ≡ map (λ a. times 2 (get_or SUB a 0) ∷ times 1 (get_or SUB a 0) ∷ times 1 (get_or SUB a 0) ∷ times 3 (get_or SUB a 0) ∷ []) (range_with_len 0 256)
+unfolding product_of
+column_0 = refl
+
+column_1 : map (λ a. to_le_bytes w32 (get_or ROUND_1 a 0)) (range_with_len 0 256)
+    ≡ map (λ a. times 3 (get_or SUB a 0) ∷ times 2 (get_or SUB a 0) ∷ times 1 (get_or SUB a 0) ∷ times 1 (get_or SUB a 0) ∷ []) (range_with_len 0 256)
+unfolding product_of
+column_1 = refl
+
+column_2 : map (λ a. to_le_bytes w32 (get_or ROUND_2 a 0)) (range_with_len 0 256)
+    ≡ map (λ a. times 1 (get_or SUB a 0) ∷ times 3 (get_or SUB a 0) ∷ times 2 (get_or SUB a 0) ∷ times 1 (get_or SUB a 0) ∷ []) (range_with_len 0 256)
+unfolding product_of
+column_2 = refl
+
+column_3 : map (λ a. to_le_bytes w32 (get_or ROUND_3 a 0)) (range_with_len 0 256)
+    ≡ map (λ a. times 1 (get_or SUB a 0) ∷ times 1 (get_or SUB a 0) ∷ times 3 (get_or SUB a 0) ∷ times 2 (get_or SUB a 0) ∷ []) (range_with_len 0 256)
+unfolding product_of
+column_3 = refl
+
+read_0 : (a : ℕ) → a < 256 → to_le_bytes w32 (get_or ROUND_0 a 0) ≡ times 2 (sub_byte a) ∷ times 1 (sub_byte a) ∷ times 1 (sub_byte a) ∷ times 3 (sub_byte a) ∷ []
+read_0 a h = everywhere (λ a. to_le_bytes w32 (get_or ROUND_0 a 0)) (λ a. times 2 (get_or SUB a 0) ∷ times 1 (get_or SUB a 0) ∷ times 1 (get_or SUB a 0) ∷ times 3 (get_or SUB a 0) ∷ []) column_0 a h ∙ ap (λ (x : ℕ). times 2 x ∷ times 1 x ∷ times 1 x ∷ times 3 x ∷ []) (sub_at a h)
+
+read_1 : (a : ℕ) → a < 256 → to_le_bytes w32 (get_or ROUND_1 a 0) ≡ times 3 (sub_byte a) ∷ times 2 (sub_byte a) ∷ times 1 (sub_byte a) ∷ times 1 (sub_byte a) ∷ []
+read_1 a h = everywhere (λ a. to_le_bytes w32 (get_or ROUND_1 a 0)) (λ a. times 3 (get_or SUB a 0) ∷ times 2 (get_or SUB a 0) ∷ times 1 (get_or SUB a 0) ∷ times 1 (get_or SUB a 0) ∷ []) column_1 a h ∙ ap (λ (x : ℕ). times 3 x ∷ times 2 x ∷ times 1 x ∷ times 1 x ∷ []) (sub_at a h)
+
+read_2 : (a : ℕ) → a < 256 → to_le_bytes w32 (get_or ROUND_2 a 0) ≡ times 1 (sub_byte a) ∷ times 3 (sub_byte a) ∷ times 2 (sub_byte a) ∷ times 1 (sub_byte a) ∷ []
+read_2 a h = everywhere (λ a. to_le_bytes w32 (get_or ROUND_2 a 0)) (λ a. times 1 (get_or SUB a 0) ∷ times 3 (get_or SUB a 0) ∷ times 2 (get_or SUB a 0) ∷ times 1 (get_or SUB a 0) ∷ []) column_2 a h ∙ ap (λ (x : ℕ). times 1 x ∷ times 3 x ∷ times 2 x ∷ times 1 x ∷ []) (sub_at a h)
+
+read_3 : (a : ℕ) → a < 256 → to_le_bytes w32 (get_or ROUND_3 a 0) ≡ times 1 (sub_byte a) ∷ times 1 (sub_byte a) ∷ times 3 (sub_byte a) ∷ times 2 (sub_byte a) ∷ []
+read_3 a h = everywhere (λ a. to_le_bytes w32 (get_or ROUND_3 a 0)) (λ a. times 1 (get_or SUB a 0) ∷ times 1 (get_or SUB a 0) ∷ times 3 (get_or SUB a 0) ∷ times 2 (get_or SUB a 0) ∷ []) column_3 a h ∙ ap (λ (x : ℕ). times 1 x ∷ times 1 x ∷ times 3 x ∷ times 2 x ∷ []) (sub_at a h)
+
+pub column_is : (a b c d key : ℕ) → d < 2 ^ 32
+    → to_le_bytes w32 (bit_xor (bit_xor (bit_xor (bit_xor (get_or ROUND_0 (bit_and a 255) 0) (get_or ROUND_1 (bit_and (b / 256) 255) 0)) (get_or ROUND_2 (bit_and (c / 65536) 255) 0)) (get_or ROUND_3 (d / 16777216) 0)) key)
+    ≡ xored (circulant_times 2 3 1 1 (sub_byte (byte_at 0 a)) (sub_byte (byte_at 1 b)) (sub_byte (byte_at 2 c)) (sub_byte (byte_at 3 d))) (to_le_bytes w32 key)
+column_is a b c d key hd =
+    let w0 : ℕ = get_or ROUND_0 (bit_and a 255) 0 in
+    let w1 : ℕ = get_or ROUND_1 (bit_and (b / 256) 255) 0 in
+    let w2 : ℕ = get_or ROUND_2 (bit_and (c / 65536) 255) 0 in
+    let w3 : ℕ = get_or ROUND_3 (d / 16777216) 0 in
+    let top : d / 16777216 ≡ d / 16777216 % 256 = omega arith in
+    let e0 = ap (λ (n : ℕ). to_le_bytes w32 (get_or ROUND_0 n 0)) (and_mask a 8) ∙ read_0 (a % 256) (omega arith) in
+    let e1 = ap (λ (n : ℕ). to_le_bytes w32 (get_or ROUND_1 n 0)) (and_mask (b / 256) 8) ∙ read_1 (b / 256 % 256) (omega arith) in
+    let e2 = ap (λ (n : ℕ). to_le_bytes w32 (get_or ROUND_2 n 0)) (and_mask (c / 65536) 8) ∙ read_2 (c / 65536 % 256) (omega arith) in
+    let e3 = ap (λ (n : ℕ). to_le_bytes w32 (get_or ROUND_3 n 0)) top ∙ read_3 (d / 16777216 % 256) (omega arith) in
+    bytes_xor (bit_xor (bit_xor (bit_xor w0 w1) w2) w3) key
+    ∙ ap (λ (x : List ℕ). xored x (to_le_bytes w32 key))
+    (bytes_xor (bit_xor (bit_xor w0 w1) w2) w3
+    ∙ ap (λ (x : List ℕ). xored x (to_le_bytes w32 w3))
+    (bytes_xor (bit_xor w0 w1) w2 ∙ ap (λ (x : List ℕ). xored x (to_le_bytes w32 w2)) (bytes_xor w0 w1))
+    ∙ (λ i. xored (xored (xored (e0 i) (e1 i)) (e2 i)) (e3 i)))
+
+-- ---- the last round
+
+masked_0 : map (λ a. to_le_bytes w32 (bit_and (get_or ROUND_2 a 0) 255)) (range_with_len 0 256) ≡ map (λ a. get_or SUB a 0 ∷ 0 ∷ 0 ∷ 0 ∷ []) (range_with_len 0 256)
+masked_0 = refl
+
+masked_1 : map (λ a. to_le_bytes w32 (bit_and (get_or ROUND_3 a 0) 65280)) (range_with_len 0 256) ≡ map (λ a. 0 ∷ get_or SUB a 0 ∷ 0 ∷ 0 ∷ []) (range_with_len 0 256)
+masked_1 = refl
+
+masked_2 : map (λ a. to_le_bytes w32 (bit_and (get_or ROUND_0 a 0) 16711680)) (range_with_len 0 256) ≡ map (λ a. 0 ∷ 0 ∷ get_or SUB a 0 ∷ 0 ∷ []) (range_with_len 0 256)
+masked_2 = refl
+
+masked_3 : map (λ a. to_le_bytes w32 (bit_and (get_or ROUND_1 a 0) 4278190080)) (range_with_len 0 256) ≡ map (λ a. 0 ∷ 0 ∷ 0 ∷ get_or SUB a 0 ∷ []) (range_with_len 0 256)
+masked_3 = refl
+
+last_read_0 : (a : ℕ) → a < 256 → to_le_bytes w32 (bit_and (get_or ROUND_2 a 0) 255) ≡ sub_byte a ∷ 0 ∷ 0 ∷ 0 ∷ []
+last_read_0 a h = everywhere (λ a. to_le_bytes w32 (bit_and (get_or ROUND_2 a 0) 255)) (λ a. get_or SUB a 0 ∷ 0 ∷ 0 ∷ 0 ∷ []) masked_0 a h ∙ ap (λ (x : ℕ). x ∷ 0 ∷ 0 ∷ 0 ∷ []) (sub_at a h)
+
+last_read_1 : (a : ℕ) → a < 256 → to_le_bytes w32 (bit_and (get_or ROUND_3 a 0) 65280) ≡ 0 ∷ sub_byte a ∷ 0 ∷ 0 ∷ []
+last_read_1 a h = everywhere (λ a. to_le_bytes w32 (bit_and (get_or ROUND_3 a 0) 65280)) (λ a. 0 ∷ get_or SUB a 0 ∷ 0 ∷ 0 ∷ []) masked_1 a h ∙ ap (λ (x : ℕ). 0 ∷ x ∷ 0 ∷ 0 ∷ []) (sub_at a h)
+
+last_read_2 : (a : ℕ) → a < 256 → to_le_bytes w32 (bit_and (get_or ROUND_0 a 0) 16711680) ≡ 0 ∷ 0 ∷ sub_byte a ∷ 0 ∷ []
+last_read_2 a h = everywhere (λ a. to_le_bytes w32 (bit_and (get_or ROUND_0 a 0) 16711680)) (λ a. 0 ∷ 0 ∷ get_or SUB a 0 ∷ 0 ∷ []) masked_2 a h ∙ ap (λ (x : ℕ). 0 ∷ 0 ∷ x ∷ 0 ∷ []) (sub_at a h)
+
+last_read_3 : (a : ℕ) → a < 256 → to_le_bytes w32 (bit_and (get_or ROUND_1 a 0) 4278190080) ≡ 0 ∷ 0 ∷ 0 ∷ sub_byte a ∷ []
+last_read_3 a h = everywhere (λ a. to_le_bytes w32 (bit_and (get_or ROUND_1 a 0) 4278190080)) (λ a. 0 ∷ 0 ∷ 0 ∷ get_or SUB a 0 ∷ []) masked_3 a h ∙ ap (λ (x : ℕ). 0 ∷ 0 ∷ 0 ∷ x ∷ []) (sub_at a h)
+
+apart : (a b c d : ℕ)
+    → xored (xored (xored (a ∷ 0 ∷ 0 ∷ 0 ∷ []) (0 ∷ b ∷ 0 ∷ 0 ∷ [])) (0 ∷ 0 ∷ c ∷ 0 ∷ [])) (0 ∷ 0 ∷ 0 ∷ d ∷ []) ≡ a ∷ b ∷ c ∷ d ∷ []
+apart a b c d =
+    let ea : bit_xor (bit_xor (bit_xor a 0) 0) 0 ≡ a = xor_zero_r (bit_xor (bit_xor a 0) 0) ∙ xor_zero_r (bit_xor a 0) ∙ xor_zero_r a in
+    let eb : bit_xor (bit_xor (bit_xor 0 b) 0) 0 ≡ b = xor_zero_r (bit_xor (bit_xor 0 b) 0) ∙ xor_zero_r (bit_xor 0 b) ∙ xor_zero_l b in
+    let ec : bit_xor (bit_xor 0 c) 0 ≡ c = xor_zero_r (bit_xor 0 c) ∙ xor_zero_l c in
+    let ed : bit_xor 0 d ≡ d = xor_zero_l d in
+    (λ i. ea i ∷ eb i ∷ ec i ∷ ed i ∷ [])
+
+pub last_column_is : (a b c d key : ℕ) → d < 2 ^ 32
+    → to_le_bytes w32 (bit_xor (bit_xor (bit_xor (bit_xor (bit_and (get_or ROUND_2 (bit_and a 255) 0) 255) (bit_and (get_or ROUND_3 (bit_and (b / 256) 255) 0) 65280)) (bit_and (get_or ROUND_0 (bit_and (c / 65536) 255) 0) 16711680)) (bit_and (get_or ROUND_1 (d / 16777216) 0) 4278190080)) key)
+    ≡ xored (sub_bytes (byte_at 0 a ∷ byte_at 1 b ∷ byte_at 2 c ∷ byte_at 3 d ∷ [])) (to_le_bytes w32 key)
+last_column_is a b c d key hd =
+    let w0 : ℕ = bit_and (get_or ROUND_2 (bit_and a 255) 0) 255 in
+    let w1 : ℕ = bit_and (get_or ROUND_3 (bit_and (b / 256) 255) 0) 65280 in
+    let w2 : ℕ = bit_and (get_or ROUND_0 (bit_and (c / 65536) 255) 0) 16711680 in
+    let w3 : ℕ = bit_and (get_or ROUND_1 (d / 16777216) 0) 4278190080 in
+    let top : d / 16777216 ≡ d / 16777216 % 256 = omega arith in
+    let e0 = ap (λ (n : ℕ). to_le_bytes w32 (bit_and (get_or ROUND_2 n 0) 255)) (and_mask a 8) ∙ last_read_0 (a % 256) (omega arith) in
+    let e1 = ap (λ (n : ℕ). to_le_bytes w32 (bit_and (get_or ROUND_3 n 0) 65280)) (and_mask (b / 256) 8) ∙ last_read_1 (b / 256 % 256) (omega arith) in
+    let e2 = ap (λ (n : ℕ). to_le_bytes w32 (bit_and (get_or ROUND_0 n 0) 16711680)) (and_mask (c / 65536) 8) ∙ last_read_2 (c / 65536 % 256) (omega arith) in
+    let e3 = ap (λ (n : ℕ). to_le_bytes w32 (bit_and (get_or ROUND_1 n 0) 4278190080)) top ∙ last_read_3 (d / 16777216 % 256) (omega arith) in
+    bytes_xor (bit_xor (bit_xor (bit_xor w0 w1) w2) w3) key
+    ∙ ap (λ (x : List ℕ). xored x (to_le_bytes w32 key))
+    (bytes_xor (bit_xor (bit_xor w0 w1) w2) w3
+    ∙ ap (λ (x : List ℕ). xored x (to_le_bytes w32 w3))
+    (bytes_xor (bit_xor w0 w1) w2 ∙ ap (λ (x : List ℕ). xored x (to_le_bytes w32 w2)) (bytes_xor w0 w1))
+    ∙ (λ i. xored (xored (xored (e0 i) (e1 i)) (e2 i)) (e3 i))
+    ∙ apart (sub_byte (a % 256)) (sub_byte (b / 256 % 256)) (sub_byte (c / 65536 % 256)) (sub_byte (d / 16777216 % 256)))
+
+-- ---- words loaded
+
+pub bytes_from : (a b c d n : ℕ) → a < 256 → b < 256 → c < 256 → d < 256 → n ≡ from_le_bytes w32 (a ∷ b ∷ c ∷ d ∷ []) → to_le_bytes w32 n ≡ a ∷ b ∷ c ∷ d ∷ []
+bytes_from a b c d n ha hb hc hd e = le_bytes_4 (a ∷ b ∷ c ∷ d ∷ []) n refl (bytes_four a b c d ha hb hc hd) e
+
+-- a column loaded and a key added
+pub loaded : (a b c d n k : ℕ) → a < 256 → b < 256 → c < 256 → d < 256 → n ≡ from_le_bytes w32 (a ∷ b ∷ c ∷ d ∷ [])
+    → to_le_bytes w32 (bit_xor n k) ≡ xored (a ∷ b ∷ c ∷ d ∷ []) (to_le_bytes w32 k)
+loaded a b c d n k ha hb hc hd e = bytes_xor n k ∙ ap (λ (x : List ℕ). xored x (to_le_bytes w32 k)) (bytes_from a b c d n ha hb hc hd e)
+
+-- ---- the keys of the rounds as words
+
+key_words_first : (w : List ℕ) → 4 ≤ length w → state_of (take 4 (drop (4 * 0) w)) ≡ round_key (bytes_of w) 0
+key_words_first [] h = absurd (omega arith)
+key_words_first (a ∷ []) h = absurd (omega arith)
+key_words_first (a ∷ b ∷ []) h = absurd (omega arith)
+key_words_first (a ∷ b ∷ c ∷ []) h = absurd (omega arith)
+key_words_first (a ∷ b ∷ c ∷ d ∷ w) h = refl
+
+-- four words from place 4 * r on are the bytes from place 16 * r on
+pub key_words : (w : List ℕ) (r : ℕ) → 4 * r + 4 ≤ length w → state_of (take 4 (drop (4 * r) w)) ≡ round_key (bytes_of w) r
+key_words w zero h = key_words_first w (omega arith)
+key_words [] (suc r) h = absurd (omega arith)
+key_words (a ∷ []) (suc r) h = absurd (omega arith)
+key_words (a ∷ b ∷ []) (suc r) h = absurd (omega arith)
+key_words (a ∷ b ∷ c ∷ []) (suc r) h = absurd (omega arith)
+key_words (a ∷ b ∷ c ∷ d ∷ w) (suc r) h =
+    let e : 4 * suc r ≡ suc (suc (suc (suc (4 * r)))) = omega arith in
+    let f : 16 * suc r ≡ suc (suc (suc (suc (suc (suc (suc (suc (suc (suc (suc (suc (suc (suc (suc (suc (16 * r)))))))))))))))) = omega arith in
+    ap (λ (n : ℕ). state_of (take 4 (drop n (a ∷ b ∷ c ∷ d ∷ w)))) e ∙ key_words w r (omega arith)
+    ∙ ap (λ (n : ℕ). take 16 (drop n (bytes_of (a ∷ b ∷ c ∷ d ∷ w)))) (sym f)
+
+-- ---- the way back
+
+inv_column_0 : map (λ a. to_le_bytes w32 (get_or INV_ROUND_0 a 0)) (range_with_len 0 256)
+    ≡ map (λ a. times 14 (get_or INV_SUB a 0) ∷ times 9 (get_or INV_SUB a 0) ∷ times 13 (get_or INV_SUB a 0) ∷ times 11 (get_or INV_SUB a 0) ∷ []) (range_with_len 0 256)
+unfolding product_of
+inv_column_0 = refl
+
+inv_column_1 : map (λ a. to_le_bytes w32 (get_or INV_ROUND_1 a 0)) (range_with_len 0 256)
+    ≡ map (λ a. times 11 (get_or INV_SUB a 0) ∷ times 14 (get_or INV_SUB a 0) ∷ times 9 (get_or INV_SUB a 0) ∷ times 13 (get_or INV_SUB a 0) ∷ []) (range_with_len 0 256)
+unfolding product_of
+inv_column_1 = refl
+
+inv_column_2 : map (λ a. to_le_bytes w32 (get_or INV_ROUND_2 a 0)) (range_with_len 0 256)
+    ≡ map (λ a. times 13 (get_or INV_SUB a 0) ∷ times 11 (get_or INV_SUB a 0) ∷ times 14 (get_or INV_SUB a 0) ∷ times 9 (get_or INV_SUB a 0) ∷ []) (range_with_len 0 256)
+unfolding product_of
+inv_column_2 = refl
+
+inv_column_3 : map (λ a. to_le_bytes w32 (get_or INV_ROUND_3 a 0)) (range_with_len 0 256)
+    ≡ map (λ a. times 9 (get_or INV_SUB a 0) ∷ times 13 (get_or INV_SUB a 0) ∷ times 11 (get_or INV_SUB a 0) ∷ times 14 (get_or INV_SUB a 0) ∷ []) (range_with_len 0 256)
+unfolding product_of
+inv_column_3 = refl
+
+inv_read_0 : (a : ℕ) → a < 256 → to_le_bytes w32 (get_or INV_ROUND_0 a 0) ≡ times 14 (inv_sub_byte a) ∷ times 9 (inv_sub_byte a) ∷ times 13 (inv_sub_byte a) ∷ times 11 (inv_sub_byte a) ∷ []
+inv_read_0 a h = everywhere (λ a. to_le_bytes w32 (get_or INV_ROUND_0 a 0)) (λ a. times 14 (get_or INV_SUB a 0) ∷ times 9 (get_or INV_SUB a 0) ∷ times 13 (get_or INV_SUB a 0) ∷ times 11 (get_or INV_SUB a 0) ∷ []) inv_column_0 a h ∙ ap (λ (x : ℕ). times 14 x ∷ times 9 x ∷ times 13 x ∷ times 11 x ∷ []) (inv_sub_at a h)
+
+inv_read_1 : (a : ℕ) → a < 256 → to_le_bytes w32 (get_or INV_ROUND_1 a 0) ≡ times 11 (inv_sub_byte a) ∷ times 14 (inv_sub_byte a) ∷ times 9 (inv_sub_byte a) ∷ times 13 (inv_sub_byte a) ∷ []
+inv_read_1 a h = everywhere (λ a. to_le_bytes w32 (get_or INV_ROUND_1 a 0)) (λ a. times 11 (get_or INV_SUB a 0) ∷ times 14 (get_or INV_SUB a 0) ∷ times 9 (get_or INV_SUB a 0) ∷ times 13 (get_or INV_SUB a 0) ∷ []) inv_column_1 a h ∙ ap (λ (x : ℕ). times 11 x ∷ times 14 x ∷ times 9 x ∷ times 13 x ∷ []) (inv_sub_at a h)
+
+inv_read_2 : (a : ℕ) → a < 256 → to_le_bytes w32 (get_or INV_ROUND_2 a 0) ≡ times 13 (inv_sub_byte a) ∷ times 11 (inv_sub_byte a) ∷ times 14 (inv_sub_byte a) ∷ times 9 (inv_sub_byte a) ∷ []
+inv_read_2 a h = everywhere (λ a. to_le_bytes w32 (get_or INV_ROUND_2 a 0)) (λ a. times 13 (get_or INV_SUB a 0) ∷ times 11 (get_or INV_SUB a 0) ∷ times 14 (get_or INV_SUB a 0) ∷ times 9 (get_or INV_SUB a 0) ∷ []) inv_column_2 a h ∙ ap (λ (x : ℕ). times 13 x ∷ times 11 x ∷ times 14 x ∷ times 9 x ∷ []) (inv_sub_at a h)
+
+inv_read_3 : (a : ℕ) → a < 256 → to_le_bytes w32 (get_or INV_ROUND_3 a 0) ≡ times 9 (inv_sub_byte a) ∷ times 13 (inv_sub_byte a) ∷ times 11 (inv_sub_byte a) ∷ times 14 (inv_sub_byte a) ∷ []
+inv_read_3 a h = everywhere (λ a. to_le_bytes w32 (get_or INV_ROUND_3 a 0)) (λ a. times 9 (get_or INV_SUB a 0) ∷ times 13 (get_or INV_SUB a 0) ∷ times 11 (get_or INV_SUB a 0) ∷ times 14 (get_or INV_SUB a 0) ∷ []) inv_column_3 a h ∙ ap (λ (x : ℕ). times 9 x ∷ times 13 x ∷ times 11 x ∷ times 14 x ∷ []) (inv_sub_at a h)
+
+pub inv_column_is : (a b c d key : ℕ) → d < 2 ^ 32
+    → to_le_bytes w32 (bit_xor (bit_xor (bit_xor (bit_xor (get_or INV_ROUND_0 (bit_and a 255) 0) (get_or INV_ROUND_1 (bit_and (b / 256) 255) 0)) (get_or INV_ROUND_2 (bit_and (c / 65536) 255) 0)) (get_or INV_ROUND_3 (d / 16777216) 0)) key)
+    ≡ xored (circulant_times 14 11 13 9 (inv_sub_byte (byte_at 0 a)) (inv_sub_byte (byte_at 1 b)) (inv_sub_byte (byte_at 2 c)) (inv_sub_byte (byte_at 3 d))) (to_le_bytes w32 key)
+inv_column_is a b c d key hd =
+    let w0 : ℕ = get_or INV_ROUND_0 (bit_and a 255) 0 in
+    let w1 : ℕ = get_or INV_ROUND_1 (bit_and (b / 256) 255) 0 in
+    let w2 : ℕ = get_or INV_ROUND_2 (bit_and (c / 65536) 255) 0 in
+    let w3 : ℕ = get_or INV_ROUND_3 (d / 16777216) 0 in
+    let top : d / 16777216 ≡ d / 16777216 % 256 = omega arith in
+    let e0 = ap (λ (n : ℕ). to_le_bytes w32 (get_or INV_ROUND_0 n 0)) (and_mask a 8) ∙ inv_read_0 (a % 256) (omega arith) in
+    let e1 = ap (λ (n : ℕ). to_le_bytes w32 (get_or INV_ROUND_1 n 0)) (and_mask (b / 256) 8) ∙ inv_read_1 (b / 256 % 256) (omega arith) in
+    let e2 = ap (λ (n : ℕ). to_le_bytes w32 (get_or INV_ROUND_2 n 0)) (and_mask (c / 65536) 8) ∙ inv_read_2 (c / 65536 % 256) (omega arith) in
+    let e3 = ap (λ (n : ℕ). to_le_bytes w32 (get_or INV_ROUND_3 n 0)) top ∙ inv_read_3 (d / 16777216 % 256) (omega arith) in
+    bytes_xor (bit_xor (bit_xor (bit_xor w0 w1) w2) w3) key
+    ∙ ap (λ (x : List ℕ). xored x (to_le_bytes w32 key))
+    (bytes_xor (bit_xor (bit_xor w0 w1) w2) w3
+    ∙ ap (λ (x : List ℕ). xored x (to_le_bytes w32 w3))
+    (bytes_xor (bit_xor w0 w1) w2 ∙ ap (λ (x : List ℕ). xored x (to_le_bytes w32 w2)) (bytes_xor w0 w1))
+    ∙ (λ i. xored (xored (xored (e0 i) (e1 i)) (e2 i)) (e3 i)))
+
+-- ---- the inverse of MixColumns is linear
+
+four_rows : (m n o p a b c d e f g h : ℕ)
+    → circulant_times m n o p (bit_xor a e) (bit_xor b f) (bit_xor c g) (bit_xor d h) ≡ xored (circulant_times m n o p a b c d) (circulant_times m n o p e f g h)
+four_rows m n o p a b c d e f g h =
+    (λ i. row_times-xor m n o p a b c d e f g h i ∷ row_times-xor p m n o a b c d e f g h i ∷ row_times-xor o p m n a b c d e f g h i ∷ row_times-xor n o p m a b c d e f g h i ∷ [])
+
+inv_mix_cells : (x y : ℕ → ℕ)
+    → inv_mix_columns (xored (x 0 ∷ x 1 ∷ x 2 ∷ x 3 ∷ x 4 ∷ x 5 ∷ x 6 ∷ x 7 ∷ x 8 ∷ x 9 ∷ x 10 ∷ x 11 ∷ x 12 ∷ x 13 ∷ x 14 ∷ x 15 ∷ [])
+    (y 0 ∷ y 1 ∷ y 2 ∷ y 3 ∷ y 4 ∷ y 5 ∷ y 6 ∷ y 7 ∷ y 8 ∷ y 9 ∷ y 10 ∷ y 11 ∷ y 12 ∷ y 13 ∷ y 14 ∷ y 15 ∷ []))
+    ≡ xored (inv_mix_columns (x 0 ∷ x 1 ∷ x 2 ∷ x 3 ∷ x 4 ∷ x 5 ∷ x 6 ∷ x 7 ∷ x 8 ∷ x 9 ∷ x 10 ∷ x 11 ∷ x 12 ∷ x 13 ∷ x 14 ∷ x 15 ∷ []))
+    (inv_mix_columns (y 0 ∷ y 1 ∷ y 2 ∷ y 3 ∷ y 4 ∷ y 5 ∷ y 6 ∷ y 7 ∷ y 8 ∷ y 9 ∷ y 10 ∷ y 11 ∷ y 12 ∷ y 13 ∷ y 14 ∷ y 15 ∷ []))
+inv_mix_cells x y =
+    let e0 = four_rows 14 11 13 9 (x 0) (x 1) (x 2) (x 3) (y 0) (y 1) (y 2) (y 3) in
+    let e1 = four_rows 14 11 13 9 (x 4) (x 5) (x 6) (x 7) (y 4) (y 5) (y 6) (y 7) in
+    let e2 = four_rows 14 11 13 9 (x 8) (x 9) (x 10) (x 11) (y 8) (y 9) (y 10) (y 11) in
+    let e3 = four_rows 14 11 13 9 (x 12) (x 13) (x 14) (x 15) (y 12) (y 13) (y 14) (y 15) in
+    (λ i. e0 i ++ e1 i ++ e2 i ++ e3 i)
+
+pub inv_mix_xored : (a b : List ℕ) → length a ≡ 16 → length b ≡ 16 → inv_mix_columns (xored a b) ≡ xored (inv_mix_columns a) (inv_mix_columns b)
+inv_mix_xored a b ha hb =
+    ap₂ (λ (s t : List ℕ). inv_mix_columns (xored s t)) (sixteen_of a ha) (sixteen_of b hb)
+    ∙ inv_mix_cells (λ k. slice_index a k) (λ k. slice_index b k)

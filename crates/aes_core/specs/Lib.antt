@@ -1,0 +1,4 @@
+pub mod Field
+pub mod Cipher
+pub mod Modes
+pub mod Algorithm

@@ -1,0 +1,140 @@
+// A key for the bodies by tables: the keys of the rounds as words, for both directions.
+
+ghost use Rattle.std.specs.Prelude.{◌≡◌, ℕ, ◌+◌, ◌*◌, ◌/◌, ◌<◌, ◌≤◌, List, length, take, drop, MatchOption};
+ghost use Rattle.aes_core.specs.Cipher.{IsBlock, IsKey, IsKeyLength, IsWordReady, bytes_of, decrypted, encrypted, round_key, state_of, inv_mix_columns};
+ghost use Rattle.aes_core.specs.Modes.{joined};
+
+use crate::expansion::expand;
+use crate::{plain, words};
+use std::marker::Model;
+
+/// A key of 16, 24 or 32 bytes, ready for the tables.
+#[derive(Drop)]
+pub struct BlockKey {
+    words: [u32; 60],
+    // Each round's key through the inverse of MixColumns.
+    back: [u32; 60],
+    key_len: usize,
+}
+
+impl Model for BlockKey {
+    ghost Value = { List ℕ };
+
+    ghost view = { λ k. take k.key_len (bytes_of k.words) };
+
+    ghost invariant = { λ k. IsWordReady k.words k.back k.key_len };
+}
+
+fn words_of(keys: &[u8]) -> [u32; 60]
+    requires { length keys.now ≡ 240 }
+    ensures { bytes_of result ≡ keys.now }
+{
+    let mut out = [0u32; 60];
+    for i in 0..60 {
+        let word = u32::from_le_bytes([
+            keys[4 * i],
+            keys[4 * i + 1],
+            keys[4 * i + 2],
+            keys[4 * i + 3],
+        ]);
+        out[i] = word;
+    }
+    out
+}
+
+fn four_words(s: &[u8]) -> [u32; 4]
+    requires { length s.now ≡ 16 }
+    ensures { state_of result ≡ s.now }
+{
+    [
+        u32::from_le_bytes([s[0], s[1], s[2], s[3]]),
+        u32::from_le_bytes([s[4], s[5], s[6], s[7]]),
+        u32::from_le_bytes([s[8], s[9], s[10], s[11]]),
+        u32::from_le_bytes([s[12], s[13], s[14], s[15]]),
+    ]
+}
+
+fn back_of(keys: &[u8]) -> [u32; 60]
+    requires { length keys.now ≡ 240 }
+    ensures { bytes_of result ≡ joined (λ j. inv_mix_columns (round_key keys.now j)) 15 }
+{
+    let mut out = [0u32; 60];
+    for r in 0..15 {
+        let mut block = [0u8; 16];
+        block.copy_from_slice(&keys[16 * r..16 * r + 16]);
+        let turned = plain::inv_mix_columns(block);
+        let four = four_words(&turned);
+        out[4 * r..4 * r + 4].copy_from_slice(&four);
+    }
+    out
+}
+
+impl BlockKey {
+    /// The key of these bytes. There is none exactly where their number is not 16, 24 or 32.
+    pub fn new(key: &[u8]) -> Option<BlockKey>
+        ensures { MatchOption result (IsKeyLength (length key.now) → ⊥) (λ k. (k ≡ key.now) × IsKeyLength (length key.now)) }
+    {
+        let n = key.len();
+        if n != 16 && n != 24 && n != 32 {
+            return None;
+        }
+        let mut keys = [0u8; 240];
+        expand(&mut keys, key);
+        let words = words_of(&keys);
+        let back = back_of(&keys);
+        Some(BlockKey {
+            words,
+            back,
+            key_len: n,
+        })
+    }
+
+    /// The bytes of a key are bytes, and whole words.
+    #[inline(always)]
+    pub fn known(&self)
+        ensures { IsKey self.now }
+    {
+        let _ = &self.key_len;
+    }
+
+    /// Enciphers the block.
+    pub fn encrypt_block(&self, block: &mut [u8; 16])
+        ensures { block.new ≡ encrypted self.now block.old }
+    {
+        let rounds = self.key_len / 4 + 6;
+        words::encrypt(&self.words[0..4 * (rounds + 1)], rounds, block);
+    }
+
+    // Enciphers four blocks.
+    pub(crate) fn encrypt_four(
+        &self,
+        a: &mut [u8; 16],
+        b: &mut [u8; 16],
+        c: &mut [u8; 16],
+        d: &mut [u8; 16],
+    )
+        ensures first { a.new ≡ encrypted self.now a.old }
+        ensures second { b.new ≡ encrypted self.now b.old }
+        ensures third { c.new ≡ encrypted self.now c.old }
+        ensures fourth { d.new ≡ encrypted self.now d.old }
+    {
+        let rounds = self.key_len / 4 + 6;
+        words::encrypt_four(&self.words[0..4 * (rounds + 1)], rounds, a, b, c, d);
+    }
+
+    /// Deciphers the block: what it leaves there enciphers to what was there, and what was
+    /// enciphered comes back.
+    pub fn decrypt_block(&self, block: &mut [u8; 16])
+        ensures value { block.new ≡ decrypted self.now block.old }
+        ensures inverse { encrypted self.now block.new ≡ block.old }
+        ensures undoes { (s : List ℕ) → IsBlock s → block.old ≡ encrypted self.now s → block.new ≡ s }
+    {
+        let rounds = self.key_len / 4 + 6;
+        words::decrypt(
+            &self.words[0..4 * (rounds + 1)],
+            &self.back[0..4 * (rounds + 1)],
+            rounds,
+            block,
+        );
+    }
+}

@@ -1,0 +1,158 @@
+// CBC with tail, and CTR. What can go block beside block goes four at a time.
+
+ghost use Rattle.std.specs.Prelude.{◌≡◌, ℕ, List, ◌+◌, ◌*◌, ◌%◌, ◌^◌, ◌<◌, ◌≤◌, length};
+ghost use Rattle.std.specs.Int.{to_be_bytes, w128};
+ghost use Rattle.aes_core.specs.Cipher.{AreBytes, decrypted, encrypted, xored};
+ghost use Rattle.aes_core.specs.Modes.{block_at, cbc_tail, ctr, uncbc_tail};
+
+use crate::key::BlockKey;
+use crate::words::store;
+use crate::xor::{xor_sixteen, xor_with};
+
+/// Enciphers bytes of any number in place, in CBC with tail (this project's own): the whole blocks
+/// in CBC (SP 800-38A, 6.2), a last partial block by XOR with the first bytes of what the IV
+/// enciphers to.
+pub fn cbc_tail_encrypt(key: &BlockKey, iv: &[u8; 16], bytes: &mut [u8])
+    ensures { bytes.new ≡ cbc_tail key.now iv.now bytes.old }
+{
+    let mut chain = *iv;
+    let count = bytes.len() / 16;
+    for i in 0..count {
+        xor_sixteen(&mut chain, &bytes[16 * i..16 * i + 16]);
+        key.encrypt_block(&mut chain);
+        bytes[16 * i..16 * i + 16].copy_from_slice(&chain);
+    }
+    mask_tail(key, iv, &mut bytes[16 * count..]);
+}
+
+// XOR with the first bytes of what the IV enciphers to.
+fn mask_tail(key: &BlockKey, iv: &[u8; 16], tail: &mut [u8])
+    requires { length tail.old < 16 }
+    ensures { tail.new ≡ xored tail.old (encrypted key.now iv.now) }
+{
+    let mut mask = *iv;
+    key.encrypt_block(&mut mask);
+    xor_with(tail, &mask[0..tail.len()]);
+}
+
+// Block i of the bytes.
+#[inline(always)]
+fn block_of(bytes: &[u8], i: usize) -> [u8; 16]
+    requires { 16 * i + 16 ≤ length bytes.now }
+    ensures { result ≡ block_at bytes.now i }
+{
+    let mut block = [0u8; 16];
+    block.copy_from_slice(&bytes[16 * i..16 * i + 16]);
+    block
+}
+
+// The plain block of a cipher block in CBC, `before` being the cipher block before it.
+#[inline(always)]
+fn opened(key: &BlockKey, cipher: [u8; 16], before: &[u8; 16]) -> [u8; 16]
+    ensures { result ≡ xored (decrypted key.now cipher) before.now }
+{
+    let mut block = cipher;
+    key.decrypt_block(&mut block);
+    xor_sixteen(&mut block, before);
+    block
+}
+
+/// Deciphers bytes of any number in place, in CBC with tail: what it leaves there enciphers to what
+/// was there, and what [`cbc_tail_encrypt`] enciphered under this key and IV comes back.
+pub fn cbc_tail_decrypt(key: &BlockKey, iv: &[u8; 16], bytes: &mut [u8])
+    ensures value { bytes.new ≡ uncbc_tail key.now iv.now bytes.old }
+    ensures inverse { cbc_tail key.now iv.now bytes.new ≡ bytes.old }
+    ensures undoes { (p : List ℕ) → AreBytes p → bytes.old ≡ cbc_tail key.now iv.now p → bytes.new ≡ p }
+{
+    key.known();
+    let fours = bytes.len() / 64;
+    let count = bytes.len() / 16;
+    let left = bytes.len() - 16 * count;
+    let mut before = *iv;
+    'fours: for i in 0..fours {
+        let a_at = 4 * i;
+        let b_at = 4 * i + 1;
+        let c_at = 4 * i + 2;
+        let d_at = 4 * i + 3;
+        let a = block_of(bytes, a_at);
+        let b = block_of(bytes, b_at);
+        let c = block_of(bytes, c_at);
+        let d = block_of(bytes, d_at);
+        let ta = opened(key, a, &before);
+        let tb = opened(key, b, &a);
+        let tc = opened(key, c, &b);
+        let td = opened(key, d, &c);
+        bytes[16 * a_at..16 * a_at + 16].copy_from_slice(&ta);
+        bytes[16 * b_at..16 * b_at + 16].copy_from_slice(&tb);
+        bytes[16 * c_at..16 * c_at + 16].copy_from_slice(&tc);
+        bytes[16 * d_at..16 * d_at + 16].copy_from_slice(&td);
+        before = d;
+    }
+    'rest: for k in 4 * fours..count {
+        let cipher = block_of(bytes, k);
+        let text = opened(key, cipher, &before);
+        bytes[16 * k..16 * k + 16].copy_from_slice(&text);
+        before = cipher;
+    }
+    let mut mask = *iv;
+    key.encrypt_block(&mut mask);
+    xor_with(&mut bytes[16 * count..], &mask[0..left]);
+}
+
+// The bytes of a number, highest first: four words, each with its bytes turned round.
+#[inline(always)]
+fn big_endian(n: u128) -> [u8; 16]
+    ensures { result ≡ to_be_bytes w128 n }
+{
+    let a = ((n >> 96) as u32).swap_bytes();
+    let b = (((n >> 64) & 0xffff_ffff) as u32).swap_bytes();
+    let c = (((n >> 32) & 0xffff_ffff) as u32).swap_bytes();
+    let d = ((n & 0xffff_ffff) as u32).swap_bytes();
+    store([a, b, c, d])
+}
+
+// Counter i: the first one plus i, modulo 2^128.
+#[inline(always)]
+fn counter_block(start: u128, i: usize) -> [u8; 16]
+    ensures { result ≡ to_be_bytes w128 ((start + i) % 2 ^ 128) }
+{
+    big_endian(start.wrapping_add(i as u128))
+}
+
+/// Enciphers or deciphers bytes of any number in place, in CTR (SP 800-38A, 6.5): XOR with the key
+/// stream. The counter is the whole block as a big-endian number, plus one for each block, modulo
+/// 2^128. A second call with the same key and counter gives the bytes back.
+pub fn ctr_apply(key: &BlockKey, counter: &[u8; 16], bytes: &mut [u8])
+    ensures value { bytes.new ≡ ctr key.now counter.now bytes.old }
+    ensures inverse { ctr key.now counter.now bytes.new ≡ bytes.old }
+    ensures undoes { (p : List ℕ) → bytes.old ≡ ctr key.now counter.now p → bytes.new ≡ p }
+{
+    key.known();
+    let start = u128::from_be_bytes(*counter);
+    let fours = bytes.len() / 64;
+    let count = bytes.len() / 16;
+    let left = bytes.len() - 16 * count;
+    'fours: for i in 0..fours {
+        let a_at = 4 * i;
+        let b_at = 4 * i + 1;
+        let c_at = 4 * i + 2;
+        let d_at = 4 * i + 3;
+        let mut a = counter_block(start, a_at);
+        let mut b = counter_block(start, b_at);
+        let mut c = counter_block(start, c_at);
+        let mut d = counter_block(start, d_at);
+        key.encrypt_four(&mut a, &mut b, &mut c, &mut d);
+        xor_sixteen(&mut bytes[16 * a_at..16 * a_at + 16], &a);
+        xor_sixteen(&mut bytes[16 * b_at..16 * b_at + 16], &b);
+        xor_sixteen(&mut bytes[16 * c_at..16 * c_at + 16], &c);
+        xor_sixteen(&mut bytes[16 * d_at..16 * d_at + 16], &d);
+    }
+    'rest: for k in 4 * fours..count {
+        let mut block = counter_block(start, k);
+        key.encrypt_block(&mut block);
+        xor_sixteen(&mut bytes[16 * k..16 * k + 16], &block);
+    }
+    let mut last = counter_block(start, count);
+    key.encrypt_block(&mut last);
+    xor_with(&mut bytes[16 * count..], &last[0..left]);
+}
