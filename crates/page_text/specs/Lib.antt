@@ -1,3 +1,5 @@
-pub mod Fields
 pub mod Lends
+pub mod Opening
 pub mod Parts
+pub mod State
+pub mod Text

@@ -1,9 +1,6 @@
 -- The parts of a page, which has one of five sizes.
-use Rattle.std.specs.Prelude.{◌≡◌, ℕ, ◌-◌, ◌⊎◌, List, ◌++◌, length, take, drop}
-
--- 4, 8, 16, 32 and 64 KiB
-abbrev pub IsPageSize : ℕ → Type 0
-IsPageSize n = (n ≡ 4096) ⊎ (n ≡ 8192) ⊎ (n ≡ 16384) ⊎ (n ≡ 32768) ⊎ (n ≡ 65536)
+use Rattle.std.specs.Prelude.{ℕ, ◌-◌, List, ◌++◌, length, take, drop}
+pub use Rattle.space_head.specs.Sizes.{IsPageSize}
 
 -- the bytes from a place up to another
 abbrev pub part_of : List ℕ → ℕ → ℕ → List ℕ

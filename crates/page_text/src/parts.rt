@@ -51,7 +51,7 @@ impl PageBytes for &mut [u8] {
 /// holds as `B`: see [`PageMut`].
 #[derive(Drop)]
 pub struct WritablePage<B> {
-    bytes: B,
+    pub(crate) bytes: B,
 }
 
 /// A page that is written in place in a borrowed slice. In contracts `bytes.now` of it is the list

@@ -1,10 +1,11 @@
 // A page that is read in place.
 
 ghost use Rattle.std.specs.Prelude.{◌≡◌, ℕ, ◌+◌, ◌≤◌, ◌++◌, List, length, MatchOption};
-ghost use Rattle.page_text.specs.Fields.{be16_at, be32_at, be64_at};
+ghost use Rattle.space_head.specs.Fields.{be16_at, be32_at, be64_at};
 ghost use Rattle.page_text.specs.Parts.{IsPageSize, body, header, trailer};
 
 use crate::is_page_size;
+use space_head::fields::{be16_at, be32_at, be64_at};
 use std::marker::Model;
 
 /// A page of 4096, 8192, 16384, 32768 or 65536 bytes that is read in place. In contracts it is the
@@ -84,40 +85,4 @@ impl<'a> PageView<'a> {
     {
         be16_at(self.bytes, 24)
     }
-}
-
-// The number in the two bytes from a place on.
-#[tactic(auto, unfolding(crate::specs::Fields::be16_at))]
-pub(crate) fn be16_at(page: &[u8], at: usize) -> u16
-    requires { at + 2 ≤ length page.now }
-    ensures { result ≡ be16_at page.now at }
-{
-    u16::from_be_bytes([page[at], page[at + 1]])
-}
-
-// The number in the four bytes from a place on.
-#[tactic(auto, unfolding(crate::specs::Fields::be32_at))]
-pub(crate) fn be32_at(page: &[u8], at: usize) -> u32
-    requires { at + 4 ≤ length page.now }
-    ensures { result ≡ be32_at page.now at }
-{
-    u32::from_be_bytes([page[at], page[at + 1], page[at + 2], page[at + 3]])
-}
-
-// The number in the eight bytes from a place on.
-#[tactic(auto, unfolding(crate::specs::Fields::be64_at))]
-pub(crate) fn be64_at(page: &[u8], at: usize) -> u64
-    requires { at + 8 ≤ length page.now }
-    ensures { result ≡ be64_at page.now at }
-{
-    u64::from_be_bytes([
-        page[at],
-        page[at + 1],
-        page[at + 2],
-        page[at + 3],
-        page[at + 4],
-        page[at + 5],
-        page[at + 6],
-        page[at + 7],
-    ])
 }
