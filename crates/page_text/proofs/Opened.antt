@@ -1,17 +1,17 @@
 -- What is taken is a page text, and each page text is taken.
-use Rattle.std.proofs.Common.{◌≡◌, ◌≢◌, ℕ, zero, suc, ◌+◌, ◌-◌, ◌%◌, ◌^◌, ◌==◌, ◌<◌, ◌≤◌, Bool, true, false, not, List, [], ◌∷◌, ◌++◌, length, take, drop, get_or, slice_index, Ok, Err, refl, sym, ap, ap₂, ◌∙◌, arith, inl, inr, length-append, length-drop, append_assoc, lit<, eq-eqb, ne_eqb}
-use Rattle.std.specs.Prelude.{Option, Some, None, IsSome, Result, if◌then◌else◌, replicate, ◌&&◌, ◌||◌}
+use Rattle.std.proofs.Common.{◌≡◌, ◌≢◌, ℕ, zero, suc, ◌+◌, ◌-◌, ◌%◌, ◌^◌, ◌==◌, ◌<◌, ◌≤◌, Bool, true, false, not, List, [], ◌∷◌, ◌++◌, length, take, drop, Ok, Err, refl, sym, ap, ap₂, ◌∙◌, arith, inl, inr, length-append, length-drop, append_assoc, lit<, eq-eqb, ne_eqb}
+use Rattle.std.specs.Prelude.{Option, IsSome, Result, if◌then◌else◌, replicate}
 use Rattle.std.specs.Int.{to_be_bytes, w16, w32, w64}
-use Rattle.std.proofs.lemmas.Bool.{eqb-true, eqb-false}
+use Rattle.std.proofs.lemmas.Bool.{eqb-true}
 use Rattle.std.proofs.lemmas.List.{append-nil, drop_at, take_all, take_at}
 use Rattle.bytes_core.specs.Crc.{crc32c}
 use Rattle.space_head.specs.Fields.{be16_at, be32_at, be64_at, part, overwritten}
 use Rattle.space_head.specs.Sizes.{IsPageSize}
-use Rattle.space_head.proofs.Parts.{AreBytes, be16_at-same, be16_at-written, be32_at-same, be32_at-written, be64_at-same, be64_at-written, field_is, field_is_16, field_is_64, length-overwritten, part-add, part-overwritten_below, part-overwritten_same, part_at, part_bytes, part_long, split_off, overwritten_at}
+use Rattle.space_head.proofs.Parts.{AreBytes, be16_at-same, be16_at-written, be32_at-same, be32_at-written, be64_at-same, be64_at-written, field_is, field_is_16, field_is_64, length-overwritten, part-add, part-overwritten_below, part-overwritten_same, part_at, part_bytes, part_long, split_off}
 use Rattle.page_text.specs.Opening.{Undoes, clear_check, fits_page, in_clear, inner_check, left_after, unciphered}
 use Rattle.page_text.specs.Parts.{body, cipher_part}
 use Rattle.page_text.specs.State.{computed_sum, stored_sum}
-use Rattle.page_text.specs.Text.{FitsPage, IsText, Plain, before_sum, enciphered, inner, inner_start, key_of, page_iv, plain_of, start, text}
+use Rattle.page_text.specs.Text.{FitsPage, IsText, Plain, before_sum, enciphered, inner, inner_start, key_of, page_iv, plain_of, start}
 use Rattle.page_text.specs.declared.fault.OpenFault.{OpenFault}
 use Rattle.page_text.specs.declared.fault.OpenFault.TheVariants.{Checksum, WrongEnd, WrongFill, WrongKind, WrongPage, WrongSpace}
 use Rattle.page_text.specs.declared.key.PageKey.{PageKey}

@@ -1,8 +1,8 @@
 -- The writes of a page text, on the parts of a page.
 use Rattle.std.proofs.Common.{◌≡◌, ℕ, ◌+◌, ◌-◌, ◌≤◌, List, [], ◌++◌, length, take, drop, refl, sym, ap, ◌∙◌, arith, length-append, length-drop, append_assoc}
-use Rattle.std.proofs.lemmas.List.{append-nil, length-take-le, take_all, take_at}
+use Rattle.std.proofs.lemmas.List.{append-nil, length-take-le}
 use Rattle.space_head.specs.Fields.{part, overwritten}
-use Rattle.space_head.proofs.Parts.{length-overwritten, part_at, part_long, split_off, overwritten_at}
+use Rattle.space_head.proofs.Parts.{part_at, split_off, overwritten_at}
 use Rattle.page_text.specs.Parts.{body, cipher_part}
 
 -- the parts of a page: start, type, inner start, body, low half of the LSN, checksum

@@ -1,12 +1,12 @@
 // A page text, taken apart in place.
 
-ghost use Rattle.std.specs.Prelude.{◌≡◌, ◌≢◌, ◌-◌, ◌%◌, ◌^◌, ◌<◌, ◌≤◌, ◌+◌, ◌↔◌, ℕ, List, IsSome, Ok, length};
+ghost use Rattle.std.specs.Prelude.{◌≡◌, ◌≢◌, ◌-◌, ◌%◌, ◌^◌, ◌<◌, ◌≤◌, ℕ, List, IsSome, Ok, length};
 ghost use Rattle.aes_core.specs.Cipher.{AreBytes};
-ghost use Rattle.space_head.specs.Fields.{be16_at, be32_at, be64_at, overwritten};
+ghost use Rattle.space_head.specs.Fields.{be16_at, be32_at, be64_at};
 ghost use Rattle.space_head.specs.Sizes.{IsPageSize};
-ghost use Rattle.page_text.specs.Opening.{Undoes, and_then, clear_check, fits_page, in_clear, inner_check, left_after, opening, unciphered};
+ghost use Rattle.page_text.specs.Opening.{Undoes, clear_check, fits_page, in_clear, inner_check, left_after, opening, unciphered};
 ghost use Rattle.page_text.specs.Parts.{cipher_part};
-ghost use Rattle.page_text.specs.State.{computed_sum, stored_sum};
+ghost use Rattle.page_text.specs.State.{computed_sum};
 ghost use Rattle.page_text.specs.Text.{IsText, Plain, enciphered, key_lent, key_of, page_iv, plain_of};
 
 use crate::sealing::{known_page, page_iv};

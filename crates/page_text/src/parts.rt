@@ -1,6 +1,6 @@
 // A page that is written in place, through the parts that it lends.
 
-ghost use Rattle.std.specs.Prelude.{◌≡◌, ℕ, ◌+◌, ◌-◌, ◌≤◌, Bool, true, List, length, IfSome, MatchOption};
+ghost use Rattle.std.specs.Prelude.{◌≡◌, ℕ, ◌+◌, ◌-◌, ◌≤◌, true, List, length, IfSome, MatchOption};
 ghost use Rattle.std.specs.Borrow.{sem, Lends, Array, u8};
 ghost use Rattle.page_text.specs.Parts.{IsPageSize, body, cipher_part, header, part_of, trailer, with_part};
 

@@ -1,6 +1,6 @@
 // A page text, written over a plain page.
 
-ghost use Rattle.std.specs.Prelude.{◌≡◌, ◌≢◌, ◌↔◌, ◌+◌, ◌-◌, ◌%◌, ◌^◌, ◌<◌, ◌≤◌, ◌++◌, ℕ, IsSome, length, slice_index, take};
+ghost use Rattle.std.specs.Prelude.{◌≡◌, ◌≢◌, ◌↔◌, ◌+◌, ◌-◌, ◌%◌, ◌<◌, ◌≤◌, ℕ, IsSome, length, slice_index, take};
 ghost use Rattle.std.specs.Int.{to_be_bytes, w32};
 ghost use Rattle.bytes_core.specs.Crc.{crc32c};
 ghost use Rattle.space_head.specs.Fields.{be16_at, overwritten};

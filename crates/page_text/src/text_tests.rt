@@ -1,6 +1,6 @@
 // Page texts: the rows of the format, and texts whose values were computed by OpenSSL and zlib.
 
-ghost use Rattle.std.specs.Prelude.{◌≡◌, ◌≢◌, ◌↔◌, IsSome, length};
+ghost use Rattle.std.specs.Prelude.{length};
 ghost use Rattle.space_head.specs.Sizes.{IsPageSize};
 
 use crate::sealing::page_iv;

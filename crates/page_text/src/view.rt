@@ -1,6 +1,6 @@
 // A page that is read in place.
 
-ghost use Rattle.std.specs.Prelude.{◌≡◌, ℕ, ◌+◌, ◌≤◌, ◌++◌, List, length, MatchOption};
+ghost use Rattle.std.specs.Prelude.{◌≡◌, ℕ, ◌+◌, ◌++◌, List, length, MatchOption};
 ghost use Rattle.space_head.specs.Fields.{be16_at, be32_at, be64_at};
 ghost use Rattle.page_text.specs.Parts.{IsPageSize, body, header, trailer};
 

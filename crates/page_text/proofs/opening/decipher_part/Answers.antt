@@ -2,7 +2,7 @@ use Rattle.std.proofs.Common.{◌≡◌, ℕ, ◌-◌, List, ◌++◌, length, t
 use Rattle.std.specs.Prelude.{Option}
 use Rattle.space_head.specs.Fields.{be32_at, be64_at, overwritten}
 use Rattle.space_head.proofs.Parts.{part_long}
-use Rattle.page_text.specs.Opening.{Undoes, unciphered}
+use Rattle.page_text.specs.Opening.{unciphered}
 use Rattle.page_text.specs.Parts.{cipher_part}
 use Rattle.page_text.specs.Text.{enciphered, key_lent, key_of, page_iv}
 use Rattle.page_text.specs.declared.key.PageKey.{PageKey}
