@@ -6,10 +6,35 @@ use Rattle.std.proofs.lemmas.Nat.{and_mask, le_bytes_4, xor_mod, xor_shr}
 use lib.Bits.{xor_zero_l, xor_zero_r}
 use Rattle.aes_core.specs.Field.{product_of, sub_byte, times, inv_sub_byte}
 use Rattle.aes_core.specs.Cipher.{bytes_of, circulant_times, round_key, state_of, sub_bytes, inv_mix_columns, xored}
-use Rattle.aes_core.specs.declared.tables.TheConstants.{ROUND_0, ROUND_1, ROUND_2, ROUND_3, SUB, INV_ROUND_0, INV_ROUND_1, INV_ROUND_2, INV_ROUND_3, INV_SUB}
+use Rattle.aes_core.specs.declared.tables.TheConstants.{INV_ROUNDS, INV_SUB, ROUNDS, SUB}
 use Rattle.aes_core.proofs.Inverse.{bytes_four, sixteen_of}
 use Rattle.aes_core.proofs.Linear.{row_times-xor}
 use Rattle.aes_core.proofs.ByTable.{everywhere, sub_at, inv_sub_at}
+
+-- the tables one by one
+abbrev ROUND_0 : List ℕ
+ROUND_0 = get_or ROUNDS 0 []
+
+abbrev ROUND_1 : List ℕ
+ROUND_1 = get_or ROUNDS 1 []
+
+abbrev ROUND_2 : List ℕ
+ROUND_2 = get_or ROUNDS 2 []
+
+abbrev ROUND_3 : List ℕ
+ROUND_3 = get_or ROUNDS 3 []
+
+abbrev INV_ROUND_0 : List ℕ
+INV_ROUND_0 = get_or INV_ROUNDS 0 []
+
+abbrev INV_ROUND_1 : List ℕ
+INV_ROUND_1 = get_or INV_ROUNDS 1 []
+
+abbrev INV_ROUND_2 : List ℕ
+INV_ROUND_2 = get_or INV_ROUNDS 2 []
+
+abbrev INV_ROUND_3 : List ℕ
+INV_ROUND_3 = get_or INV_ROUNDS 3 []
 
 pub bytes_xor : (a b : ℕ) → to_le_bytes w32 (bit_xor a b) ≡ xored (to_le_bytes w32 a) (to_le_bytes w32 b)
 bytes_xor a b =

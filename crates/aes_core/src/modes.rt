@@ -48,7 +48,7 @@ fn block_of(bytes: &[u8], i: usize) -> [u8; 16]
 
 // The plain block of a cipher block in CBC, `before` being the cipher block before it.
 #[inline(always)]
-fn opened(key: &BlockKey, cipher: [u8; 16], before: &[u8; 16]) -> [u8; 16]
+fn plain_block(key: &BlockKey, cipher: [u8; 16], before: &[u8; 16]) -> [u8; 16]
     ensures { result ≡ xored (decrypted key.now cipher) before.now }
 {
     let mut block = cipher;
@@ -78,10 +78,10 @@ pub fn cbc_tail_decrypt(key: &BlockKey, iv: &[u8; 16], bytes: &mut [u8])
         let b = block_of(bytes, b_at);
         let c = block_of(bytes, c_at);
         let d = block_of(bytes, d_at);
-        let ta = opened(key, a, &before);
-        let tb = opened(key, b, &a);
-        let tc = opened(key, c, &b);
-        let td = opened(key, d, &c);
+        let ta = plain_block(key, a, &before);
+        let tb = plain_block(key, b, &a);
+        let tc = plain_block(key, c, &b);
+        let td = plain_block(key, d, &c);
         bytes[16 * a_at..16 * a_at + 16].copy_from_slice(&ta);
         bytes[16 * b_at..16 * b_at + 16].copy_from_slice(&tb);
         bytes[16 * c_at..16 * c_at + 16].copy_from_slice(&tc);
@@ -90,7 +90,7 @@ pub fn cbc_tail_decrypt(key: &BlockKey, iv: &[u8; 16], bytes: &mut [u8])
     }
     'rest: for k in 4 * fours..count {
         let cipher = block_of(bytes, k);
-        let text = opened(key, cipher, &before);
+        let text = plain_block(key, cipher, &before);
         bytes[16 * k..16 * k + 16].copy_from_slice(&text);
         before = cipher;
     }
@@ -111,12 +111,14 @@ fn big_endian(n: u128) -> [u8; 16]
     store([a, b, c, d])
 }
 
-// Counter i: the first one plus i, modulo 2^128.
+// Block i of the key stream: the counter plus i, modulo 2^128, enciphered.
 #[inline(always)]
-fn counter_block(start: u128, i: usize) -> [u8; 16]
-    ensures { result ≡ to_be_bytes w128 ((start + i) % 2 ^ 128) }
+fn stream_block(key: &BlockKey, start: u128, i: usize) -> [u8; 16]
+    ensures { result ≡ encrypted key.now (to_be_bytes w128 ((start + i) % 2 ^ 128)) }
 {
-    big_endian(start.wrapping_add(i as u128))
+    let mut block = big_endian(start.wrapping_add(i as u128));
+    key.encrypt_block(&mut block);
+    block
 }
 
 /// Enciphers or deciphers bytes of any number in place, in CTR (SP 800-38A, 6.5): XOR with the key
@@ -137,22 +139,19 @@ pub fn ctr_apply(key: &BlockKey, counter: &[u8; 16], bytes: &mut [u8])
         let b_at = 4 * i + 1;
         let c_at = 4 * i + 2;
         let d_at = 4 * i + 3;
-        let mut a = counter_block(start, a_at);
-        let mut b = counter_block(start, b_at);
-        let mut c = counter_block(start, c_at);
-        let mut d = counter_block(start, d_at);
-        key.encrypt_four(&mut a, &mut b, &mut c, &mut d);
+        let a = stream_block(key, start, a_at);
+        let b = stream_block(key, start, b_at);
+        let c = stream_block(key, start, c_at);
+        let d = stream_block(key, start, d_at);
         xor_sixteen(&mut bytes[16 * a_at..16 * a_at + 16], &a);
         xor_sixteen(&mut bytes[16 * b_at..16 * b_at + 16], &b);
         xor_sixteen(&mut bytes[16 * c_at..16 * c_at + 16], &c);
         xor_sixteen(&mut bytes[16 * d_at..16 * d_at + 16], &d);
     }
     'rest: for k in 4 * fours..count {
-        let mut block = counter_block(start, k);
-        key.encrypt_block(&mut block);
+        let block = stream_block(key, start, k);
         xor_sixteen(&mut bytes[16 * k..16 * k + 16], &block);
     }
-    let mut last = counter_block(start, count);
-    key.encrypt_block(&mut last);
+    let last = stream_block(key, start, count);
     xor_with(&mut bytes[16 * count..], &last[0..left]);
 }

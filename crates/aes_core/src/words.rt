@@ -7,9 +7,7 @@ ghost use Rattle.aes_core.specs.Field.{sub_byte, inv_sub_byte};
 ghost use Rattle.aes_core.specs.Cipher.{bytes_of, circulant_times, decrypted_by, encrypted_by, mix_columns, round_key, shift_rows, state_of, sub_bytes, inv_mix_columns, inv_shift_rows, inv_sub_bytes, xored};
 
 use crate::plain::inv_sub_byte;
-use crate::tables::{
-    INV_ROUND_0, INV_ROUND_1, INV_ROUND_2, INV_ROUND_3, ROUND_0, ROUND_1, ROUND_2, ROUND_3,
-};
+use crate::tables::{INV_ROUNDS, ROUNDS};
 
 // A column of the next state, from the columns that its bytes come from.
 #[inline(always)]
@@ -17,10 +15,10 @@ fn column(a: u32, b: u32, c: u32, d: u32, key: u32) -> u32
     ensures { to_le_bytes w32 result
         ≡ xored (circulant_times 2 3 1 1 (sub_byte (byte_at 0 a)) (sub_byte (byte_at 1 b)) (sub_byte (byte_at 2 c)) (sub_byte (byte_at 3 d))) (to_le_bytes w32 key) }
 {
-    ROUND_0[(a & 0xff) as usize]
-        ^ ROUND_1[((b >> 8) & 0xff) as usize]
-        ^ ROUND_2[((c >> 16) & 0xff) as usize]
-        ^ ROUND_3[(d >> 24) as usize]
+    ROUNDS[0][(a & 0xff) as usize]
+        ^ ROUNDS[1][((b >> 8) & 0xff) as usize]
+        ^ ROUNDS[2][((c >> 16) & 0xff) as usize]
+        ^ ROUNDS[3][(d >> 24) as usize]
         ^ key
 }
 
@@ -45,10 +43,10 @@ fn last_column(a: u32, b: u32, c: u32, d: u32, key: u32) -> u32
     ensures { to_le_bytes w32 result
         ≡ xored (sub_bytes (byte_at 0 a ∷ byte_at 1 b ∷ byte_at 2 c ∷ byte_at 3 d ∷ [])) (to_le_bytes w32 key) }
 {
-    (ROUND_2[(a & 0xff) as usize] & 0x0000_00ff)
-        ^ (ROUND_3[((b >> 8) & 0xff) as usize] & 0x0000_ff00)
-        ^ (ROUND_0[((c >> 16) & 0xff) as usize] & 0x00ff_0000)
-        ^ (ROUND_1[(d >> 24) as usize] & 0xff00_0000)
+    (ROUNDS[2][(a & 0xff) as usize] & 0x0000_00ff)
+        ^ (ROUNDS[3][((b >> 8) & 0xff) as usize] & 0x0000_ff00)
+        ^ (ROUNDS[0][((c >> 16) & 0xff) as usize] & 0x00ff_0000)
+        ^ (ROUNDS[1][(d >> 24) as usize] & 0xff00_0000)
         ^ key
 }
 
@@ -110,63 +108,16 @@ pub(crate) fn encrypt(keys: &[u32], rounds: usize, s: &mut [u8; 16])
     *s = block;
 }
 
-// Four blocks at once, so that the processor has four chains of reads to work on.
-#[inline(never)]
-pub(crate) fn encrypt_four(
-    keys: &[u32],
-    rounds: usize,
-    s: &mut [u8; 16],
-    t: &mut [u8; 16],
-    u: &mut [u8; 16],
-    v: &mut [u8; 16],
-)
-    requires some { 1 ≤ rounds }
-    requires room { 4 * (rounds + 1) ≤ length keys.now }
-    ensures first { s.new ≡ encrypted_by (bytes_of keys.now) rounds s.old }
-    ensures second { t.new ≡ encrypted_by (bytes_of keys.now) rounds t.old }
-    ensures third { u.new ≡ encrypted_by (bytes_of keys.now) rounds u.old }
-    ensures fourth { v.new ≡ encrypted_by (bytes_of keys.now) rounds v.old }
-{
-    let mut ws = load(&s[0..16], &keys[0..4]);
-    let mut wt = load(&t[0..16], &keys[0..4]);
-    let mut wu = load(&u[0..16], &keys[0..4]);
-    let mut wv = load(&v[0..16], &keys[0..4]);
-    for r in 1..rounds {
-        let k = &keys[4 * r..4 * r + 4];
-        let ns = round(ws, k);
-        let nt = round(wt, k);
-        let nu = round(wu, k);
-        let nv = round(wv, k);
-        ws = ns;
-        wt = nt;
-        wu = nu;
-        wv = nv;
-    }
-    let k = &keys[4 * rounds..4 * rounds + 4];
-    let es = last_round(ws, k);
-    let et = last_round(wt, k);
-    let eu = last_round(wu, k);
-    let ev = last_round(wv, k);
-    let bs = store(es);
-    let bt = store(et);
-    let bu = store(eu);
-    let bv = store(ev);
-    *s = bs;
-    *t = bt;
-    *u = bu;
-    *v = bv;
-}
-
 // A column on the way back.
 #[inline(always)]
 fn inv_column(a: u32, b: u32, c: u32, d: u32, key: u32) -> u32
     ensures { to_le_bytes w32 result
         ≡ xored (circulant_times 14 11 13 9 (inv_sub_byte (byte_at 0 a)) (inv_sub_byte (byte_at 1 b)) (inv_sub_byte (byte_at 2 c)) (inv_sub_byte (byte_at 3 d))) (to_le_bytes w32 key) }
 {
-    INV_ROUND_0[(a & 0xff) as usize]
-        ^ INV_ROUND_1[((b >> 8) & 0xff) as usize]
-        ^ INV_ROUND_2[((c >> 16) & 0xff) as usize]
-        ^ INV_ROUND_3[(d >> 24) as usize]
+    INV_ROUNDS[0][(a & 0xff) as usize]
+        ^ INV_ROUNDS[1][((b >> 8) & 0xff) as usize]
+        ^ INV_ROUNDS[2][((c >> 16) & 0xff) as usize]
+        ^ INV_ROUNDS[3][(d >> 24) as usize]
         ^ key
 }
 

@@ -47,21 +47,20 @@ fours-preserved c =
     let i : ℕ = c.fours.i in
     let stream : (n v : ℕ) → v ≡ c.from_be_bytes-start.result → to_be_bytes w128 ((v + n) % 2 ^ 128) ≡ counter_at counter n =
     λ n v e. ap (λ (m : ℕ). to_be_bytes w128 ((m + n) % 2 ^ 128)) (e ∙ c.from_be_bytes-start.ensures) in
-    let f = c.encrypt_four.ensures in
-    let sa = f.first ∙ ap (encrypted key) (c.counter_block-a.ensures ∙ stream (4 * i) _ refl) in
-    let sb = f.second ∙ ap (encrypted key) (c.counter_block-b.ensures ∙ stream (4 * i + 1) _ refl) in
-    let sc = f.third ∙ ap (encrypted key) (c.counter_block-c.ensures ∙ stream (4 * i + 2) _ refl) in
-    let sd = f.fourth ∙ ap (encrypted key) (c.counter_block-d.ensures ∙ stream (4 * i + 3) _ refl) in
+    let sa = c.stream_block-a.ensures ∙ ap (encrypted key) (stream (4 * i) _ refl) in
+    let sb = c.stream_block-b.ensures ∙ ap (encrypted key) (stream (4 * i + 1) _ refl) in
+    let sc = c.stream_block-c.ensures ∙ ap (encrypted key) (stream (4 * i + 2) _ refl) in
+    let sd = c.stream_block-d.ensures ∙ ap (encrypted key) (stream (4 * i + 3) _ refl) in
     let room : 16 * (4 * i) + 64 ≤ length xs = omega arith in
     let r0 : Reached key counter xs c.fours.bytes (4 * i) = record { blocks = c.fours.invariant.0; text = c.fours.invariant.1 } in
-    let r1 = one_more key counter xs c.fours.bytes c.encrypt_four.new.a c.xor_sixteen.new.to (4 * i) (4 * i) (16 * (4 * i) + 16 - 16 * (4 * i)) (16 * (4 * i) + 16 - 16 * (4 * i)) r0
-    refl (omega arith) (omega arith) (omega arith) sa c.encrypt_four.array_long c.xor_sixteen.ensures in
-    let r2 = one_more key counter xs _ c.encrypt_four.new.b c.xor_sixteen-in-fours.new.to (4 * i + 1) (4 * i + 1) (16 * (4 * i + 1) + 16 - 16 * (4 * i + 1)) (16 * (4 * i + 1) + 16 - 16 * (4 * i + 1)) r1
-    refl (omega arith) (omega arith) (omega arith) sb c.encrypt_four.array_long2 c.xor_sixteen-in-fours.ensures in
-    let r3 = one_more key counter xs _ c.encrypt_four.new.c c.xor_sixteen-in-fours-2.new.to (4 * i + 1 + 1) (4 * i + 2) (16 * (4 * i + 2) + 16 - 16 * (4 * i + 2)) (16 * (4 * i + 2) + 16 - 16 * (4 * i + 2)) r2
-    (omega arith) (omega arith) (omega arith) (omega arith) sc c.encrypt_four.array_long3 c.xor_sixteen-in-fours-2.ensures in
-    let r4 = one_more key counter xs _ c.encrypt_four.new.d c.xor_sixteen-in-fours-3.new.to (4 * i + 1 + 1 + 1) (4 * i + 3) (16 * (4 * i + 3) + 16 - 16 * (4 * i + 3)) (16 * (4 * i + 3) + 16 - 16 * (4 * i + 3)) r3
-    (omega arith) (omega arith) (omega arith) (omega arith) sd c.encrypt_four.array_long4 c.xor_sixteen-in-fours-3.ensures in
+    let r1 = one_more key counter xs c.fours.bytes c.stream_block-a.result c.xor_sixteen.new.to (4 * i) (4 * i) (16 * (4 * i) + 16 - 16 * (4 * i)) (16 * (4 * i) + 16 - 16 * (4 * i)) r0
+    refl (omega arith) (omega arith) (omega arith) sa (omega arith) c.xor_sixteen.ensures in
+    let r2 = one_more key counter xs _ c.stream_block-b.result c.xor_sixteen-in-fours.new.to (4 * i + 1) (4 * i + 1) (16 * (4 * i + 1) + 16 - 16 * (4 * i + 1)) (16 * (4 * i + 1) + 16 - 16 * (4 * i + 1)) r1
+    refl (omega arith) (omega arith) (omega arith) sb (omega arith) c.xor_sixteen-in-fours.ensures in
+    let r3 = one_more key counter xs _ c.stream_block-c.result c.xor_sixteen-in-fours-2.new.to (4 * i + 1 + 1) (4 * i + 2) (16 * (4 * i + 2) + 16 - 16 * (4 * i + 2)) (16 * (4 * i + 2) + 16 - 16 * (4 * i + 2)) r2
+    (omega arith) (omega arith) (omega arith) (omega arith) sc (omega arith) c.xor_sixteen-in-fours-2.ensures in
+    let r4 = one_more key counter xs _ c.stream_block-d.result c.xor_sixteen-in-fours-3.new.to (4 * i + 1 + 1 + 1) (4 * i + 3) (16 * (4 * i + 3) + 16 - 16 * (4 * i + 3)) (16 * (4 * i + 3) + 16 - 16 * (4 * i + 3)) r3
+    (omega arith) (omega arith) (omega arith) (omega arith) sd (omega arith) c.xor_sixteen-in-fours-3.ensures in
     let e : 4 * i + 1 + 1 + 1 + 1 ≡ 4 * (i + 1) = omega arith in
     let r = at_place key counter xs _ (4 * i + 1 + 1 + 1 + 1) (4 * (i + 1)) e r4 in
     (r.blocks, r.text)
@@ -78,9 +77,9 @@ rest-preserved c =
     let xs : List ℕ = c.args.bytes.now in
     let counter : List ℕ = c.args.counter.now in
     let k : ℕ = c.rest.k in
-    let made = c.encrypt_block.ensures ∙ ap (encrypted key) (c.counter_block-block.ensures ∙ ap (λ (m : ℕ). to_be_bytes w128 ((m + k) % 2 ^ 128)) c.from_be_bytes-start.ensures) in
-    let r = one_more key counter xs c.rest.bytes c.encrypt_block.new.block c.xor_sixteen-in-rest.new.to k k (16 * k + 16 - 16 * k) (16 * k + 16 - 16 * k) (record { blocks = c.rest.invariant.0; text = c.rest.invariant.1 })
-    refl (omega arith) (omega arith) (omega arith) made c.encrypt_block.array_long c.xor_sixteen-in-rest.ensures in
+    let made = c.stream_block-block.ensures ∙ ap (λ (m : ℕ). encrypted key (to_be_bytes w128 ((m + k) % 2 ^ 128))) c.from_be_bytes-start.ensures in
+    let r = one_more key counter xs c.rest.bytes c.stream_block-block.result c.xor_sixteen-in-rest.new.to k k (16 * k + 16 - 16 * k) (16 * k + 16 - 16 * k) (record { blocks = c.rest.invariant.0; text = c.rest.invariant.1 })
+    refl (omega arith) (omega arith) (omega arith) made (omega arith) c.xor_sixteen-in-rest.ensures in
     (r.blocks, r.text)
 
 pub returns : goal.returns
@@ -95,14 +94,14 @@ returns c =
     let blocks : AreBlocks g n = rw e at c.rest.invariant.0 in
     let w : Written f xs c.rest.bytes n = rw e at c.rest.invariant.1 in
     let long : length c.rest.bytes ≡ length xs = w.long in
-    let stream : c.encrypt_block-2.new.block ≡ g n =
-    c.encrypt_block-2.ensures ∙ ap (encrypted key) (c.counter_block-last.ensures ∙ ap (λ (m : ℕ). to_be_bytes w128 ((m + n) % 2 ^ 128)) c.from_be_bytes-start.ensures) in
+    let stream : c.stream_block-last.result ≡ g n =
+    c.stream_block-last.ensures ∙ ap (λ (m : ℕ). encrypted key (to_be_bytes w128 ((m + n) % 2 ^ 128))) c.from_be_bytes-start.ensures in
     let rest : List ℕ = drop (16 * n) xs in
     let short : length rest ≡ length xs - 16 * n = length-drop (16 * n) xs in
     let last : c.xor_with.new.to ≡ xored rest (g n) =
     c.xor_with.ensures
     ∙ ap₂ (λ (a b : List ℕ). xored a b) (written_rest f xs c.rest.bytes n _ w (omega arith)) refl
-    ∙ xored_front rest c.encrypt_block-2.new.block _ (omega arith) ∙ ap (xored rest) stream in
+    ∙ xored_front rest c.stream_block-last.result _ (omega arith) ∙ ap (xored rest) stream in
     let value = written_all f xs c.rest.bytes c.xor_with.new.to n _ w (omega arith) ∙ ap (λ (t : List ℕ). joined f n ++ t) last ∙ ctr_is key counter xs n refl blocks in
     let twice : (p : List ℕ) → ctr key counter (ctr key counter p) ≡ p = λ p. ctr_twice key counter p (stream_blocks key counter c.known.ensures (whole_blocks p + 1)) in
     record { value = value; inverse = ap (ctr key counter) value ∙ twice xs; undoes = λ p was. value ∙ ap (ctr key counter) was ∙ twice p }
