@@ -1,0 +1,5 @@
+pub mod Causes
+pub mod Fills
+pub mod Lookups
+pub mod Streams
+pub mod WholeFiles

@@ -1,0 +1,92 @@
+// How an adapter over std answers for what std answered.
+ghost use Rattle.std.specs.Prelude.{◌≡◌, ◌↔◌, ◌≤◌, length, IfOk, IfErr, IsErr, OnOk};
+ghost use Rattle.std.specs.IoError.{error_kind};
+ghost use Rattle.io_core.specs.Cause.{HasCause, HasWant};
+
+use crate::IoError;
+use std::io;
+use std::io::{ErrorKind, Read};
+
+/// How often an adapter over std has failed, and how often the system had no memory for it.
+#[derive(Clone, Copy)]
+pub struct Counts {
+    pub faults: u64,
+    pub wants: u64,
+}
+
+impl Counts {
+    /// Both at 0.
+    pub fn zero() -> Counts
+        ensures faults { result.faults ≡ 0 }
+        ensures wants { result.wants ≡ 0 }
+    {
+        Counts {
+            faults: 0,
+            wants: 0,
+        }
+    }
+
+    /// Counts a failure of the outside.
+    pub fn failed(&mut self) -> IoError
+        ensures is { result ≡ IoError.Failed }
+        ensures cause { HasCause {T = Unit {0}} self.old.faults self.new.faults (Err result) }
+        ensures wants { self.new.wants ≡ self.old.wants }
+    {
+        self.faults = self.faults.saturating_add(1);
+        IoError::Failed
+    }
+
+    /// Gives std's answer on, and counts its error. An error of kind `OutOfMemory` is `NoMemory`,
+    /// every other one `Failed`.
+    pub fn answer<T>(&mut self, outcome: io::Result<T>) -> Result<T, IoError>
+        ensures ok { IfOk result (λ value. outcome ≡ Ok value) }
+        ensures err { IsErr result ↔ IsErr outcome }
+        ensures memory { IfErr outcome (λ e. (result ≡ Err IoError.NoMemory) ↔ (error_kind e ≡ ErrorKind.OutOfMemory)) }
+        ensures steady { OnOk result (self.new ≡ self.old) }
+        ensures cause { HasCause self.old.faults self.new.faults result }
+        ensures want { HasWant self.old.wants self.new.wants result }
+    {
+        match outcome {
+            Ok(value) => Ok(value),
+            Err(e) => {
+                if e.kind() == ErrorKind::OutOfMemory {
+                    self.wants = self.wants.saturating_add(1);
+                    Err(IoError::NoMemory)
+                } else {
+                    Err(self.failed())
+                }
+            }
+        }
+    }
+}
+
+/// How often a read is tried that a signal interrupts.
+const TRIES: u32 = 64;
+
+/// Reads once, and again where a signal interrupted the read, `TRIES` times at most.
+pub fn read_some<R: Read>(reader: &mut R, into: &mut [u8]) -> io::Result<usize>
+    ensures { IfOk result (λ n. n ≤ length into.old) }
+{
+    for _ in 1..TRIES {
+        match reader.read(into) {
+            Err(e) if e.kind() == ErrorKind::Interrupted => {}
+            outcome => return outcome,
+        }
+    }
+    reader.read(into)
+}
+
+/// Reads until `into` is full or the reader ends, and returns how many bytes that were.
+pub fn read_full<R: Read>(reader: &mut R, into: &mut [u8]) -> io::Result<usize>
+    ensures { IfOk result (λ n. n ≤ length into.old) }
+{
+    let mut filled = 0;
+    while filled < into.len() {
+        let count = read_some(reader, &mut into[filled..])?;
+        if count == 0 {
+            break;
+        }
+        filled += count;
+    }
+    Ok(filled)
+}

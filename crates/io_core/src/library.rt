@@ -1,0 +1,49 @@
+// Named files that are read.
+ghost use Rattle.std.specs.Prelude.{◌≡◌, ◌≤◌, ℕ, length, Option, IfOk};
+ghost use Rattle.std.specs.Option.{option_map};
+ghost use Rattle.io_core.specs.Told.{Told};
+ghost use Rattle.io_core.specs.Files.{Files, bytes_from, IsFilled};
+ghost use Rattle.io_core.specs.Cause.{HasCause, HasWant, HasAbsence};
+
+use crate::IoError;
+
+/// Files that are read by name. No call changes them.
+pub trait Library {
+    /// Its files, where the library tells them.
+    ghost files: { Self → Option Files };
+
+    /// How often it has failed. The count never falls.
+    ghost faults: { Self → ℕ };
+
+    /// How often it was refused memory. The count never falls.
+    ghost wants: { Self → ℕ };
+
+    /// How often a file was asked for that wasn't there. The count never falls.
+    ghost absences: { Self → ℕ };
+
+    /// The length of a file in bytes, and `None` where there is none of that name.
+    ///
+    /// # Errors
+    /// `Failed` where the outside failed, `NoMemory` where it had no memory.
+    fn length(&mut self, name: &str) -> Result<Option<u64>, IoError>
+        ensures length { IfOk result (λ n. Told (λ fs. n ≡ option_map length (fs name.now)) (files self.old)) }
+        ensures same { files self.new ≡ files self.old }
+        ensures absence { HasAbsence (absences self.old) (absences self.new) result }
+        ensures cause { HasCause (faults self.old) (faults self.new) result }
+        ensures want { HasWant (wants self.old) (wants self.new) result };
+
+    /// Fills the front of `into` with as many bytes as the file has from byte `at` on, at most
+    /// `into.len()`, and returns how many. The rest of `into` stays as it was. A file that gives
+    /// fewer bytes than `length` answered is taken to end there.
+    ///
+    /// # Errors
+    /// `Failed` where the outside failed, `NoMemory` where it had no memory; `into` then holds any
+    /// bytes.
+    fn read(&mut self, name: &str, at: u64, into: &mut [u8]) -> Result<usize, IoError>
+        ensures within { IfOk result (λ n. n ≤ length into.old) }
+        ensures bytes { IfOk result (λ n. Told (λ fs. IsFilled (bytes_from at name.now fs) into.old n into.new) (files self.old)) }
+        ensures same { files self.new ≡ files self.old }
+        ensures absences { absences self.old ≤ absences self.new }
+        ensures cause { HasCause (faults self.old) (faults self.new) result }
+        ensures want { HasWant (wants self.old) (wants self.new) result };
+}
