@@ -1,0 +1,4 @@
+pub mod Line
+pub mod Plain
+pub mod Derivation
+pub mod Salted
