@@ -31,10 +31,10 @@ abbrev pub first_some : Option (List ℕ) → Option (List ℕ) → Option (List
 first_some (Some key) other = Some key
 first_some None other = other
 
--- the key that the last line for an id names
-abbrev pub last_key : List (List ℕ) → ℕ → Option (List ℕ)
-last_key [] id = None
-last_key (line ∷ lines) id = first_some (last_key lines id) (key_for id (line_says 0 line))
+-- the key that the last line for an id names, the first line having number n
+abbrev pub last_key : ℕ → List (List ℕ) → ℕ → Option (List ℕ)
+last_key n [] id = None
+last_key n (line ∷ lines) id = first_some (last_key (n + 1) lines id) (key_for id (line_says n line))
 
 -- the key of an id in a list of keys
 abbrev pub key_in : List KeyItem → ℕ → Option (List ℕ)
@@ -48,12 +48,12 @@ IsAscending keys = AllPairs (λ a b. a.id < b.id) keys
 -- the keys are the finite map that gives each id the key of its last line
 pub record IsMapOf (lines : List (List ℕ)) (keys : List KeyItem) : Type 0 where
   pub ascending : IsAscending keys
-  pub keys_are : (id : ℕ) → key_in keys id ≡ last_key lines id
+  pub keys_are : (id : ℕ) → key_in keys id ≡ last_key 1 lines id
 
 -- the bytes have these keys where no line is refused and one names id 1; else they have the fault
 -- of the first line that is refused, and `NoKeyOne` after all lines
 abbrev pub Reads : List ℕ → Result (List KeyItem) KeyFault → Type 0
-Reads bytes (Ok keys) = (first_fault 1 (lines_of bytes) ≡ None) × IsSome (last_key (lines_of bytes) 1) × IsMapOf (lines_of bytes) keys
+Reads bytes (Ok keys) = (first_fault 1 (lines_of bytes) ≡ None) × IsSome (last_key 1 (lines_of bytes) 1) × IsMapOf (lines_of bytes) keys
 Reads bytes (Err fault) =
     (first_fault 1 (lines_of bytes) ≡ Some fault)
-    ⊎ ((first_fault 1 (lines_of bytes) ≡ None) × IsNone (last_key (lines_of bytes) 1) × (fault ≡ NoKeyOne))
+    ⊎ ((first_fault 1 (lines_of bytes) ≡ None) × IsNone (last_key 1 (lines_of bytes) 1) × (fault ≡ NoKeyOne))

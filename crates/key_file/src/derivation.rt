@@ -1,10 +1,10 @@
 // The key derivation of `openssl enc` without `-pbkdf2`.
 
-ghost use Rattle.std.specs.Prelude.{◌≡◌, ◌++◌, take, ◌+◌};
+ghost use Rattle.std.specs.Prelude.{◌≡◌, ◌++◌, ◌+◌, length};
 ghost use Rattle.sha1.specs.Sha1.{sha1};
 ghost use Rattle.sha2.specs.Sha256.{sha256};
 ghost use Rattle.key_file.specs.declared.derivation.KeyDigest.TheVariants as digests;
-ghost use Rattle.key_file.specs.Derivation.{derived, iv_of, key_of};
+ghost use Rattle.key_file.specs.Derivation.{iv_of, key_of};
 
 use sha1::Sha1;
 use sha2::{Digest, Sha256};
@@ -39,29 +39,41 @@ fn next_sha256(before: &[u8], password: &[u8], salt: &[u8; 8]) -> [u8; 32]
     hasher.finalize()
 }
 
-// The first 48 bytes of the digests in turn.
-fn sha1_stream(password: &[u8], salt: &[u8; 8]) -> [u8; 48]
-    ensures { result ≡ take 48 (derived digests.Sha1 password.now salt.now) }
+// Fills a buffer with two parts.
+fn fill(into: &mut [u8], front: &[u8], rest: &[u8])
+    requires { length into.old ≡ length front.now + length rest.now }
+    ensures { into.new ≡ front.now ++ rest.now }
+{
+    let count = front.len();
+    into[..count].copy_from_slice(front);
+    into[count..].copy_from_slice(rest);
+}
+
+// With digests of 20 bytes the key ends inside the second and the IV inside the third.
+fn derive_sha1(password: &[u8], salt: &[u8; 8]) -> ([u8; 32], [u8; 16])
+    ensures key { result.0 ≡ key_of digests.Sha1 password.now salt.now }
+    ensures iv { result.1 ≡ iv_of digests.Sha1 password.now salt.now }
 {
     let first = next_sha1(&[], password, salt);
     let second = next_sha1(&first, password, salt);
     let third = next_sha1(&second, password, salt);
-    let mut stream = [0; 48];
-    stream[..20].copy_from_slice(&first);
-    stream[20..40].copy_from_slice(&second);
-    stream[40..].copy_from_slice(&third[..8]);
-    stream
+    let mut key = [0; 32];
+    fill(&mut key, &first, &second[..12]);
+    let mut iv = [0; 16];
+    fill(&mut iv, &second[12..], &third[..8]);
+    (key, iv)
 }
 
-fn sha256_stream(password: &[u8], salt: &[u8; 8]) -> [u8; 48]
-    ensures { result ≡ take 48 (derived digests.Sha256 password.now salt.now) }
+// With digests of 32 bytes the key is the first, and the IV begins the second.
+fn derive_sha256(password: &[u8], salt: &[u8; 8]) -> ([u8; 32], [u8; 16])
+    ensures key { result.0 ≡ key_of digests.Sha256 password.now salt.now }
+    ensures iv { result.1 ≡ iv_of digests.Sha256 password.now salt.now }
 {
-    let first = next_sha256(&[], password, salt);
-    let second = next_sha256(&first, password, salt);
-    let mut stream = [0; 48];
-    stream[..32].copy_from_slice(&first);
-    stream[32..].copy_from_slice(&second[..16]);
-    stream
+    let key = next_sha256(&[], password, salt);
+    let second = next_sha256(&key, password, salt);
+    let mut iv = [0; 16];
+    iv.copy_from_slice(&second[..16]);
+    (key, iv)
 }
 
 /// The key of AES-256 and the IV that `openssl enc` derives from a password and a salt: the first
@@ -71,13 +83,8 @@ pub fn derive(digest: KeyDigest, password: &[u8], salt: &[u8; 8]) -> ([u8; 32], 
     ensures key { result.0 ≡ key_of digest password.now salt.now }
     ensures iv { result.1 ≡ iv_of digest password.now salt.now }
 {
-    let stream = match digest {
-        KeyDigest::Sha1 => sha1_stream(password, salt),
-        KeyDigest::Sha256 => sha256_stream(password, salt),
-    };
-    let mut key = [0; 32];
-    key.copy_from_slice(&stream[..32]);
-    let mut iv = [0; 16];
-    iv.copy_from_slice(&stream[32..]);
-    (key, iv)
+    match digest {
+        KeyDigest::Sha1 => derive_sha1(password, salt),
+        KeyDigest::Sha256 => derive_sha256(password, salt),
+    }
 }

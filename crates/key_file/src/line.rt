@@ -1,6 +1,6 @@
 // One line of a plain key file.
 
-ghost use Rattle.std.specs.Prelude.{◌≡◌, ℕ, ◌<◌, ◌≤◌, length, MatchOption, Ok};
+ghost use Rattle.std.specs.Prelude.{◌≡◌, ℕ, ◌<◌, ◌≤◌, length, take, MatchOption, Ok};
 ghost use Rattle.std.specs.Char.{is_ascii_digit};
 ghost use Rattle.std.specs.List.{AllPass, prefix_len};
 ghost use Rattle.std.specs.Str.Parse.{digits_value};
@@ -16,7 +16,8 @@ const PAST_IDS: u64 = 4_294_967_296;
 
 // How many blanks a line begins with.
 fn count_blanks(line: &[u8]) -> usize
-    ensures { result ≡ prefix_len is_blank line.now }
+    ensures count { result ≡ prefix_len is_blank line.now }
+    ensures within { result ≤ length line.now }
 {
     line.iter()
         .take_while(|b| **b == b' ' || **b == b'\t' || **b == b'\r')
@@ -25,14 +26,18 @@ fn count_blanks(line: &[u8]) -> usize
 
 // How many decimal digits a text begins with.
 fn count_digits(text: &[u8]) -> usize
-    ensures { result ≡ prefix_len is_ascii_digit text.now }
+    ensures count { result ≡ prefix_len is_ascii_digit text.now }
+    ensures within { result ≤ length text.now }
+    ensures digits { AllPass is_ascii_digit (take result text.now) }
 {
     text.iter().take_while(|b| b.is_ascii_digit()).count()
 }
 
 // How many hex digits a text begins with.
 fn count_hex_digits(text: &[u8]) -> usize
-    ensures { result ≡ prefix_len is_hex_digit text.now }
+    ensures count { result ≡ prefix_len is_hex_digit text.now }
+    ensures within { result ≤ length text.now }
+    ensures digits { AllPass is_hex_digit (take result text.now) }
 {
     text.iter().take_while(|b| b.is_ascii_hexdigit()).count()
 }

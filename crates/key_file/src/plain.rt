@@ -1,16 +1,18 @@
 // A plain key file.
 
-ghost use Rattle.std.specs.Prelude.{◌≡◌, ℕ, Some, Ok, Err, ◌⊎◌, List, length, map, IfOk, MatchResult, IsSome};
-ghost use Rattle.key_ring.specs.KeyLength.{IsKeyLength};
-ghost use Rattle.key_file.specs.declared.keys.KeyItem.{KeyItem};
-ghost use Rattle.key_file.specs.Line.{IsId};
-ghost use Rattle.key_file.specs.Plain.{Reads, key_in};
+ghost use Rattle.std.specs.Prelude.{◌≡◌, ℕ, Some, Ok, Err, ◌⊎◌, List, length, map, IfOk, IfErr, OnOk, MatchResult, IsSome};
+ghost use Rattle.aes_core.specs.Cipher.{IsKeyLength};
+ghost use Rattle.key_file.specs.Line.{IsId, line_says};
+ghost use Rattle.key_file.specs.Plain.{Reads, first_fault, key_in, lines_of};
+ghost use Rattle.key_file.specs.Gathered.{IsGathered, TakesLine, items_of};
+ghost use Rattle.std.specs.Ordering.{nat_cmp};
+ghost use Rattle.std.specs.BTreeMap.{IsOrdered};
 
 use crate::fault::KeyFault;
 use crate::keys::{KeyItem, KeyList};
 use crate::line::read_line;
 use key_ring::KeyBytes;
-use std::alloc::Global;
+use std::alloc::{AllocError, Global};
 use std::collections::BTreeMap;
 
 /// The keys of a plain key file. Lines end at LF or at the end of the file. Past leading blanks
@@ -33,31 +35,54 @@ pub fn parse_plain(alloc: Global, bytes: &[u8]) -> Result<KeyList, KeyFault>
     if !keys.contains_key(&1) {
         return Err(KeyFault::NoKeyOne);
     }
-    let items = listed(alloc, keys)?;
-    Ok(KeyList::of(items))
+    let _ = keys.len();
+    listed(alloc, keys)
+}
+
+// The lines of a text, which end at line feeds and at the end of the text.
+fn lines_of(alloc: Global, bytes: &[u8]) -> Result<Vec<&[u8]>, AllocError>
+    ensures { IfOk result (λ lines. map (λ line. line.now) lines.items ≡ lines_of bytes.now) }
+{
+    bytes.split(|b| *b == b'\n').collect(alloc)
+}
+
+// Takes in what a line says. Nothing is taken in where the line is refused.
+fn take_line(keys: &mut BTreeMap<u32, KeyBytes>, line: &[u8], number: usize) -> Result<(), KeyFault>
+    ensures taken { OnOk result (TakesLine keys.old keys.new number line.now) }
+    ensures refused { IfErr result (λ fault. (fault ≡ KeyFault.OutOfMemory) ⊎ (line_says number line.now ≡ Err fault)) }
+{
+    let Some(item) = read_line(line, number)? else {
+        return Ok(());
+    };
+    keys.insert(item.id, item.key)?;
+    Ok(())
 }
 
 // The key of each id by its last line, or the first fault.
 fn gather(alloc: Global, bytes: &[u8]) -> Result<BTreeMap<u32, KeyBytes>, KeyFault>
-    ensures { MatchResult result (λ keys. IsGathered (lines_of bytes.now) keys) (λ fault. (fault ≡ KeyFault.OutOfMemory) ⊎ (first_fault 1 (lines_of bytes.now) ≡ Some fault)) }
+    ensures { MatchResult result (IsGathered (lines_of bytes.now)) (λ fault. (fault ≡ KeyFault.OutOfMemory) ⊎ (first_fault 1 (lines_of bytes.now) ≡ Some fault)) }
 {
-    let lines: Vec<&[u8]> = bytes.split(|b| *b == b'\n').collect(alloc)?;
+    let lines = lines_of(alloc, bytes)?;
     let mut keys = BTreeMap::new(alloc);
     for (i, line) in lines.iter().enumerate() {
-        if let Some(item) = read_line(line, i + 1)? {
-            keys.insert(item.id, item.key)?;
-        }
+        take_line(&mut keys, line, i + 1)?;
     }
     Ok(keys)
 }
 
-// The keys in order of id.
-fn listed(alloc: Global, keys: BTreeMap<u32, KeyBytes>) -> Result<Vec<KeyItem>, KeyFault>
-    ensures { MatchResult result (λ items. (items.items ≡ map (λ e. record { id = e.0; key = e.1 }) keys.entries) × IsOrdered nat_cmp keys) (λ fault. fault ≡ KeyFault.OutOfMemory) }
+// The entries in order of id.
+fn items_of(alloc: Global, keys: BTreeMap<u32, KeyBytes>) -> Result<Vec<KeyItem>, AllocError>
+    ensures { IfOk result (λ items. items.items ≡ items_of keys.entries) }
 {
-    let items = keys
-        .into_iter()
+    keys.into_iter()
         .map(|(id, key)| KeyItem { id, key })
-        .collect(alloc)?;
-    Ok(items)
+        .collect(alloc)
+}
+
+fn listed(alloc: Global, keys: BTreeMap<u32, KeyBytes>) -> Result<KeyList, KeyFault>
+    requires { IsOrdered nat_cmp keys }
+    ensures { MatchResult result (λ items. items ≡ items_of keys.entries) (λ fault. fault ≡ KeyFault.OutOfMemory) }
+{
+    let items = items_of(alloc, keys)?;
+    Ok(KeyList::of(items))
 }

@@ -1,0 +1,5 @@
+pub mod Streams
+pub mod Lines
+pub mod Gathering
+pub mod KeyFiles
+pub mod CipherText
