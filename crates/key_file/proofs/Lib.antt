@@ -3,3 +3,6 @@ pub mod Lines
 pub mod Gathering
 pub mod KeyFiles
 pub mod CipherText
+pub mod FilesRead
+pub mod RingKeys
+pub mod Loads
