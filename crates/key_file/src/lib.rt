@@ -27,6 +27,8 @@ mod plain;
 mod reading;
 mod ring_files;
 mod salted;
+#[cfg(test)]
+mod tests;
 
 pub use derivation::{KeyDigest, derive};
 pub use fault::KeyFault;
