@@ -1,5 +1,5 @@
 -- What `cbc_pad_decrypt` says of the bytes after the salt.
-use Rattle.std.proofs.Common.{◌≡◌, ℕ, ◌-◌, ◌≤◌, List, length, take, drop, refl, sym, ap, ◌∙◌, Result, Err}
+use Rattle.std.proofs.Common.{◌≡◌, ℕ, ◌-◌, List, length, take, drop, sym, ap, ◌∙◌}
 use Rattle.std.proofs.lemmas.List.{take_rest}
 use Rattle.aes_core.specs.Modes.{cbc_pad}
 use Rattle.aes_core.specs.declared.pad.PadFault.{PadFault}

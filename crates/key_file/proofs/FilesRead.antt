@@ -4,7 +4,7 @@ use Rattle.io_core.specs.Files.{Files}
 use Rattle.key_file.specs.declared.fault.KeyFault.{KeyFault}
 use Rattle.key_file.specs.declared.fault.KeyFault.TheVariants as key
 use Rattle.key_file.specs.declared.load_fault.LoadFault.{LoadFault}
-use Rattle.key_file.specs.declared.load_fault.LoadFault.TheVariants.{KeyFile, OutOfMemory}
+use Rattle.key_file.specs.declared.load_fault.LoadFault.TheVariants.{KeyFile}
 use Rattle.key_file.specs.declared.derivation.KeyDigest.{KeyDigest}
 use Rattle.key_file.specs.declared.keys.KeyItem.{KeyItem}
 use Rattle.key_file.specs.Plain.{Reads}

@@ -1,10 +1,9 @@
 -- The keys that are gathered, line by line, against the definition of a plain key file.
-use Rattle.std.proofs.Common.{◌≡◌, ℕ, zero, suc, ◌+◌, ◌-◌, ◌*◌, ◌/◌, ◌%◌, ◌<◌, ◌≤◌, Bool, true, false, not, cond, ◌&&◌, eqb, List, [], ◌∷◌, length, map, drop, take, get_or, Option, Some, None, IsSome, IsNone, Result, Ok, Err, refl, sym, ap, ◌∙◌, subst, arith, inl, inr, ◌⊎◌, rules}
+use Rattle.std.proofs.Common.{◌≡◌, ℕ, ◌+◌, ◌<◌, false, eqb, List, [], ◌∷◌, length, map, drop, get_or, Option, Some, None, Result, Ok, Err, refl, sym, ap, ◌∙◌, arith, inl, inr}
 use Rattle.std.specs.Prelude.{IsOk}
 use Rattle.std.specs.Ordering.{is_eq, nat_cmp}
 use Rattle.std.specs.declared.cmp.Ordering.TheVariants.{Less, Equal, Greater}
 use Rattle.std.specs.Cmp.{nat_cmp_is}
-use Rattle.std.specs.Option.{is_some}
 use Rattle.std.specs.BTreeMap.{BTreeMap, IsOrdered, get, is_at}
 use Rattle.std.specs.Map.{keys_of, lookup}
 use Rattle.std.proofs.lemmas.Bool.{eq-eqb, cases_lt}
@@ -14,7 +13,7 @@ use Rattle.key_file.specs.declared.fault.KeyFault.{KeyFault}
 use Rattle.key_file.specs.declared.keys.KeyItem.{KeyItem}
 use Rattle.key_file.specs.Line.{line_says}
 use Rattle.key_file.specs.Plain.{IsAscending, fault_or, first_fault, first_some, key_for, key_in, last_key}
-use Rattle.key_file.specs.Gathered.{IsGathered, TakesLine, items_of}
+use Rattle.key_file.specs.Gathered.{TakesLine, items_of}
 
 -- ---- a map by numbers
 

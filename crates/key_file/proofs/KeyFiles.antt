@@ -1,6 +1,6 @@
 -- What the definition of a plain key file rules out: a map without id 1, an id out of range, a key of
 -- another length.
-use Rattle.std.proofs.Common.{◌≡◌, ℕ, ◌+◌, ◌*◌, ◌/◌, ◌%◌, ◌<◌, ◌≤◌, Bool, true, false, not, cond, ◌&&◌, ◌==◌, eqb, List, [], ◌∷◌, length, take, drop, get_or, Option, Some, None, IsSome, Result, Ok, Err, refl, sym, ap, ◌∙◌, subst, arith, inl, inr, ◌⊎◌, rules}
+use Rattle.std.proofs.Common.{◌≡◌, ℕ, ◌+◌, ◌*◌, ◌%◌, ◌<◌, Bool, true, false, not, cond, ◌==◌, eqb, List, [], ◌∷◌, length, drop, Option, Some, None, IsSome, Result, Ok, Err, refl, sym, ap, ◌∙◌, subst, arith, inl, inr, ◌⊎◌}
 use Rattle.std.specs.Option.{is_some}
 use Rattle.std.specs.Ordering.{nat_cmp}
 use Rattle.std.specs.Result.{result_unwrap_or}
@@ -8,7 +8,7 @@ use Rattle.std.specs.List.{AllPass, prefix_len, take_while}
 use Rattle.std.specs.BTreeMap.{BTreeMap, IsOrdered, get}
 use Rattle.std.proofs.lemmas.List.{get_or-take, length-take}
 use Rattle.std.proofs.lemmas.List.Sums.{prefix_len_passes}
-use Rattle.hex.specs.Hex.{decode_of, is_hex_digit}
+use Rattle.hex.specs.Hex.{is_hex_digit}
 use Rattle.hex.proofs.HexLemmas.{decode_of-digits, decode_of-ok}
 use Rattle.aes_core.specs.Cipher.{IsKeyLength}
 use Rattle.key_file.specs.declared.fault.KeyFault.{KeyFault}

@@ -6,3 +6,4 @@ pub mod CipherText
 pub mod FilesRead
 pub mod RingKeys
 pub mod Loads
+pub mod Unique

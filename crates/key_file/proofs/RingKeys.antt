@@ -1,5 +1,5 @@
 -- A ring that takes in the keys of a file, one by one.
-use Rattle.std.proofs.Common.{◌≡◌, ◌≢◌, ℕ, suc, zero, ◌+◌, ◌<◌, ◌≤◌, Bool, true, false, ◌&&◌, cond, eqb, List, [], ◌∷◌, length, drop, get_or, Option, Some, None, IsNone, slice_get, refl, sym, ap, subst, ◌∙◌, inl, inr, ◌⊎◌, arith}
+use Rattle.std.proofs.Common.{◌≡◌, ◌≢◌, ℕ, suc, zero, ◌+◌, ◌<◌, ◌≤◌, Bool, true, false, ◌&&◌, eqb, List, [], ◌∷◌, length, drop, get_or, Option, Some, None, IsNone, slice_get, refl, sym, ap, subst, ◌∙◌, inl, inr, arith}
 use Rattle.std.specs.Option.{is_some}
 use Rattle.std.proofs.lemmas.Bool.{eq-eqb, cases_eq}
 use Rattle.std.proofs.lemmas.List.{drop_more, get_or-drop, get_or_default, length-drop}
@@ -8,7 +8,7 @@ use Rattle.key_file.specs.declared.keys.KeyItem.{KeyItem}
 use Rattle.key_file.specs.Plain.{IsAscending, first_some, key_in}
 use Rattle.key_file.specs.Loaded.{HasKeys}
 
-ne-eqb : (a b : ℕ) → (a ≡ b → ⊥) → eqb a b ≡ false
+pub ne-eqb : (a b : ℕ) → (a ≡ b → ⊥) → eqb a b ≡ false
 ne-eqb a b h = grind arith
 
 is_none : (o : Option (List ℕ)) → IsNone o → o ≡ None
@@ -16,7 +16,7 @@ is_none (Some x) h = cc
 is_none None h = refl
 
 -- no key of an id below all
-key_in_below : (keys : List KeyItem) (id : ℕ) → ((j : ℕ) (d : KeyItem) → j < length keys → id < (get_or keys j d).id) → key_in keys id ≡ None
+pub key_in_below : (keys : List KeyItem) (id : ℕ) → ((j : ℕ) (d : KeyItem) → j < length keys → id < (get_or keys j d).id) → key_in keys id ≡ None
 key_in_below [] id h = refl
 key_in_below (k ∷ ks) id h =
     let first : id < k.id = h 0 k (omega arith) in

@@ -1,5 +1,5 @@
 -- Key files in a library that tells its files: what each gives, in the order in which it is judged.
-use Rattle.std.specs.Prelude.{◌≡◌, ◌≢◌, ℕ, ◌+◌, ◌-◌, ◌<◌, ◌==◌, ◌||◌, ◌&&◌, nat_le, nat_lt, nat_eq, if◌then◌else◌, Bool, ◌⊎◌, List, [], ◌∷◌, length, take, drop, codes, Option, Some, None, Result, Ok, Err, MatchResult}
+use Rattle.std.specs.Prelude.{◌≡◌, ◌≢◌, ℕ, ◌-◌, ◌==◌, ◌||◌, ◌&&◌, nat_le, nat_lt, nat_eq, if◌then◌else◌, Bool, List, length, take, drop, codes, Option, Some, None, Result, Ok, Err, MatchResult}
 use Rattle.std.specs.Bool.{MatchBool}
 use Rattle.std.specs.List.{starts_with, suffix_len}
 use Rattle.io_core.specs.Files.{Files}

@@ -1,5 +1,5 @@
 -- An enciphered key file: `Salted__`, 8 bytes of salt, and AES-256-CBC over the padded text.
-use Rattle.std.specs.Prelude.{◌≡◌, ℕ, ◌-◌, ◌%◌, ◌<◌, ◌≤◌, ◌⊎◌, List, length, take, drop, codes, Result, Ok, Err}
+use Rattle.std.specs.Prelude.{◌≡◌, ℕ, ◌%◌, ◌<◌, ◌≤◌, ◌⊎◌, List, length, take, drop, codes, Result, Ok, Err}
 use Rattle.aes_core.specs.Cipher.{AreBytes}
 use Rattle.aes_core.specs.Modes.{cbc_pad}
 use Rattle.key_file.specs.declared.fault.KeyFault.{KeyFault}

@@ -1,4 +1,4 @@
-use Rattle.std.proofs.Common.{◌≡◌, ℕ, length, ◌∙◌, rules, arith}
+use Rattle.std.proofs.Common.{◌∙◌, rules}
 use Rattle.key_file.proofs.Streams.{sha1_iv, sha1_key}
 use Rattle.key_file.proofs.derivation.derive_sha1.Goals as goal
 

@@ -1,4 +1,4 @@
-use Rattle.std.proofs.Common.{◌≡◌, ℕ, length, ◌∙◌, rules, arith}
+use Rattle.std.proofs.Common.{◌∙◌, rules}
 use Rattle.key_file.proofs.Streams.{sha256_iv, sha256_key}
 use Rattle.key_file.proofs.derivation.derive_sha256.Goals as goal
 

@@ -1,4 +1,4 @@
-use Rattle.std.proofs.Common.{◌≡◌, ℕ, ◌≤◌, rules, ◌∙◌, arith}
+use Rattle.std.proofs.Common.{◌∙◌, arith}
 use Rattle.key_file.proofs.Lines.{digit_more}
 use Rattle.key_file.proofs.line.id_of.Goals as goal
 

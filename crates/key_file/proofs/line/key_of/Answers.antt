@@ -1,4 +1,4 @@
-use Rattle.std.proofs.Common.{◌≡◌, ℕ, ◌<◌, ◌≤◌, ◌*◌, ◌%◌, List, length, refl, rules, ◌∙◌, arith}
+use Rattle.std.proofs.Common.{◌≡◌, ◌≤◌, ◌%◌, length, refl, arith}
 use Rattle.key_file.proofs.Lines.{decodes, not_refused, room}
 use Rattle.key_file.proofs.line.key_of.Goals as goal
 

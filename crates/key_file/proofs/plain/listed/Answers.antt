@@ -1,5 +1,4 @@
-use Rattle.std.proofs.Common.{List, sym, subst}
-use Rattle.key_file.specs.declared.keys.KeyItem.{KeyItem}
+use Rattle.std.proofs.Common.{sym, subst}
 use Rattle.key_file.specs.Plain.{IsAscending}
 use Rattle.key_file.proofs.Gathering.{ascending_items}
 use Rattle.key_file.proofs.plain.listed.Goals as goal

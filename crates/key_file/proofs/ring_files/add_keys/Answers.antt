@@ -1,4 +1,4 @@
-use Rattle.std.proofs.Common.{◌≡◌, ℕ, ◌<◌, ◌≤◌, length, IsNone, sym, subst, arith}
+use Rattle.std.proofs.Common.{◌<◌, ◌≤◌, length, IsNone, sym, subst, arith}
 use Rattle.key_ring.specs.Ring.{HasAdded, key_of}
 use Rattle.key_file.specs.declared.keys.KeyItem.{KeyItem}
 use Rattle.key_file.proofs.RingKeys.{first_end, first_more, first_start, item_at, place_is_free}

@@ -1,4 +1,4 @@
-use Rattle.std.proofs.Common.{◌≡◌, ℕ, ◌≤◌, List, length, sym, ap, ◌∙◌, Err, arith}
+use Rattle.std.proofs.Common.{length, sym, ap, ◌∙◌, Err, arith}
 use Rattle.key_file.specs.Derivation.{iv_of, key_of}
 use Rattle.key_file.proofs.CipherText.{other_fault, rest_is, text_back, text_under}
 use Rattle.key_file.proofs.salted.read_salted.Goals as goal
