@@ -3,12 +3,38 @@ use Rattle.std.proofs.Common.{slice_index, ◌++◌, ap₂, ◌≡◌, ℕ, zero
 use Rattle.std.specs.Int.{byte_at, from_le_bytes, to_le_bytes, w32}
 use Rattle.std.specs.List.{range_with_len}
 use Rattle.std.proofs.lemmas.Nat.{and_mask, le_bytes_4, xor_mod, xor_shr}
+use lib.Bits.{xor_zero_l, xor_zero_r}
 use Rattle.aes_core.specs.Field.{product_of, sub_byte, times, inv_sub_byte}
-use Rattle.aes_core.specs.Cipher.{bytes_of, circulant_times, round_key, state_of, inv_mix_columns, xored}
-use Rattle.aes_core.specs.declared.tables.TheConstants.{ROUND_0, ROUND_1, ROUND_2, ROUND_3, SUB, INV_ROUND_0, INV_ROUND_1, INV_ROUND_2, INV_ROUND_3, INV_SUB}
+use Rattle.aes_core.specs.Cipher.{bytes_of, circulant_times, round_key, state_of, sub_bytes, inv_mix_columns, xored}
+use Rattle.aes_core.specs.declared.tables.TheConstants.{INV_ROUNDS, INV_SUB, ROUNDS, SUB}
 use Rattle.aes_core.proofs.Inverse.{bytes_four, sixteen_of}
 use Rattle.aes_core.proofs.Linear.{row_times-xor}
 use Rattle.aes_core.proofs.ByTable.{everywhere, sub_at, inv_sub_at}
+
+-- the tables one by one
+abbrev ROUND_0 : List ℕ
+ROUND_0 = get_or ROUNDS 0 []
+
+abbrev ROUND_1 : List ℕ
+ROUND_1 = get_or ROUNDS 1 []
+
+abbrev ROUND_2 : List ℕ
+ROUND_2 = get_or ROUNDS 2 []
+
+abbrev ROUND_3 : List ℕ
+ROUND_3 = get_or ROUNDS 3 []
+
+abbrev INV_ROUND_0 : List ℕ
+INV_ROUND_0 = get_or INV_ROUNDS 0 []
+
+abbrev INV_ROUND_1 : List ℕ
+INV_ROUND_1 = get_or INV_ROUNDS 1 []
+
+abbrev INV_ROUND_2 : List ℕ
+INV_ROUND_2 = get_or INV_ROUNDS 2 []
+
+abbrev INV_ROUND_3 : List ℕ
+INV_ROUND_3 = get_or INV_ROUNDS 3 []
 
 pub bytes_xor : (a b : ℕ) → to_le_bytes w32 (bit_xor a b) ≡ xored (to_le_bytes w32 a) (to_le_bytes w32 b)
 bytes_xor a b =
@@ -67,6 +93,64 @@ column_is a b c d key hd =
     ∙ ap (λ (x : List ℕ). xored x (to_le_bytes w32 w3))
     (bytes_xor (bit_xor w0 w1) w2 ∙ ap (λ (x : List ℕ). xored x (to_le_bytes w32 w2)) (bytes_xor w0 w1))
     ∙ (λ i. xored (xored (xored (e0 i) (e1 i)) (e2 i)) (e3 i)))
+
+-- ---- the last round
+
+masked_0 : map (λ a. to_le_bytes w32 (bit_and (get_or ROUND_2 a 0) 255)) (range_with_len 0 256) ≡ map (λ a. get_or SUB a 0 ∷ 0 ∷ 0 ∷ 0 ∷ []) (range_with_len 0 256)
+masked_0 = refl
+
+masked_1 : map (λ a. to_le_bytes w32 (bit_and (get_or ROUND_3 a 0) 65280)) (range_with_len 0 256) ≡ map (λ a. 0 ∷ get_or SUB a 0 ∷ 0 ∷ 0 ∷ []) (range_with_len 0 256)
+masked_1 = refl
+
+masked_2 : map (λ a. to_le_bytes w32 (bit_and (get_or ROUND_0 a 0) 16711680)) (range_with_len 0 256) ≡ map (λ a. 0 ∷ 0 ∷ get_or SUB a 0 ∷ 0 ∷ []) (range_with_len 0 256)
+masked_2 = refl
+
+masked_3 : map (λ a. to_le_bytes w32 (bit_and (get_or ROUND_1 a 0) 4278190080)) (range_with_len 0 256) ≡ map (λ a. 0 ∷ 0 ∷ 0 ∷ get_or SUB a 0 ∷ []) (range_with_len 0 256)
+masked_3 = refl
+
+last_read_0 : (a : ℕ) → a < 256 → to_le_bytes w32 (bit_and (get_or ROUND_2 a 0) 255) ≡ sub_byte a ∷ 0 ∷ 0 ∷ 0 ∷ []
+last_read_0 a h = everywhere (λ a. to_le_bytes w32 (bit_and (get_or ROUND_2 a 0) 255)) (λ a. get_or SUB a 0 ∷ 0 ∷ 0 ∷ 0 ∷ []) masked_0 a h ∙ ap (λ (x : ℕ). x ∷ 0 ∷ 0 ∷ 0 ∷ []) (sub_at a h)
+
+last_read_1 : (a : ℕ) → a < 256 → to_le_bytes w32 (bit_and (get_or ROUND_3 a 0) 65280) ≡ 0 ∷ sub_byte a ∷ 0 ∷ 0 ∷ []
+last_read_1 a h = everywhere (λ a. to_le_bytes w32 (bit_and (get_or ROUND_3 a 0) 65280)) (λ a. 0 ∷ get_or SUB a 0 ∷ 0 ∷ 0 ∷ []) masked_1 a h ∙ ap (λ (x : ℕ). 0 ∷ x ∷ 0 ∷ 0 ∷ []) (sub_at a h)
+
+last_read_2 : (a : ℕ) → a < 256 → to_le_bytes w32 (bit_and (get_or ROUND_0 a 0) 16711680) ≡ 0 ∷ 0 ∷ sub_byte a ∷ 0 ∷ []
+last_read_2 a h = everywhere (λ a. to_le_bytes w32 (bit_and (get_or ROUND_0 a 0) 16711680)) (λ a. 0 ∷ 0 ∷ get_or SUB a 0 ∷ 0 ∷ []) masked_2 a h ∙ ap (λ (x : ℕ). 0 ∷ 0 ∷ x ∷ 0 ∷ []) (sub_at a h)
+
+last_read_3 : (a : ℕ) → a < 256 → to_le_bytes w32 (bit_and (get_or ROUND_1 a 0) 4278190080) ≡ 0 ∷ 0 ∷ 0 ∷ sub_byte a ∷ []
+last_read_3 a h = everywhere (λ a. to_le_bytes w32 (bit_and (get_or ROUND_1 a 0) 4278190080)) (λ a. 0 ∷ 0 ∷ 0 ∷ get_or SUB a 0 ∷ []) masked_3 a h ∙ ap (λ (x : ℕ). 0 ∷ 0 ∷ 0 ∷ x ∷ []) (sub_at a h)
+
+apart : (a b c d : ℕ)
+    → xored (xored (xored (a ∷ 0 ∷ 0 ∷ 0 ∷ []) (0 ∷ b ∷ 0 ∷ 0 ∷ [])) (0 ∷ 0 ∷ c ∷ 0 ∷ [])) (0 ∷ 0 ∷ 0 ∷ d ∷ []) ≡ a ∷ b ∷ c ∷ d ∷ []
+apart a b c d =
+    let ea : bit_xor (bit_xor (bit_xor a 0) 0) 0 ≡ a = xor_zero_r (bit_xor (bit_xor a 0) 0) ∙ xor_zero_r (bit_xor a 0) ∙ xor_zero_r a in
+    let eb : bit_xor (bit_xor (bit_xor 0 b) 0) 0 ≡ b = xor_zero_r (bit_xor (bit_xor 0 b) 0) ∙ xor_zero_r (bit_xor 0 b) ∙ xor_zero_l b in
+    let ec : bit_xor (bit_xor 0 c) 0 ≡ c = xor_zero_r (bit_xor 0 c) ∙ xor_zero_l c in
+    let ed : bit_xor 0 d ≡ d = xor_zero_l d in
+    (λ i. ea i ∷ eb i ∷ ec i ∷ ed i ∷ [])
+
+pub last_column_is : (a b c d key : ℕ) → d < 2 ^ 32
+    → to_le_bytes w32 (bit_xor (bit_xor (bit_xor (bit_xor (bit_and (get_or ROUND_2 (bit_and a 255) 0) 255) (bit_and (get_or ROUND_3 (bit_and (b / 256) 255) 0) 65280)) (bit_and (get_or ROUND_0 (bit_and (c / 65536) 255) 0) 16711680)) (bit_and (get_or ROUND_1 (d / 16777216) 0) 4278190080)) key)
+    ≡ xored (sub_bytes (byte_at 0 a ∷ byte_at 1 b ∷ byte_at 2 c ∷ byte_at 3 d ∷ [])) (to_le_bytes w32 key)
+last_column_is a b c d key hd =
+    let w0 : ℕ = bit_and (get_or ROUND_2 (bit_and a 255) 0) 255 in
+    let w1 : ℕ = bit_and (get_or ROUND_3 (bit_and (b / 256) 255) 0) 65280 in
+    let w2 : ℕ = bit_and (get_or ROUND_0 (bit_and (c / 65536) 255) 0) 16711680 in
+    let w3 : ℕ = bit_and (get_or ROUND_1 (d / 16777216) 0) 4278190080 in
+    let top : d / 16777216 ≡ d / 16777216 % 256 = omega arith in
+    let e0 = ap (λ (n : ℕ). to_le_bytes w32 (bit_and (get_or ROUND_2 n 0) 255)) (and_mask a 8) ∙ last_read_0 (a % 256) (omega arith) in
+    let e1 = ap (λ (n : ℕ). to_le_bytes w32 (bit_and (get_or ROUND_3 n 0) 65280)) (and_mask (b / 256) 8) ∙ last_read_1 (b / 256 % 256) (omega arith) in
+    let e2 = ap (λ (n : ℕ). to_le_bytes w32 (bit_and (get_or ROUND_0 n 0) 16711680)) (and_mask (c / 65536) 8) ∙ last_read_2 (c / 65536 % 256) (omega arith) in
+    let e3 = ap (λ (n : ℕ). to_le_bytes w32 (bit_and (get_or ROUND_1 n 0) 4278190080)) top ∙ last_read_3 (d / 16777216 % 256) (omega arith) in
+    bytes_xor (bit_xor (bit_xor (bit_xor w0 w1) w2) w3) key
+    ∙ ap (λ (x : List ℕ). xored x (to_le_bytes w32 key))
+    (bytes_xor (bit_xor (bit_xor w0 w1) w2) w3
+    ∙ ap (λ (x : List ℕ). xored x (to_le_bytes w32 w3))
+    (bytes_xor (bit_xor w0 w1) w2 ∙ ap (λ (x : List ℕ). xored x (to_le_bytes w32 w2)) (bytes_xor w0 w1))
+    ∙ (λ i. xored (xored (xored (e0 i) (e1 i)) (e2 i)) (e3 i))
+    ∙ apart (sub_byte (a % 256)) (sub_byte (b / 256 % 256)) (sub_byte (c / 65536 % 256)) (sub_byte (d / 16777216 % 256)))
+
+-- ---- words loaded
 
 pub bytes_from : (a b c d n : ℕ) → a < 256 → b < 256 → c < 256 → d < 256 → n ≡ from_le_bytes w32 (a ∷ b ∷ c ∷ d ∷ []) → to_le_bytes w32 n ≡ a ∷ b ∷ c ∷ d ∷ []
 bytes_from a b c d n ha hb hc hd e = le_bytes_4 (a ∷ b ∷ c ∷ d ∷ []) n refl (bytes_four a b c d ha hb hc hd) e

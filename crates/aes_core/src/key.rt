@@ -8,7 +8,8 @@ use crate::expansion::expand;
 use crate::{plain, words};
 use std::marker::Model;
 
-/// A key of 16, 24 or 32 bytes, ready for the tables.
+/// An AES key of 16, 24 or 32 bytes, with the keys of its rounds ready for the tables, both ways.
+/// Contracts see the key's bytes.
 #[derive(Drop)]
 pub struct BlockKey {
     words: [u32; 60],
@@ -89,7 +90,8 @@ impl BlockKey {
         })
     }
 
-    /// The bytes of a key are bytes, and whole words.
+    /// Does nothing. A caller whose contract rests on the form of a key calls it, to know that the
+    /// key's bytes are bytes, and whole words.
     #[inline(always)]
     pub fn known(&self)
         ensures { IsKey self.now }
@@ -97,7 +99,7 @@ impl BlockKey {
         let _ = &self.key_len;
     }
 
-    /// Enciphers the block.
+    /// Enciphers the block in place (FIPS 197, 5.1).
     pub fn encrypt_block(&self, block: &mut [u8; 16])
         ensures { block.new ≡ encrypted self.now block.old }
     {
@@ -105,7 +107,7 @@ impl BlockKey {
         words::encrypt(&self.words[0..4 * (rounds + 1)], rounds, block);
     }
 
-    /// Deciphers the block: what it leaves there enciphers to what was there, and what was
+    /// Deciphers the block in place (FIPS 197, 5.3): what it leaves there enciphers to what was there, and what was
     /// enciphered comes back.
     pub fn decrypt_block(&self, block: &mut [u8; 16])
         ensures value { block.new ≡ decrypted self.now block.old }

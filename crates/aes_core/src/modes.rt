@@ -6,6 +6,7 @@ ghost use Rattle.aes_core.specs.Cipher.{AreBytes, decrypted, encrypted, xored};
 ghost use Rattle.aes_core.specs.Modes.{block_at, cbc_tail, ctr, uncbc_tail};
 
 use crate::key::BlockKey;
+use crate::words::store;
 use crate::xor::{xor_sixteen, xor_with};
 
 /// Enciphers bytes of any number in place, in CBC with tail (this project's own): the whole blocks
@@ -47,7 +48,7 @@ fn block_of(bytes: &[u8], i: usize) -> [u8; 16]
 
 // The plain block of a cipher block in CBC, `before` being the cipher block before it.
 #[inline(always)]
-fn opened(key: &BlockKey, cipher: [u8; 16], before: &[u8; 16]) -> [u8; 16]
+fn plain_block(key: &BlockKey, cipher: [u8; 16], before: &[u8; 16]) -> [u8; 16]
     ensures { result ≡ xored (decrypted key.now cipher) before.now }
 {
     let mut block = cipher;
@@ -77,10 +78,10 @@ pub fn cbc_tail_decrypt(key: &BlockKey, iv: &[u8; 16], bytes: &mut [u8])
         let b = block_of(bytes, b_at);
         let c = block_of(bytes, c_at);
         let d = block_of(bytes, d_at);
-        let ta = opened(key, a, &before);
-        let tb = opened(key, b, &a);
-        let tc = opened(key, c, &b);
-        let td = opened(key, d, &c);
+        let ta = plain_block(key, a, &before);
+        let tb = plain_block(key, b, &a);
+        let tc = plain_block(key, c, &b);
+        let td = plain_block(key, d, &c);
         bytes[16 * a_at..16 * a_at + 16].copy_from_slice(&ta);
         bytes[16 * b_at..16 * b_at + 16].copy_from_slice(&tb);
         bytes[16 * c_at..16 * c_at + 16].copy_from_slice(&tc);
@@ -89,7 +90,7 @@ pub fn cbc_tail_decrypt(key: &BlockKey, iv: &[u8; 16], bytes: &mut [u8])
     }
     'rest: for k in 4 * fours..count {
         let cipher = block_of(bytes, k);
-        let text = opened(key, cipher, &before);
+        let text = plain_block(key, cipher, &before);
         bytes[16 * k..16 * k + 16].copy_from_slice(&text);
         before = cipher;
     }
@@ -98,12 +99,24 @@ pub fn cbc_tail_decrypt(key: &BlockKey, iv: &[u8; 16], bytes: &mut [u8])
     xor_with(&mut bytes[16 * count..], &mask[0..left]);
 }
 
+// The bytes of a number, highest first: four words, each with its bytes turned round.
+#[inline(always)]
+fn big_endian(n: u128) -> [u8; 16]
+    ensures { result ≡ to_be_bytes w128 n }
+{
+    let a = ((n >> 96) as u32).swap_bytes();
+    let b = (((n >> 64) & 0xffff_ffff) as u32).swap_bytes();
+    let c = (((n >> 32) & 0xffff_ffff) as u32).swap_bytes();
+    let d = ((n & 0xffff_ffff) as u32).swap_bytes();
+    store([a, b, c, d])
+}
+
 // Block i of the key stream: the counter plus i, modulo 2^128, enciphered.
 #[inline(always)]
 fn stream_block(key: &BlockKey, start: u128, i: usize) -> [u8; 16]
     ensures { result ≡ encrypted key.now (to_be_bytes w128 ((start + i) % 2 ^ 128)) }
 {
-    let mut block = start.wrapping_add(i as u128).to_be_bytes();
+    let mut block = big_endian(start.wrapping_add(i as u128));
     key.encrypt_block(&mut block);
     block
 }

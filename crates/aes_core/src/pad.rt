@@ -91,7 +91,7 @@ fn last_block(key: &BlockKey, iv: &[u8; 16], bytes: &[u8]) -> [u8; 16]
 }
 
 // The first `keep` bytes of the text.
-fn opened(
+fn text_front(
     alloc: Global,
     key: &BlockKey,
     iv: &[u8; 16],
@@ -133,7 +133,7 @@ pub fn cbc_pad_decrypt(
     let Some(k) = pad_of(&last) else {
         return Err(PadFault::Padding);
     };
-    match opened(alloc, key, iv, bytes, n - k) {
+    match text_front(alloc, key, iv, bytes, n - k) {
         Ok(out) => Ok(out),
         Err(_) => Err(PadFault::OutOfMemory),
     }

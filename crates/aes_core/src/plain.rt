@@ -4,7 +4,7 @@
 
 ghost use Rattle.std.specs.Prelude.{◌≡◌, ⊤, ℕ, ◌+◌, ◌-◌, ◌*◌, ◌/◌, ◌^◌, ◌<◌, ◌≤◌, ◌%◌, ◌==◌, List, length, take, slice_set, if◌then◌else◌, MatchOption};
 ghost use Rattle.aes_core.specs.Field.{inv_sub_byte, sub_byte, times, times_x};
-ghost use Rattle.aes_core.specs.Cipher.{IsBlock, IsKey, IsKeyLength, IsReady, after_rounds, before_rounds, circulant_times, decrypted, decrypted_by, encrypted, encrypted_by, inv_mix_columns, inv_shift_rows, inv_sub_bytes, mix_columns, schedule, shift_rows, sub_bytes, xored};
+ghost use Rattle.aes_core.specs.Cipher.{IsBlock, IsKeyLength, IsReady, after_rounds, before_rounds, circulant_times, decrypted, decrypted_by, encrypted, encrypted_by, inv_mix_columns, inv_shift_rows, inv_sub_bytes, mix_columns, schedule, shift_rows, sub_bytes, xored};
 
 use crate::expansion::expand;
 use crate::tables::{INV_SUB, SUB};
@@ -42,15 +42,7 @@ impl PlainKey {
         Some(PlainKey { keys, key_len: n })
     }
 
-    /// The bytes of a key are bytes, and whole words.
-    #[inline(always)]
-    pub fn known(&self)
-        ensures { IsKey self.now }
-    {
-        let _ = &self.key_len;
-    }
-
-    /// Enciphers the block.
+    /// Enciphers the block in place (FIPS 197, 5.1).
     pub fn encrypt_block(&self, block: &mut [u8; 16])
         ensures { block.new ≡ encrypted self.now block.old }
     {
@@ -58,7 +50,7 @@ impl PlainKey {
         encrypt(&self.keys[0..16 * (rounds + 1)], rounds, block);
     }
 
-    /// Deciphers the block: what it leaves there enciphers to what was there, and what was
+    /// Deciphers the block in place (FIPS 197, 5.3): what it leaves there enciphers to what was there, and what was
     /// enciphered comes back.
     pub fn decrypt_block(&self, block: &mut [u8; 16])
         ensures value { block.new ≡ decrypted self.now block.old }

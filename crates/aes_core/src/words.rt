@@ -6,10 +6,8 @@ ghost use Rattle.std.specs.Int.{byte_at, to_le_bytes, w32};
 ghost use Rattle.aes_core.specs.Field.{sub_byte, inv_sub_byte};
 ghost use Rattle.aes_core.specs.Cipher.{bytes_of, circulant_times, decrypted_by, encrypted_by, mix_columns, round_key, shift_rows, state_of, sub_bytes, inv_mix_columns, inv_shift_rows, inv_sub_bytes, xored};
 
-use crate::plain::{inv_sub_byte, sub_byte};
-use crate::tables::{
-    INV_ROUND_0, INV_ROUND_1, INV_ROUND_2, INV_ROUND_3, ROUND_0, ROUND_1, ROUND_2, ROUND_3,
-};
+use crate::plain::inv_sub_byte;
+use crate::tables::{INV_ROUNDS, ROUNDS};
 
 // A column of the next state, from the columns that its bytes come from.
 #[inline(always)]
@@ -17,10 +15,10 @@ fn column(a: u32, b: u32, c: u32, d: u32, key: u32) -> u32
     ensures { to_le_bytes w32 result
         ≡ xored (circulant_times 2 3 1 1 (sub_byte (byte_at 0 a)) (sub_byte (byte_at 1 b)) (sub_byte (byte_at 2 c)) (sub_byte (byte_at 3 d))) (to_le_bytes w32 key) }
 {
-    ROUND_0[(a & 0xff) as usize]
-        ^ ROUND_1[((b >> 8) & 0xff) as usize]
-        ^ ROUND_2[((c >> 16) & 0xff) as usize]
-        ^ ROUND_3[(d >> 24) as usize]
+    ROUNDS[0][(a & 0xff) as usize]
+        ^ ROUNDS[1][((b >> 8) & 0xff) as usize]
+        ^ ROUNDS[2][((c >> 16) & 0xff) as usize]
+        ^ ROUNDS[3][(d >> 24) as usize]
         ^ key
 }
 
@@ -38,17 +36,18 @@ fn round(w: [u32; 4], k: &[u32]) -> [u32; 4]
     ]
 }
 
+// A column of the last round, which has no MixColumns: each byte is taken from a table whose column
+// has 1 in its row.
 #[inline(always)]
 fn last_column(a: u32, b: u32, c: u32, d: u32, key: u32) -> u32
     ensures { to_le_bytes w32 result
         ≡ xored (sub_bytes (byte_at 0 a ∷ byte_at 1 b ∷ byte_at 2 c ∷ byte_at 3 d ∷ [])) (to_le_bytes w32 key) }
 {
-    u32::from_le_bytes([
-        sub_byte((a & 0xff) as u8),
-        sub_byte(((b >> 8) & 0xff) as u8),
-        sub_byte(((c >> 16) & 0xff) as u8),
-        sub_byte((d >> 24) as u8),
-    ]) ^ key
+    (ROUNDS[2][(a & 0xff) as usize] & 0x0000_00ff)
+        ^ (ROUNDS[3][((b >> 8) & 0xff) as usize] & 0x0000_ff00)
+        ^ (ROUNDS[0][((c >> 16) & 0xff) as usize] & 0x00ff_0000)
+        ^ (ROUNDS[1][(d >> 24) as usize] & 0xff00_0000)
+        ^ key
 }
 
 #[inline(always)]
@@ -80,7 +79,7 @@ fn load(s: &[u8], k: &[u32]) -> [u32; 4]
 }
 
 #[inline(always)]
-fn store(w: [u32; 4]) -> [u8; 16]
+pub(crate) fn store(w: [u32; 4]) -> [u8; 16]
     ensures { result ≡ state_of w }
 {
     let a = w[0].to_le_bytes();
@@ -115,10 +114,10 @@ fn inv_column(a: u32, b: u32, c: u32, d: u32, key: u32) -> u32
     ensures { to_le_bytes w32 result
         ≡ xored (circulant_times 14 11 13 9 (inv_sub_byte (byte_at 0 a)) (inv_sub_byte (byte_at 1 b)) (inv_sub_byte (byte_at 2 c)) (inv_sub_byte (byte_at 3 d))) (to_le_bytes w32 key) }
 {
-    INV_ROUND_0[(a & 0xff) as usize]
-        ^ INV_ROUND_1[((b >> 8) & 0xff) as usize]
-        ^ INV_ROUND_2[((c >> 16) & 0xff) as usize]
-        ^ INV_ROUND_3[(d >> 24) as usize]
+    INV_ROUNDS[0][(a & 0xff) as usize]
+        ^ INV_ROUNDS[1][((b >> 8) & 0xff) as usize]
+        ^ INV_ROUNDS[2][((c >> 16) & 0xff) as usize]
+        ^ INV_ROUNDS[3][(d >> 24) as usize]
         ^ key
 }
 

@@ -1,7 +1,6 @@
 -- A buffer that was filled from its front.
-use Rattle.std.proofs.Common.{◌≡◌, ◌≤◌, ◌+◌, ◌-◌, min, ℕ, List, ◌++◌, length, take, drop, Option, Some, refl, sym, ◌∙◌, ap, subst, arith, append_assoc, length-append, length-take, take-append-drop}
+use Rattle.std.proofs.Common.{◌≡◌, ◌≤◌, ◌+◌, ℕ, List, ◌++◌, length, take, drop, Some, sym, ◌∙◌, ap, arith, length-take, take-append-drop}
 use Rattle.std.proofs.lemmas.List.{take-append-le, take-take, drop-drop}
-use Rattle.std.proofs.Math.Seq.{drop-append_seam}
 use Rattle.io_core.specs.Files.{IsFilled}
 use Rattle.io_core.specs.Stream.{prefixed}
 

@@ -1,5 +1,5 @@
 -- The files of a library: a partial map from names to bytes.
-use Rattle.std.specs.Prelude.{◌≡◌, ℕ, ◌-◌, min, List, ◌++◌, take, drop, length, Option, unwrap_or, []}
+use Rattle.std.specs.Prelude.{◌≡◌, ℕ, min, List, ◌++◌, take, drop, length, Option, unwrap_or, []}
 
 -- the bytes of the file of a name, where there is one
 abbrev pub Files : Type 0

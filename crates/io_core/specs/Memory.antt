@@ -1,5 +1,5 @@
 -- What contracts see of the objects that keep everything in memory.
-use Rattle.std.specs.Prelude.{◌≡◌, ℕ, List, [], ◌∷◌, Option, Some, None, if◌then◌else◌, AllPairs, ◌≢◌, String, Vec, string_bytes, map}
+use Rattle.std.specs.Prelude.{ℕ, List, [], ◌∷◌, Some, None, if◌then◌else◌, AllPairs, ◌≢◌, String, Vec, string_bytes, map}
 use Rattle.std.specs.Str.{bytes_eq}
 use Rattle.io_core.specs.Calls.{Calls}
 use Rattle.io_core.specs.Files.{Files}

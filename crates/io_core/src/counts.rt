@@ -1,6 +1,7 @@
 // How an adapter over std answers for what std answered.
-ghost use Rattle.std.specs.Prelude.{◌≡◌, ◌↔◌, ◌≤◌, length, IfOk, IfErr, IsErr, OnOk};
+ghost use Rattle.std.specs.Prelude.{◌≡◌, ◌↔◌, ◌≤◌, ◌<◌, length, take, IfOk, IfErr, IsErr, OnOk};
 ghost use Rattle.std.specs.IoError.{error_kind};
+ghost use Rattle.std.specs.Io.KnownBytes.{Consumes, IsAtEnd, ReadConsumes};
 ghost use Rattle.io_core.specs.Cause.{HasCause, HasWant};
 
 use crate::IoError;
@@ -63,9 +64,11 @@ impl Counts {
 /// How often a read is tried that a signal interrupts.
 const TRIES: u32 = 64;
 
-/// Reads once, and again where a signal interrupted the read, `TRIES` times at most.
+/// Reads once, and again where a signal interrupted the read, `TRIES` times at most. Of a reader
+/// that tells std its bytes, it takes those that it returns, and none at an error.
 pub fn read_some<R: Read>(reader: &mut R, into: &mut [u8]) -> io::Result<usize>
-    ensures { IfOk result (λ n. n ≤ length into.old) }
+    ensures within { IfOk result (λ n. n ≤ length into.old) }
+    ensures bytes { ReadConsumes (R.remaining reader.old) (R.remaining reader.new) result into.new }
 {
     for _ in 1..TRIES {
         match reader.read(into) {
@@ -76,15 +79,18 @@ pub fn read_some<R: Read>(reader: &mut R, into: &mut [u8]) -> io::Result<usize>
     reader.read(into)
 }
 
-/// Reads until `into` is full or the reader ends, and returns how many bytes that were.
+/// Reads until `into` is full or the reader ends, and returns how many bytes that were. Of a reader
+/// that tells std its bytes, it takes those, and fewer than fit only where no more are left.
 pub fn read_full<R: Read>(reader: &mut R, into: &mut [u8]) -> io::Result<usize>
-    ensures { IfOk result (λ n. n ≤ length into.old) }
+    ensures within { IfOk result (λ n. n ≤ length into.old) }
+    ensures bytes { IfOk result (λ n. Consumes (R.remaining reader.old) (R.remaining reader.new) (take n into.new)) }
+    ensures full { IfOk result (λ n. n < length into.old → IsAtEnd (R.remaining reader.new)) }
 {
     let mut filled = 0;
     while filled < into.len() {
         let count = read_some(reader, &mut into[filled..])?;
         if count == 0 {
-            break;
+            return Ok(filled);
         }
         filled += count;
     }

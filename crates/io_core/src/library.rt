@@ -33,8 +33,9 @@ pub trait Library {
         ensures want { HasWant (wants self.old) (wants self.new) result };
 
     /// Fills the front of `into` with as many bytes as the file has from byte `at` on, at most
-    /// `into.len()`, and returns how many. The rest of `into` stays as it was. A file that gives
-    /// fewer bytes than `length` answered is taken to end there.
+    /// `into.len()`, and returns how many; a name that isn't there has none. A library that tells its
+    /// files leaves the rest of `into` as it was. A file that gives fewer bytes than `length`
+    /// answered is taken to end there.
     ///
     /// # Errors
     /// `Failed` where the outside failed, `NoMemory` where it had no memory; `into` then holds any

@@ -18,7 +18,8 @@ pub trait Source {
     ghost wants: { Self → ℕ };
 
     /// Moves the next bytes to the front of `into` and returns how many, at least one where `into`
-    /// isn't empty and bytes are left. So 0 for a buffer that isn't empty is the end of input.
+    /// isn't empty and bytes are left. So 0 for a buffer that isn't empty is the end of input. A
+    /// source that tells its bytes leaves the rest of `into` as it was.
     ///
     /// # Errors
     /// `Failed` where the outside failed, `NoMemory` where it had no memory; what is left to come

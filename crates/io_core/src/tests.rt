@@ -2,9 +2,10 @@ use crate::{
     ByteSink, ByteSource, FileContents, Folder, IoError, Library, Shelf, Sink, Source,
     SourceContents, StdSink, StdSource, read_all, read_file,
 };
-use std::fs;
 use std::fs::File;
+use std::io::{ErrorKind, Read};
 use std::test::Fail;
+use std::{fs, io};
 
 #[test]
 fn a_source_in_memory_fails_at_each_call_in_turn(rt: HostRuntime) -> Result<(), Fail> {
@@ -160,4 +161,45 @@ fn a_whole_file_is_read_up_to_its_limit(rt: HostRuntime) -> Result<(), Fail> {
     let got = read_file(rt.alloc(), &mut shelf, "a", 5);
     assert!(rt; got == Err(IoError::Failed));
     Ok(())
+}
+
+// What a stream answers, call by call; after the last it is at its end.
+#[derive(Drop)]
+struct Stub {
+    answers: [Result<usize, ErrorKind>; 4],
+    call: usize,
+}
+
+impl Stub {
+    fn next(&mut self) -> io::Result<usize> {
+        let call = self.call;
+        self.call = call.saturating_add(1);
+        match self.answers.get(call).copied() {
+            Some(Ok(count)) => Ok(count),
+            Some(Err(kind)) => Err(io::Error::from(kind)),
+            None => Ok(0),
+        }
+    }
+}
+
+impl Read for Stub {
+    fn read(&mut self, buf: &mut [u8]) -> io::Result<usize> {
+        Ok(self.next()?.min(buf.len()))
+    }
+}
+
+#[test]
+fn a_reader_that_fails_in_mid_stream_fails_once(rt: HostRuntime) {
+    let answers = [
+        Ok(1),
+        Err(ErrorKind::Interrupted),
+        Err(ErrorKind::TimedOut),
+        Err(ErrorKind::OutOfMemory),
+    ];
+    let mut source = StdSource::new(Stub { answers, call: 0 });
+    let mut into = [0u8; 2];
+    assert_eq!(rt; source.take(&mut into), Ok(1));
+    assert_eq!(rt; source.take(&mut into), Err(IoError::Failed));
+    assert_eq!(rt; source.take(&mut into), Err(IoError::NoMemory));
+    assert_eq!(rt; source.take(&mut into), Ok(0));
 }

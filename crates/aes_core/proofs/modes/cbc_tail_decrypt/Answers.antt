@@ -47,14 +47,14 @@ fours-preserved c =
     let eb : c.block_of-b.result ≡ block_at xs (n + 1) = c.block_of-b.ensures ∙ read_at h xs c.fours.bytes n (n + 1) w0 (omega arith) in
     let ec : c.block_of-c.result ≡ block_at xs (n + 1 + 1) = c.block_of-c.ensures ∙ read_at h xs c.fours.bytes n (4 * i + 2) w0 (omega arith) ∙ ap (block_at xs) two in
     let ed : c.block_of-d.result ≡ block_at xs (n + 1 + 1 + 1) = c.block_of-d.ensures ∙ read_at h xs c.fours.bytes n (4 * i + 3) w0 (omega arith) ∙ ap (block_at xs) three in
-    let w1 = one_more key iv xs c.fours.bytes c.opened-ta.result c.block_of-a.result c.fours.before c.copy_from_slice.new.self n n (16 * n + 16 - 16 * n)
-    w0 refl (omega arith) (omega arith) ea c.fours.invariant.1 c.opened-ta.ensures c.copy_from_slice.ensures.after (omega (arith, ap length c.copy_from_slice.ensures.after)) in
-    let w2 = one_more key iv xs _ c.opened-tb.result c.block_of-b.result c.block_of-a.result c.copy_from_slice-in-fours.new.self (n + 1) (4 * i + 1) (16 * (4 * i + 1) + 16 - 16 * (4 * i + 1))
-    w1 refl (omega arith) (omega arith) eb (ea ∙ ap (block_before iv xs) (sym (add-one n))) c.opened-tb.ensures c.copy_from_slice-in-fours.ensures.after (omega (arith, ap length c.copy_from_slice-in-fours.ensures.after)) in
-    let w3 = one_more key iv xs _ c.opened-tc.result c.block_of-c.result c.block_of-b.result c.copy_from_slice-in-fours-2.new.self (n + 1 + 1) (4 * i + 2) (16 * (4 * i + 2) + 16 - 16 * (4 * i + 2))
-    w2 two (omega arith) (omega arith) ec (eb ∙ ap (block_before iv xs) (sym (add-one (n + 1)))) c.opened-tc.ensures c.copy_from_slice-in-fours-2.ensures.after (omega (arith, ap length c.copy_from_slice-in-fours-2.ensures.after)) in
-    let w4 = one_more key iv xs _ c.opened-td.result c.block_of-d.result c.block_of-c.result c.copy_from_slice-in-fours-3.new.self (n + 1 + 1 + 1) (4 * i + 3) (16 * (4 * i + 3) + 16 - 16 * (4 * i + 3))
-    w3 three (omega arith) (omega arith) ed (ec ∙ ap (block_before iv xs) (sym (add-one (n + 1 + 1)))) c.opened-td.ensures c.copy_from_slice-in-fours-3.ensures.after (omega (arith, ap length c.copy_from_slice-in-fours-3.ensures.after)) in
+    let w1 = one_more key iv xs c.fours.bytes c.plain_block-ta.result c.block_of-a.result c.fours.before c.copy_from_slice.new.self n n (16 * n + 16 - 16 * n)
+    w0 refl (omega arith) (omega arith) ea c.fours.invariant.1 c.plain_block-ta.ensures c.copy_from_slice.ensures.after (omega (arith, ap length c.copy_from_slice.ensures.after)) in
+    let w2 = one_more key iv xs _ c.plain_block-tb.result c.block_of-b.result c.block_of-a.result c.copy_from_slice-in-fours.new.self (n + 1) (4 * i + 1) (16 * (4 * i + 1) + 16 - 16 * (4 * i + 1))
+    w1 refl (omega arith) (omega arith) eb (ea ∙ ap (block_before iv xs) (sym (add-one n))) c.plain_block-tb.ensures c.copy_from_slice-in-fours.ensures.after (omega (arith, ap length c.copy_from_slice-in-fours.ensures.after)) in
+    let w3 = one_more key iv xs _ c.plain_block-tc.result c.block_of-c.result c.block_of-b.result c.copy_from_slice-in-fours-2.new.self (n + 1 + 1) (4 * i + 2) (16 * (4 * i + 2) + 16 - 16 * (4 * i + 2))
+    w2 two (omega arith) (omega arith) ec (eb ∙ ap (block_before iv xs) (sym (add-one (n + 1)))) c.plain_block-tc.ensures c.copy_from_slice-in-fours-2.ensures.after (omega (arith, ap length c.copy_from_slice-in-fours-2.ensures.after)) in
+    let w4 = one_more key iv xs _ c.plain_block-td.result c.block_of-d.result c.block_of-c.result c.copy_from_slice-in-fours-3.new.self (n + 1 + 1 + 1) (4 * i + 3) (16 * (4 * i + 3) + 16 - 16 * (4 * i + 3))
+    w3 three (omega arith) (omega arith) ed (ec ∙ ap (block_before iv xs) (sym (add-one (n + 1 + 1)))) c.plain_block-td.ensures c.copy_from_slice-in-fours-3.ensures.after (omega (arith, ap length c.copy_from_slice-in-fours-3.ensures.after)) in
     let e : n + 1 + 1 + 1 + 1 ≡ 4 * (i + 1) = omega arith in (
       c.fours.invariant.0,
       ed ∙ ap (block_before iv xs) (sym (add-one (n + 1 + 1 + 1)) ∙ e),
@@ -71,8 +71,8 @@ rest-preserved c =
     let ea : c.block_of-cipher.result ≡ block_at xs k = c.block_of-cipher.ensures ∙ read_at h xs c.rest.bytes k k c.rest.invariant.2 (omega arith) in (
       c.rest.invariant.0,
       ea ∙ ap (block_before iv xs) (sym (add-one k)),
-      one_more key iv xs c.rest.bytes c.opened-text.result c.block_of-cipher.result c.rest.before c.copy_from_slice-in-rest.new.self k k (16 * k + 16 - 16 * k)
-          c.rest.invariant.2 refl (omega arith) (omega arith) ea c.rest.invariant.1 c.opened-text.ensures c.copy_from_slice-in-rest.ensures.after (omega (arith, ap length c.copy_from_slice-in-rest.ensures.after)),
+      one_more key iv xs c.rest.bytes c.plain_block-text.result c.block_of-cipher.result c.rest.before c.copy_from_slice-in-rest.new.self k k (16 * k + 16 - 16 * k)
+          c.rest.invariant.2 refl (omega arith) (omega arith) ea c.rest.invariant.1 c.plain_block-text.ensures c.copy_from_slice-in-rest.ensures.after (omega (arith, ap length c.copy_from_slice-in-rest.ensures.after)),
     )
 
 pub returns : goal.returns

@@ -1,4 +1,4 @@
-use Rattle.std.proofs.Common.{◌≡◌, ◌≤◌, ℕ, List, length, Some, take, sym, ap, ◌∙◌, arith, vec_len, rules}
+use Rattle.std.proofs.Common.{◌≡◌, length, Some, take, sym, ap, ◌∙◌, arith, rules}
 use Rattle.std.proofs.lemmas.Grind.{common_steps}
 use Rattle.std.specs.Option.{option_map}
 use Rattle.io_core.proofs.WholeFiles.{take-whole}

@@ -1,0 +1,58 @@
+// The checksums' measurements.
+use crate::by_one;
+use crate::figure::Figure;
+use anyhow::{Result, bail};
+use std::alloc::{AllocError, Global};
+use std::io::Print;
+use std::time::{Clock, Instant};
+
+/// 64 MiB.
+const SIZE: usize = 64 * 1024 * 1024;
+
+// Bytes with no short period.
+fn text(alloc: Global) -> Result<Vec<u8>, AllocError> {
+    let mut text = vec![in alloc; 0u8; SIZE]?;
+    let mut seed = 0x1234_5678u32;
+    for byte in text.iter_mut() {
+        seed = seed.wrapping_mul(1_103_515_245).wrapping_add(12_345);
+        *byte = (seed >> 24) as u8;
+    }
+    Ok(text)
+}
+
+fn by_eight(rt: &(impl Print + Clock), text: &[u8]) -> Result<u32> {
+    let start = Instant::now(rt)?;
+    let sum = bytes_core::crc32c(text);
+    let figure = Figure {
+        name: "crc32c by eight",
+        bytes: text.len(),
+        time: start.elapsed(rt)?,
+    };
+    println!(rt; "{figure}")?;
+    Ok(sum)
+}
+
+fn by_one(rt: &(impl Print + Clock), text: &[u8]) -> Result<u32> {
+    let start = Instant::now(rt)?;
+    let sum = by_one::crc32c(text);
+    let figure = Figure {
+        name: "crc32c by one",
+        bytes: text.len(),
+        time: start.elapsed(rt)?,
+    };
+    println!(rt; "{figure}")?;
+    Ok(sum)
+}
+
+/// Times CRC-32C by eight bytes and by one byte at a time, on one text of 64 MiB. It fails where the
+/// two differ.
+pub fn measure(alloc: Global, rt: &(impl Print + Clock)) -> Result<()> {
+    let text = text(alloc)?;
+    let eight = by_eight(rt, text.as_slice())?;
+    let one = by_one(rt, text.as_slice())?;
+    if eight != one {
+        bail!("crc32c is {eight:08x} by eight and {one:08x} by one");
+    }
+    println!(rt; "both ways crc32c is {eight:08x}")?;
+    Ok(())
+}
