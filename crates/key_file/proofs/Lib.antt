@@ -7,3 +7,4 @@ pub mod FilesRead
 pub mod RingKeys
 pub mod Loads
 pub mod Unique
+pub mod Versions
