@@ -1,5 +1,5 @@
 -- What a ring that loaded has: the keys of file k as version k, counted from 1.
-use Rattle.std.proofs.Common.{◌≡◌, ℕ, zero, suc, ◌+◌, ◌<◌, ◌≤◌, List, [], ◌∷◌, length, get_or, Option, Result, Ok, refl, sym, ap, subst, ◌∙◌, arith}
+use Rattle.std.proofs.Common.{◌≡◌, ℕ, zero, suc, ◌+◌, ◌<◌, ◌≤◌, List, [], ◌∷◌, length, get_or, Option, Ok, refl, ap, subst, ◌∙◌, arith}
 use Rattle.std.proofs.lemmas.Bool.{eq-eqb}
 use Rattle.io_core.specs.Files.{Files}
 use Rattle.key_ring.specs.Ring.{Entry, key_of}
@@ -7,9 +7,8 @@ use Rattle.key_file.specs.declared.derivation.KeyDigest.{KeyDigest}
 use Rattle.key_file.specs.declared.keys.KeyItem.{KeyItem}
 use Rattle.key_file.specs.Plain.{key_in}
 use Rattle.key_file.specs.Load.{KeysOf}
-use Rattle.key_file.specs.Loaded.{HasKeys, LoadsFrom}
+use Rattle.key_file.specs.Loaded.{LoadsFrom}
 use Rattle.key_file.proofs.RingKeys.{ne-eqb}
-
 
 module _ (files : Files) (filekey : Option (List ℕ)) (digest : KeyDigest) where
   -- later files leave the earlier versions as they are
@@ -29,7 +28,7 @@ module _ (files : Files) (filekey : Option (List ℕ)) (digest : KeyDigest) wher
     h.0,
     subst (λ (i : ℕ). KeysOf files i filekey digest name (Ok h.0)) (omega arith) h.1,
     λ id. subst (λ (i : ℕ). key_of last id (i + 1) ≡ key_in h.0 id) (omega arith)
-      (kept (n + 1) names h.2.ring last h.2.goes_on id (n + 1) (omega arith) ∙ h.2.added.keys_are id (n + 1) ∙ rw (eq-eqb (n + 1) (n + 1) refl) refl),
+        (kept (n + 1) names h.2.ring last h.2.goes_on id (n + 1) (omega arith) ∙ h.2.added.keys_are id (n + 1) ∙ rw (eq-eqb (n + 1) (n + 1) refl) refl),
   )
   version_of_file n (name ∷ names) ring last h (suc k) d l =
       let later = version_of_file (n + 1) names h.2.ring last h.2.goes_on k d (omega arith) in

@@ -1,6 +1,6 @@
 // The name of a file.
 
-ghost use Rattle.std.specs.Prelude.{◌≡◌, IfOk};
+ghost use Rattle.std.specs.Prelude.{◌≡◌, Some, IfOk};
 
 use std::alloc::{AllocError, Global};
 use std::fmt;
@@ -38,6 +38,8 @@ impl Name {
 }
 
 impl fmt::Display for Name {
+    ghost output = { λ name. Some name };
+
     fn fmt<W: fmt::Write>(&self, f: &mut fmt::Formatter<W>) -> fmt::Result {
         let text = self.text.as_str();
         write!(f, "{text}")
