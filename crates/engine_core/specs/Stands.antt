@@ -1,24 +1,16 @@
 -- An image of the disk stands for a beginning of the journal.
-use Rattle.std.specs.Prelude.{ℕ, ◌≤◌, Bool, false, max, List, [], ◌∷◌, length, map, take}
+use Rattle.std.specs.Prelude.{ℕ, ◌≤◌, Bool, false, List, [], ◌∷◌, length, map, take}
 use Rattle.disk_model.specs.Event.{Event}
 use Rattle.disk_model.specs.Image.{Image, IsImage, IsLucky}
+pub use Rattle.disk_model.specs.Marks.{acked as acked_of}
 use Rattle.disk_model.specs.declared.names.FileName.{FileName}
 use Rattle.disk_model.specs.declared.names.FileName.TheVariants.{Log}
-use Rattle.disk_model.specs.declared.names.Mark.{Mark}
-use Rattle.disk_model.specs.declared.names.Mark.TheVariants.{Started, Acked, Minimum}
 use Rattle.store_model.specs.declared.change.Change.{Change}
 use Rattle.store_model.specs.declared.contents.SpaceContents.{SpaceContents}
 use Rattle.store_model.specs.Fold.{fold}
 use Rattle.engine_core.specs.declared.journal.Entry.{Entry}
 use Rattle.engine_core.specs.Block.{sums_up}
 use Rattle.engine_core.specs.Log.{Recovers}
-
--- the greatest length acknowledged since the last start, the newest mark first
-abbrev pub acked_of : List Mark → ℕ
-acked_of [] = 0
-acked_of (Started ∷ ms) = 0
-acked_of (Acked n ∷ ms) = max n (acked_of ms)
-acked_of (Minimum a b ∷ ms) = acked_of ms
 
 -- the mini-transactions of a journal
 abbrev pub mtrs : List Entry → List (List Change)
