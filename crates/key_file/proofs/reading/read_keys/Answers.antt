@@ -1,0 +1,30 @@
+use Rattle.std.proofs.Common.{Err, sym, subst, ◌∙◌, ◌⊎◌}
+use Rattle.std.specs.Option.{option_copied}
+use Rattle.std.proofs.lemmas.Result.{err_from_is_err_and}
+use Rattle.key_file.specs.Load.{IsOutside, KeysOf}
+use Rattle.key_file.specs.declared.load_fault.LoadFault.{LoadFault}
+use Rattle.key_file.proofs.FilesRead.{keys_read, keys_refused, text_refused}
+use Rattle.key_file.proofs.reading.read_keys.Goals as goal
+
+pub returns-in_err-text-clause-keys : goal.returns-in_err-text-clause-keys
+returns-in_err-text-clause-keys g c =
+    let p = err_from_is_err_and c.from_residual-in_err-text.result c.from_residual-in_err-text.ensures.1 in
+    record {
+      here = λ fs told. rw (p.1, p.2) (text_refused fs c.args.index (option_copied c.args.filekey) c.args.digest c.args.name.now c.in_ok-bytes.bytes.items
+          (c.in_ok-bytes.ensures.contents.here fs told) _ (c.in_err-text.ensures.text.here fs (c.read_named.ensures.same ∙ told)));
+    }
+
+pub returns-in-Ok-clause-keys : goal.returns-in-Ok-clause-keys
+returns-in-Ok-clause-keys g c = record {
+  here = λ fs told.
+      keys_read fs c.args.index (option_copied c.args.filekey) c.args.digest c.args.name.now c.in_ok-bytes.bytes.items (c.in_ok-bytes.ensures.contents.here fs told)
+      c.deref.result.now c.in-Ok.keys (rw c.deref.ensures.value (c.in_ok-text.ensures.text.here fs (c.read_named.ensures.same ∙ told))) c.in-Ok.ensures.reads;
+}
+
+pub returns-clause-keys : goal.returns-clause-keys
+returns-clause-keys g c = record {
+  here = λ fs told.
+      subst (λ (f : LoadFault). IsOutside f ⊎ KeysOf fs c.args.index (option_copied c.args.filekey) c.args.digest c.args.name.now (Err f)) (sym c.of_file.ensures)
+      (keys_refused fs c.args.index (option_copied c.args.filekey) c.args.digest c.args.name.now c.in_ok-bytes.bytes.items (c.in_ok-bytes.ensures.contents.here fs told)
+      c.deref.result.now c.in-Err.fault (rw c.deref.ensures.value (c.in_ok-text.ensures.text.here fs (c.read_named.ensures.same ∙ told))) c.in-Err.ensures.reads);
+}

@@ -1,0 +1,19 @@
+use Rattle.std.proofs.Common.{◌≡◌, ℕ, ◌<◌, ◌≤◌, List, [], drop, map, IsNone, Result, string_bytes}
+use Rattle.std.specs.Option.{option_copied}
+use Rattle.io_core.specs.Told.{Told}
+use Rattle.key_ring.specs.Ring.{Entry, key_of}
+use Rattle.key_file.specs.declared.load_fault.LoadFault.{LoadFault}
+use Rattle.key_file.specs.Loaded.{LoadsFrom}
+use Rattle.key_file.proofs.ring_files.load.Given as goal
+
+-- what the rest of the files gives to the ring so far, all of them give
+abbrev pub invariant-loop-index : goal.invariant-loop-index
+invariant-loop-index g l =
+    (g.L.Library.files l.files ≡ g.L.Library.files l.initial.files)
+    × ((id v : ℕ) → l.index < v → IsNone (key_of l.ring id v))
+    × (g.L.Library.faults l.initial.files ≤ g.L.Library.faults l.files)
+    × (g.L.Library.absences l.initial.files ≤ g.L.Library.absences l.files)
+    × Told
+    (λ fs. (r : Result (List Entry) LoadFault) → LoadsFrom fs (option_copied l.filekey) l.digest l.index (drop l.index (map string_bytes l.names)) l.ring r
+    → LoadsFrom fs (option_copied l.filekey) l.digest 0 (map string_bytes l.names) [] r)
+    (g.L.Library.files l.initial.files)

@@ -1,0 +1,159 @@
+// Key files read from a library.
+
+ghost use Rattle.std.specs.Prelude.{◌≡◌, ◌⊎◌, Ok, Err, length, IfOk, MatchResult, ◌≤◌};
+ghost use Rattle.std.specs.List.{suffix_len};
+ghost use Rattle.std.specs.Option.{option_copied};
+ghost use Rattle.io_core.specs.Told.{Told};
+ghost use Rattle.key_file.specs.Cause.{HasCauses};
+ghost use Rattle.key_file.specs.Load.{IsOutside, KeysOf, TextOf, contents, is_line_end, load_fault_of, password_of, secret_of};
+
+use crate::derivation::KeyDigest;
+use crate::fault::KeyFault;
+use crate::keys::KeyList;
+use crate::load_fault::LoadFault;
+use crate::name::Name;
+use crate::plain::parse_plain;
+use crate::salted::read_salted;
+use io_core::{FileContents, IoError, Library, read_file};
+use std::alloc::Global;
+
+// How many bytes a key file and a file with a password may have.
+const LIMIT: usize = 1_048_576;
+
+// The answer for a file that is not there.
+fn missing(alloc: Global, name: &str) -> LoadFault
+    ensures { (result ≡ LoadFault.Missing name.now) ⊎ (result ≡ LoadFault.OutOfMemory) }
+{
+    match Name::of(alloc, name) {
+        Ok(name) => LoadFault::Missing(name),
+        Err(_) => LoadFault::OutOfMemory,
+    }
+}
+
+// The answer for a fault of the key file of an index.
+fn of_file(index: usize, fault: KeyFault) -> LoadFault
+    ensures { result ≡ load_fault_of index fault }
+{
+    match fault {
+        KeyFault::OutOfMemory => LoadFault::OutOfMemory,
+        fault => LoadFault::KeyFile { index, fault },
+    }
+}
+
+// The bytes of a file.
+fn read_named<L: Library>(
+    alloc: Global,
+    files: &mut L,
+    name: &str,
+    index: usize,
+    too_large: KeyFault,
+) -> Result<Vec<u8>, LoadFault>
+    ensures contents { Told (λ fs. MatchResult result (λ v. contents index too_large name.now (fs name.now) ≡ Ok v.items) (λ fault. IsOutside fault ⊎ (contents index too_large name.now (fs name.now) ≡ Err fault))) (L.files files.old) }
+    ensures same { L.files files.new ≡ L.files files.old }
+    ensures causes { HasCauses (L.faults files.old) (L.faults files.new) (L.absences files.old) (L.absences files.new) result }
+{
+    match read_file(alloc, files, name, LIMIT) {
+        Ok(FileContents::Whole(bytes)) => Ok(bytes),
+        Ok(FileContents::TooLarge) => Err(LoadFault::KeyFile {
+            index,
+            fault: too_large,
+        }),
+        Ok(FileContents::Missing) => Err(missing(alloc, name)),
+        Err(IoError::Failed) => Err(LoadFault::FileFault),
+        Err(IoError::NoMemory) => Err(LoadFault::OutOfMemory),
+    }
+}
+
+// How many line ends a text ends in.
+fn count_line_ends(text: &[u8]) -> usize
+    ensures within { result ≤ length text.now }
+    ensures count { result ≡ suffix_len is_line_end text.now }
+{
+    text.iter()
+        .rev()
+        .take_while(|b| **b == b'\n' || **b == b'\r')
+        .count()
+}
+
+// A copy of a password.
+fn password(alloc: Global, text: &[u8], index: usize) -> Result<Vec<u8>, LoadFault>
+    ensures { MatchResult result (λ v. password_of index text.now ≡ Ok v.items) (λ fault. (fault ≡ LoadFault.OutOfMemory) ⊎ (password_of index text.now ≡ Err fault)) }
+{
+    let count = text.len();
+    if count == 0 || count > 256 {
+        return Err(LoadFault::KeyFile {
+            index,
+            fault: KeyFault::BadSecret(count),
+        });
+    }
+    match text.to_vec(alloc) {
+        Ok(copy) => Ok(copy),
+        Err(_) => Err(LoadFault::OutOfMemory),
+    }
+}
+
+// The password that a filekey is or names.
+fn read_secret<L: Library>(
+    alloc: Global,
+    files: &mut L,
+    filekey: &str,
+    index: usize,
+) -> Result<Vec<u8>, LoadFault>
+    ensures secret { Told (λ fs. MatchResult result (λ v. secret_of fs index filekey.now ≡ Ok v.items) (λ fault. IsOutside fault ⊎ (secret_of fs index filekey.now ≡ Err fault))) (L.files files.old) }
+    ensures same { L.files files.new ≡ L.files files.old }
+    ensures causes { HasCauses (L.faults files.old) (L.faults files.new) (L.absences files.old) (L.absences files.new) result }
+{
+    let Some(name) = filekey.strip_prefix("FILE:") else {
+        return password(alloc, filekey.as_bytes(), index);
+    };
+    let text = read_named(alloc, files, name, index, KeyFault::SecretTooLarge)?;
+    let count = text.len() - count_line_ends(&text);
+    password(alloc, &text[..count], index)
+}
+
+// The text of a key file, from its bytes.
+fn read_text<L: Library>(
+    alloc: Global,
+    files: &mut L,
+    bytes: Vec<u8>,
+    filekey: Option<&str>,
+    digest: KeyDigest,
+    index: usize,
+) -> Result<Vec<u8>, LoadFault>
+    ensures text { Told (λ fs. MatchResult result (λ v. TextOf fs index (option_copied filekey.entry) digest bytes.items (Ok v.items)) (λ fault. IsOutside fault ⊎ TextOf fs index (option_copied filekey.entry) digest bytes.items (Err fault))) (L.files files.old) }
+    ensures same { L.files files.new ≡ L.files files.old }
+    ensures causes { HasCauses (L.faults files.old) (L.faults files.new) (L.absences files.old) (L.absences files.new) result }
+{
+    if !bytes.starts_with(b"Salted__") {
+        return Ok(bytes);
+    }
+    let Some(filekey) = filekey else {
+        return Err(of_file(index, KeyFault::NoSecret));
+    };
+    let password = read_secret(alloc, files, filekey, index)?;
+    match read_salted(alloc, &bytes, &password, digest) {
+        Ok(text) => Ok(text),
+        Err(fault) => Err(of_file(index, fault)),
+    }
+}
+
+// The keys of the file of a name.
+pub(crate) fn read_keys<L: Library>(
+    alloc: Global,
+    files: &mut L,
+    name: &str,
+    filekey: Option<&str>,
+    digest: KeyDigest,
+    index: usize,
+) -> Result<KeyList, LoadFault>
+    ensures keys { Told (λ fs. MatchResult result (λ keys. KeysOf fs index (option_copied filekey.entry) digest name.now (Ok keys)) (λ fault. IsOutside fault ⊎ KeysOf fs index (option_copied filekey.entry) digest name.now (Err fault))) (L.files files.old) }
+    ensures same { L.files files.new ≡ L.files files.old }
+    ensures causes { HasCauses (L.faults files.old) (L.faults files.new) (L.absences files.old) (L.absences files.new) result }
+{
+    let bytes = read_named(alloc, files, name, index, KeyFault::TooLarge)?;
+    let text = read_text(alloc, files, bytes, filekey, digest, index)?;
+    match parse_plain(alloc, &text) {
+        Ok(keys) => Ok(keys),
+        Err(fault) => Err(of_file(index, fault)),
+    }
+}

@@ -1,0 +1,79 @@
+// The ring of the keys of some key files.
+
+ghost use Rattle.std.specs.Prelude.{◌≡◌, ◌<◌, ◌≤◌, ◌+◌, ◌⊎◌, ℕ, List, [], Ok, Err, Some, length, map, string_bytes, slice_get, Contains, IfOk, IfErr, OnOk, IsNone, MatchResult};
+ghost use Rattle.std.specs.Option.{option_copied};
+ghost use Rattle.io_core.specs.Told.{Told};
+ghost use Rattle.key_ring.specs.Ring.{HasAdded, key_of};
+ghost use Rattle.key_file.specs.Cause.{HasCauses};
+ghost use Rattle.key_file.specs.Load.{IsOutside};
+ghost use Rattle.key_file.specs.Loaded.{HasKeys, LoadsFrom};
+
+use crate::derivation::KeyDigest;
+use crate::keys::{KeyItem, KeyList};
+use crate::load_fault::LoadFault;
+use crate::reading::read_keys;
+use io_core::Library;
+use key_ring::{Ring, RingFault};
+use std::alloc::Global;
+
+// Adds a key under a version that the ring does not have of its id.
+fn add_item(ring: &mut Ring, item: &KeyItem, version: u32) -> Result<(), LoadFault>
+    requires version { 1 ≤ version }
+    requires absent { IsNone (key_of ring.old item.now.id version) }
+    ensures added { OnOk result (HasAdded ring.old ring.new item.now.id version item.now.key) }
+    ensures memory { IfErr result (λ fault. fault ≡ LoadFault.OutOfMemory) }
+{
+    match ring.add(item.id, version, item.key.bytes()) {
+        Ok(()) => Ok(()),
+        Err(RingFault::OutOfMemory) => Err(LoadFault::OutOfMemory),
+        Err(RingFault::BadLength(_)) => unreachable!(),
+        Err(RingFault::Twice(_, _)) => unreachable!(),
+    }
+}
+
+// Adds the keys of a file under a version that the ring does not have.
+fn add_keys(ring: &mut Ring, keys: &KeyList, version: u32) -> Result<(), LoadFault>
+    requires version { 1 ≤ version }
+    requires absent { (id : ℕ) → IsNone (key_of ring.old id version) }
+    ensures added { OnOk result (HasKeys ring.old keys.now version ring.new) }
+    ensures memory { IfErr result (λ fault. fault ≡ LoadFault.OutOfMemory) }
+{
+    let count = keys.len();
+    for i in 0..count {
+        add_item(ring, keys.get(i), version)?;
+    }
+    Ok(())
+}
+
+/// Reads key files in order. The k-th file, counted from 1, gives version k of its keys. A file that
+/// begins with `Salted__` is enciphered, and read with the filekey; a filekey that begins with `FILE:`
+/// names a file with the password, and any other is the password. A filekey is otherwise not used.
+///
+/// # Errors
+/// The first fault in order of files, of each file in this order: `Missing`; `FileFault`; `KeyFile` with
+/// `TooLarge`; of an enciphered file `NoSecret`, the faults of the secret (`Missing`, `FileFault`,
+/// `SecretTooLarge`, `BadSecret`), `ShortSalted`, `CipherLength`, `Padding`; the faults of
+/// [`parse_plain`](crate::parse_plain). `FileFault` comes only where the library's count of faults rose,
+/// `Missing` only where its count of absences rose. `OutOfMemory`.
+pub fn load<L: Library>(
+    alloc: Global,
+    files: &mut L,
+    names: &[String],
+    filekey: Option<&str>,
+    digest: KeyDigest,
+) -> Result<Ring, LoadFault>
+    requires { length names.now ≤ 64 }
+
+    // Where the library tells its files: the ring that they give, or the first fault.
+    ensures loads { Told (λ fs. MatchResult result (λ ring. LoadsFrom fs (option_copied filekey.entry) digest 0 (map string_bytes names.now) [] (Ok ring)) (λ fault. IsOutside fault ⊎ LoadsFrom fs (option_copied filekey.entry) digest 0 (map string_bytes names.now) [] (Err fault))) (L.files files.old) }
+    ensures versions { IfOk result (λ ring. (id version : ℕ) → length names.now < version → IsNone (key_of ring id version)) }
+    ensures same { L.files files.new ≡ L.files files.old }
+    ensures causes { HasCauses (L.faults files.old) (L.faults files.new) (L.absences files.old) (L.absences files.new) result }
+{
+    let mut ring = Ring::new(alloc);
+    for (index, name) in names.iter().enumerate() {
+        let keys = read_keys(alloc, files, name, filekey, digest, index)?;
+        add_keys(&mut ring, &keys, index as u32 + 1)?;
+    }
+    Ok(ring)
+}

@@ -1,0 +1,5 @@
+pub mod Keys
+mod LentPart
+pub mod Opened
+pub mod PartLaws
+pub mod Writes

@@ -1,0 +1,69 @@
+-- What is looked at before a page text is taken, in order, and what is left of the page.
+use Rattle.std.specs.Prelude.{◌≡◌, ℕ, ◌-◌, ◌%◌, ◌^◌, ◌==◌, ◌&&◌, ◌||◌, Bool, not, List, length, if◌then◌else◌}
+use Rattle.std.specs.Prelude.{Option, Some, None, Result, Ok, Err}
+use Rattle.aes_core.specs.Algorithm.{deciphered}
+use Rattle.aes_core.specs.Cipher.{AreBytes}
+use Rattle.space_head.specs.Fields.{be16_at, be32_at, be64_at, overwritten}
+use Rattle.page_text.specs.Parts.{cipher_part}
+use Rattle.page_text.specs.State.{computed_sum, stored_sum}
+use Rattle.page_text.specs.Text.{enciphered, key_of, page_iv}
+use Rattle.page_text.specs.declared.fault.OpenFault.{OpenFault}
+use Rattle.page_text.specs.declared.fault.OpenFault.TheVariants.{Checksum, WrongEnd, WrongFill, WrongKind, WrongPage, WrongSpace}
+use Rattle.page_text.specs.declared.key.PageKey.{PageKey}
+
+-- whether a page of this type and key version may stand at a page number
+unfoldable pub fits_page : ℕ → ℕ → ℕ → Bool
+fits_page page kind version = if page == 0 then (kind == 8) && (version == 0) else not ((kind == 8) || (kind == 9))
+
+-- of the page as it stands: its checksum, its page number, and its type and key version
+unfoldable pub clear_check : List ℕ → ℕ → Result (Unit {0}) OpenFault
+clear_check page number =
+    if not (stored_sum page == computed_sum page) then Err (Checksum (stored_sum page) (computed_sum page))
+    else if not (be32_at page 4 == number) then Err (WrongPage number (be32_at page 4))
+    else if not (fits_page number (be16_at page 24) (be32_at page 0)) then Err (WrongKind (be16_at page 24) (be32_at page 0))
+    else Ok tt
+
+-- of the deciphered page: its space, its end, and prev, next and flush LSN
+unfoldable pub inner_check : List ℕ → ℕ → Result (Unit {0}) OpenFault
+inner_check page space =
+    if not (be32_at page 34 == space) then Err (WrongSpace space (be32_at page 34))
+    else if not (be32_at page (length page - 8) == be64_at page 16 % 2 ^ 32) then Err (WrongEnd (be64_at page 16 % 2 ^ 32) (be32_at page (length page - 8)))
+    else if not (be32_at page 8 == 0xFFFFFFFF) then Err (WrongFill 8 (be32_at page 8))
+    else if not (be32_at page 12 == 0xFFFFFFFF) then Err (WrongFill 12 (be32_at page 12))
+    else if not (be64_at page 26 == 0) then Err (WrongFill 26 (be64_at page 26))
+    else Ok tt
+
+-- bytes that were under a key, or as they are without one
+abbrev pub unciphered : Option PageKey → List ℕ → List ℕ → List ℕ
+unciphered None iv bytes = bytes
+unciphered (Some key) iv bytes = deciphered key.algorithm key.local iv bytes
+
+-- the page with its part from byte 26 to the checksum deciphered, where its version isn't 0, and all else as it was
+abbrev pub in_clear : ℕ → ℕ → Option PageKey → List ℕ → List ℕ
+in_clear space number key page =
+    overwritten page 26 (unciphered (key_of (be32_at page 0) key) (page_iv space number (be64_at page 16)) (cipher_part page))
+
+-- the first fault of two checks
+abbrev pub and_then : Result (Unit {0}) OpenFault → Result (Unit {0}) OpenFault → Result (Unit {0}) OpenFault
+and_then (Err fault) next = Err fault
+and_then (Ok u) next = next
+
+-- the first fault of a page, or none
+abbrev pub opening : ℕ → ℕ → Option PageKey → List ℕ → Result (Unit {0}) OpenFault
+opening space number key page = and_then (clear_check page number) (inner_check (in_clear space number key page) space)
+
+-- what is left: the page as it was after the faults that are found before deciphering, else the page in clear
+abbrev pub left_after : Result (Unit {0}) OpenFault → List ℕ → List ℕ → List ℕ
+left_after (Err (Checksum stored computed)) page clear = page
+left_after (Err (WrongPage wanted found)) page clear = page
+left_after (Err (WrongKind found version)) page clear = page
+left_after (Err (WrongSpace wanted found)) page clear = clear
+left_after (Err (WrongEnd wanted found)) page clear = clear
+left_after (Err (WrongFill at found)) page clear = clear
+left_after (Ok u) page clear = clear
+
+-- deciphering these bytes gives what enciphers to them, and what was enciphered to them
+pub record Undoes (key : Option PageKey) (iv bytes : List ℕ) : Type 0 where
+  pub long : length (unciphered key iv bytes) ≡ length bytes
+  pub inverse : enciphered key iv (unciphered key iv bytes) ≡ bytes
+  pub undoes : (x : List ℕ) → AreBytes x → bytes ≡ enciphered key iv x → unciphered key iv bytes ≡ x

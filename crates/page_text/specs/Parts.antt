@@ -1,0 +1,24 @@
+-- The parts of a page, which has one of five sizes.
+use Rattle.std.specs.Prelude.{ℕ, ◌-◌, List, ◌++◌, length, take, drop}
+pub use Rattle.space_head.specs.Sizes.{IsPageSize}
+
+-- the bytes from a place up to another
+abbrev pub part_of : List ℕ → ℕ → ℕ → List ℕ
+part_of page at to = take (to - at) (drop at page)
+
+-- the page with other bytes in the place of those
+abbrev pub with_part : List ℕ → ℕ → ℕ → List ℕ → List ℕ
+with_part page at to part = take at page ++ (part ++ drop to page)
+
+abbrev pub header : List ℕ → List ℕ
+header page = part_of page 0 38
+
+abbrev pub body : List ℕ → List ℕ
+body page = part_of page 38 (length page - 8)
+
+abbrev pub trailer : List ℕ → List ℕ
+trailer page = part_of page (length page - 8) (length page)
+
+-- what is ciphered: all between the type and the checksum
+abbrev pub cipher_part : List ℕ → List ℕ
+cipher_part page = part_of page 26 (length page - 4)
