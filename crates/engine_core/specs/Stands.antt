@@ -4,7 +4,7 @@ use Rattle.disk_model.specs.Event.{Event}
 use Rattle.disk_model.specs.Image.{Image, IsImage, IsLucky}
 use Rattle.disk_model.specs.Crash.{Pending, unsynced_writes, synced_bytes}
 use Rattle.disk_model.specs.Lucky.{AreRefusable}
-use Rattle.disk_model.specs.Marks.{acked as acked_of}
+pub use Rattle.disk_model.specs.Marks.{acked as acked_of}
 use Rattle.disk_model.specs.declared.names.FileName.{FileName}
 use Rattle.disk_model.specs.declared.names.FileName.TheVariants.{Log}
 use Rattle.bytes_core.specs.LastByte.{EndsInCrc32c}
