@@ -2,6 +2,7 @@ pub mod Numbers
 pub mod Words
 pub mod Parts
 pub mod Schedule
+pub mod Drill
 pub mod Lines
 pub mod Reads
 pub mod Session

@@ -2,6 +2,7 @@
 #![tactic(auto)]
 
 mod act;
+mod drill;
 mod number;
 mod outcome;
 mod parts;
