@@ -7,3 +7,5 @@ pub mod Schedules
 pub mod ReadsLemmas
 pub mod Sessions
 pub mod Values
+pub mod Runnable
+pub mod Stops
