@@ -249,6 +249,7 @@ impl<D: Disk + Drop> Engine<D> {
         ensures since { Throughout (AllStand self.journal) (D.past self.first) (D.past self.disk) }
         ensures stand { At (AllStand self.journal) (D.past self.disk) }
         ensures exact { At (IsExact self.journal self.settled self.acked) (D.past self.disk) }
+        ensures order { self.settled ≤ length self.journal }
         ensures even { self.state ≡ State.Up → self.acked ≡ self.settled }
 
         // Where they differ, memory was refused, or a disk's `tell` may fail.
