@@ -9,3 +9,4 @@ pub mod Sessions
 pub mod Values
 pub mod Runnable
 pub mod Stops
+pub mod Drills

@@ -15,7 +15,7 @@ ghost use Rattle.store_model.specs.Fold.{empty};
 ghost use Rattle.store_model.specs.Report.{report_text};
 ghost use Rattle.keyd_cli.specs.Reads.{mtr_count};
 ghost use Rattle.keyd_cli.specs.Session.{AreRunnable};
-ghost use Rattle.keyd_cli.specs.Drill.{info_of, stopped_by, Begins, AreLost, IsDrilled};
+ghost use Rattle.keyd_cli.specs.Drill.{info_of, stop_after, stopped_by, Begins, AreLost, IsDrilled};
 
 use crate::act::Statement;
 use crate::outcome::{DrillEnd, Reply};
@@ -77,7 +77,7 @@ fn begun(alloc: Global, plan: &DrillPlan) -> Result<MemDisk, OutOfMemory>
 
 // The session's stop, where that turn was made.
 fn stopped_at(stop: Option<u32>, disk: &MemDisk) -> Option<u64>
-    ensures none { disk.now.contents.log.stop ≡ None → result ≡ None }
+    ensures { (begun : ℕ) → disk.now.contents.log.stop ≡ stop_after begun stop → result ≡ stopped_by begun (turns_in (calls_since disk.now.contents)) stop }
 {
     let turn = stop?;
     if disk.stop()? <= disk.turns() {

@@ -1,38 +1,34 @@
-use Rattle.std.proofs.Common.{rules, ◌≡◌, ◌≤◌, ◌<◌, ◌∷◌, [], ℕ, length, map, IfOk, Some, None, ◌+◌, ◌-◌, ◌*◌, ◌/◌, ◌%◌, Bool, true, false, nat_eq, nat_lt, List, ◌++◌, slice_index_or, slice_set, bit_and, bit_or, Fits, w8, w32, w64, Bor, MutBor}
-use Rattle.disk_model.specs.Contents.{events, calls_since}
+use Rattle.std.proofs.Common.{◌≡◌, ℕ, List, length, refl, sym, ◌∙◌, ap, subst, Option, MatchOption}
+use Rattle.disk_model.specs.Event.{Event}
+use Rattle.disk_model.specs.Image.{InFile}
+use Rattle.disk_model.specs.Contents.{events}
 use Rattle.disk_model.specs.Crash.{crash_image}
-use Rattle.disk_model.specs.Image.{IsLucky}
-use Rattle.disk_model.specs.Past.{At}
-use Rattle.disk_model.specs.Turns.{turns_in}
-use Rattle.disk_model.specs.Log.{GoesOn}
-use Rattle.engine_core.specs.Layer.{Ready}
-use Rattle.engine_core.specs.Made.{IsHeaded}
-use Rattle.engine_core.specs.Kept.{IsExact}
-use Rattle.engine_core.specs.Stands.{AllStand, AllRecover, AllRefusable, Keeps, passes, contents_after}
-use Rattle.engine_core.specs.declared.fault.State.TheVariants as state
-use Rattle.store_model.specs.Fold.{empty}
-use Rattle.store_model.specs.Report.{report_text}
-use Rattle.keyd_cli.specs.Reads.{mtr_count}
-use Rattle.keyd_cli.specs.Session.{AreRunnable}
-use Rattle.keyd_cli.specs.Drill.{info_of, stopped_by, Begins, AreLost, IsDrilled}
+use Rattle.disk_model.specs.declared.names.FileName.TheVariants.{Log}
+use Rattle.engine_core.specs.Stands.{Keeps, passes}
+use Rattle.engine_core.proofs.Crashes.{crash-keeps, crash-settled}
+use Rattle.disk_model.proofs.Lucky.{crash_is_lucky}
+use Rattle.keyd_cli.proofs.Drills.{crash-inside, crash-lost}
 use Rattle.keyd_cli.proofs.drill.kept.Goals as goal
 
--- src/drill.rt:101:11
 pub scan-requires : goal.scan-requires
-scan-requires c = ?
+scan-requires c =
+    let inside = crash-inside c.args.halted.now.journal c.args.choices.now (events c.args.halted.now.disk.contents) c.in_ok-image.image.contents c.requires.refusable c.in_ok-image.ensures.crash c.in_ok-image.ensures.none c.requires.stands in
+    record { inside = record { here = λ es is. subst (λ (o : Option (List Event)). MatchOption o ⊥ (InFile Log 0 1060864)) is inside } }
 
--- src/drill.rt:99:1
 pub returns-in-Ok-clause-keeps : goal.returns-in-Ok-clause-keeps
-returns-in-Ok-clause-keeps c = ?
+returns-in-Ok-clause-keeps c =
+    subst (Keeps c.args.halted.now.journal (crash_image c.args.choices.now (events c.args.halted.now.disk.contents))) (sym (c.len.ensures ∙ c.in-Ok.texts.ok.0))
+    (crash-keeps c.args.halted.now.journal c.args.choices.now (events c.args.halted.now.disk.contents) (events c.in_ok-image.image.contents) c.requires.refusable c.in_ok-image.ensures.crash c.requires.stands c.in-Ok.texts.items (c.in-Ok.ensures.run.here _ refl))
 
--- src/drill.rt:99:1
 pub returns-in-Ok-clause-lucky : goal.returns-in-Ok-clause-lucky
-returns-in-Ok-clause-lucky c = ?
+returns-in-Ok-clause-lucky c = crash_is_lucky passes c.args.choices.now (events c.args.halted.now.disk.contents) c.requires.refusable
 
--- src/drill.rt:99:1
 pub returns-in-Ok-clause-settled : goal.returns-in-Ok-clause-settled
-returns-in-Ok-clause-settled c = ?
+returns-in-Ok-clause-settled c = λ settled le all.
+    c.len.ensures ∙ c.in-Ok.texts.ok.0
+    ∙ crash-settled c.args.halted.now.journal c.args.choices.now (events c.args.halted.now.disk.contents) (events c.in_ok-image.image.contents) c.requires.refusable c.in_ok-image.ensures.crash settled le all c.in-Ok.texts.items (c.in-Ok.ensures.run.here _ refl)
 
--- src/drill.rt:99:1
 pub returns-in-Ok-clause-lost : goal.returns-in-Ok-clause-lost
-returns-in-Ok-clause-lost c = ?
+returns-in-Ok-clause-lost c = λ settled acked le lost exact.
+    c.len.ensures ∙ c.in-Ok.texts.ok.0
+    ∙ crash-lost c.args.halted.now.journal c.args.choices.now (events c.args.halted.now.disk.contents) c.in_ok-image.image.contents c.requires.refusable c.in_ok-image.ensures.crash settled acked le c.requires.choices lost exact c.in-Ok.texts.items (c.in-Ok.ensures.run.here _ refl)
