@@ -1,4 +1,5 @@
 // The journal: the mini-transactions in the order of their commits.
+use std::alloc::Global;
 use std::marker::Model;
 use store_model::Mtr;
 
@@ -40,12 +41,19 @@ impl Model for Journal {
 }
 
 impl Journal {
-    ghost use Rattle.std.specs.Prelude.{◌≡◌, ◌<◌, length, slice_index_or};
+    ghost use Rattle.std.specs.Prelude.{◌≡◌, ◌<◌, [], length, slice_index_or};
 
     pub(crate) fn of(entries: Vec<Entry>) -> Journal
         ensures { result ≡ entries.items }
     {
         Journal { entries }
+    }
+
+    /// The journal without entries. Takes no memory.
+    pub fn empty(alloc: Global) -> Journal
+        ensures { result ≡ [] }
+    {
+        Journal::of(Vec::new(alloc))
     }
 
     /// How many entries there are.

@@ -9,3 +9,6 @@ pub mod Session
 pub mod Printed
 pub mod Plan
 pub mod PlanOf
+pub mod Status
+pub mod Keys
+pub mod Ends

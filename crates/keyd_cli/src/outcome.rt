@@ -1,4 +1,5 @@
 // What a command ends with.
+use crate::status::Status;
 use disk_model::MemDisk;
 use engine_core::Journal;
 use std::marker::Model;
@@ -71,4 +72,56 @@ pub struct DrillEnd {
     pub kept: u64,
     pub disk: MemDisk,
     pub rest: Option<MemDisk>,
+}
+
+/// The sessions of a drill, in order.
+#[derive(Drop)]
+pub struct Drills {
+    ends: Vec<DrillEnd>,
+}
+
+impl Model for Drills {
+    ghost use Rattle.std.specs.Prelude.{List};
+    ghost use Rattle.keyd_cli.specs.declared.outcome.DrillEnd.{DrillEnd};
+
+    ghost Value = { List DrillEnd };
+
+    ghost view = { λ d. d.ends.items };
+}
+
+impl Drills {
+    ghost use Rattle.std.specs.Prelude.{◌≡◌, ◌<◌, length, slice_index_or};
+
+    pub(crate) fn of(ends: Vec<DrillEnd>) -> Drills
+        ensures { result ≡ ends.items }
+    {
+        Drills { ends }
+    }
+
+    /// How many sessions there are.
+    pub fn len(&self) -> usize
+        ensures { result ≡ length self.now }
+    {
+        self.ends.len()
+    }
+
+    /// The session at this place, from 0.
+    pub fn get(&self, i: usize) -> &DrillEnd
+        requires { i < length self.now }
+        ensures { result.now ≡ slice_index_or self.now i result.now }
+    {
+        &self.ends[i]
+    }
+}
+
+/// What a command ends with: its status, the disk that it was handed, the journal and the replies of
+/// its session, and how each session of a drill ended. All but the disk is empty where the status
+/// isn't Done.
+#[derive(Drop)]
+pub struct Ended<D> {
+    pub status: Status,
+    pub disk: D,
+    pub journal: Journal,
+    pub replies: Replies,
+    pub drill: Drills,
 }

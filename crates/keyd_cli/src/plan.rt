@@ -21,7 +21,7 @@ pub struct DrillPlan {
 }
 
 // The value of an option.
-fn value_of(options: &[String], flag: Flag) -> Option<&str>
+pub fn value_of(options: &[String], flag: Flag) -> Option<&str>
     ensures { MatchOption result (value_in flag (map string_bytes options.now) ≡ None) (λ v. value_in flag (map string_bytes options.now) ≡ Some v.now) }
 {
     let mut at = 0;
