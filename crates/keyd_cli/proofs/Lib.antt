@@ -9,4 +9,6 @@ pub mod Sessions
 pub mod Values
 pub mod Runnable
 pub mod Stops
-pub mod Drills
+pub mod CrashOf
+pub mod KeyNames
+pub mod Endings

@@ -1,7 +1,7 @@
 -- The value of an option among options and their values.
-use Rattle.std.proofs.Common.{◌≡◌, ◌≢◌, ℕ, ◌+◌, ◌-◌, ◌<◌, ◌≤◌, length, drop, get_or, arith, sym, ◌∙◌, ap, subst, List, [], ◌∷◌, zero, suc, true, false, Bool, cond, refl, if◌then◌else◌, Option, Some, None, rules}
+use Rattle.std.proofs.Common.{◌≡◌, ◌≢◌, ℕ, ◌+◌, ◌-◌, ◌<◌, ◌≤◌, length, drop, get_or, map, arith, sym, ◌∙◌, ap, subst, List, [], ◌∷◌, zero, suc, true, false, Bool, cond, refl, if◌then◌else◌, Option, Some, None, rules}
 use Rattle.std.specs.Str.{bytes_eq}
-use Rattle.std.proofs.lemmas.List.{drop_more, length-drop}
+use Rattle.std.proofs.lemmas.List.{drop_more, length-drop, get_or-map}
 use Rattle.std.proofs.lemmas.List.Sums.{sum_by-cons}
 use Rattle.std.proofs.lemmas.Slice.Eq.{bytes_eq-Decides}
 use Rattle.keyd_cli.specs.declared.words.Flag.{Flag}
@@ -9,7 +9,11 @@ use Rattle.keyd_cli.specs.Words.{Word, name_of, IsValue, ArePairs, option_words,
 use Rattle.keyd_cli.specs.Plan.{value_in}
 use Rattle.keyd_cli.proofs.Options.{name_of-injective}
 
-split_two : (ws : List Word) (at : ℕ) → at + 1 < length ws → drop at ws ≡ get_or ws at [] ∷ get_or ws (at + 1) [] ∷ drop (at + 2) ws
+-- a word of strings
+pub word_is : {S : Type 0} (f : S → Word) (strings : List S) (i : ℕ) (x : S) (text : Word) → i < length strings → x ≡ get_or strings i x → text ≡ f x → get_or (map f strings) i [] ≡ text
+word_is f strings i x text low is read = get_or-map f strings i x [] low ∙ ap f (sym is) ∙ sym read
+
+pub split_two : (ws : List Word) (at : ℕ) → at + 1 < length ws → drop at ws ≡ get_or ws at [] ∷ get_or ws (at + 1) [] ∷ drop (at + 2) ws
 split_two ws at low =
     let two : (at + 1) + 1 ≡ at + 2 = omega arith in
     drop_more ws at [] (omega (arith, low)) ∙ ap (λ l. get_or ws at [] ∷ l) (drop_more ws (at + 1) [] low ∙ ap (λ n. get_or ws (at + 1) [] ∷ drop n ws) two)

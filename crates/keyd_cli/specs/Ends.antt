@@ -1,20 +1,21 @@
--- How `drill` ends, by its words, the library's files and the input's bytes.
-use Rattle.std.specs.Prelude.{◌≡◌, ◌≤◌, ◌<◌, ℕ, List, [], ◌∷◌, ◌++◌, length, drop, Option, Result, Ok, Err}
+-- How `drill` ends, by its words, the library's files, the input's bytes and what the output is given.
+use Rattle.std.specs.Prelude.{◌≡◌, ◌⊎◌, ◌≤◌, ◌<◌, ℕ, List, [], ◌∷◌, ◌++◌, length, drop, Option, Result, Ok, Err}
 use Rattle.cause_core.specs.Counts.{Rose}
 use Rattle.io_core.specs.Files.{Files}
 use Rattle.io_core.specs.Told.{Told}
 use Rattle.io_core.specs.Stream.{extended, IsPartlyGiven}
+use Rattle.key_file.specs.declared.load_fault.LoadFault.{LoadFault}
 use Rattle.key_file.specs.declared.load_fault.LoadFault.TheVariants as load
 use Rattle.key_ring.specs.Ring as ring
 use Rattle.engine_core.specs.declared.journal.Entry.{Entry}
-use Rattle.keyd_cli.specs.declared.outcome.Reply.{Reply}
-use Rattle.keyd_cli.specs.declared.outcome.DrillEnd.{DrillEnd}
 use Rattle.engine_core.specs.Stands.{contents_after}
 use Rattle.store_model.specs.Fold.{empty}
 use Rattle.store_model.specs.Report.{report_text}
 use Rattle.keyd_cli.specs.declared.plan.DrillPlan.{DrillPlan}
 use Rattle.keyd_cli.specs.declared.act.Statement.{Statement}
 use Rattle.keyd_cli.specs.declared.drill.Drilled.{Drilled}
+use Rattle.keyd_cli.specs.declared.outcome.Reply.{Reply}
+use Rattle.keyd_cli.specs.declared.outcome.DrillEnd.{DrillEnd}
 use Rattle.keyd_cli.specs.declared.status.Status.{Status}
 use Rattle.keyd_cli.specs.declared.status.Status.TheVariants as status
 use Rattle.keyd_cli.specs.Words.{Word, IsDrill, IsUsage}
@@ -24,43 +25,84 @@ use Rattle.keyd_cli.specs.Reads.{IsSchedule, IsNotBuilt}
 use Rattle.keyd_cli.specs.Drill.{info_of, IsDrilled}
 use Rattle.keyd_cli.specs.Printed.{session_text}
 
--- The words are a list of `drill`, but at a usage status, which tells the first that isn't.
-abbrev pub FitsWords : List Word → Status → Type 0
-FitsWords words (status.Usage i) = IsUsage words i
-FitsWords words _ = IsDrill words
+-- ---- the key files
 
--- The key files load, but at the status of one that doesn't, or that comes before.
-abbrev pub FitsKeys : List Word → Files → Status → Type 0
-FitsKeys words files (status.KeyFile index fault) = IsLoaded files (drop 1 words) (Err (load.KeyFile index fault))
-FitsKeys words files (status.Missing name) = IsLoaded files (drop 1 words) (Err (load.Missing name))
-FitsKeys words files (status.Usage i) = Unit {0}
-FitsKeys words files status.FileFault = Unit {0}
-FitsKeys words files status.OutOfMemory = Unit {0}
-FitsKeys words files _ = (keys : List ring.Entry) × IsLoaded files (drop 1 words) (Ok keys)
+-- Where the library tells its files, those that the options name load.
+abbrev pub IsKeyed : List Word → Option Files → Type 0
+IsKeyed options files = Told (λ fs. (keys : List ring.Entry) × IsLoaded fs options (Ok keys)) files
 
--- The input has more bytes than a schedule may have.
-abbrev pub IsTooLarge : List ℕ → Type 0
-IsTooLarge bytes = 1048576 < length bytes
+-- the status of key files that don't load
+abbrev pub load_status : LoadFault → Status
+load_status (load.Missing name) = status.Missing name
+load_status load.FileFault = status.FileFault
+load_status (load.KeyFile index fault) = status.KeyFile index fault
+load_status load.OutOfMemory = status.OutOfMemory
 
--- A line of the schedule is the first that isn't built.
-pub record IsRefused (words : List Word) (bytes : List ℕ) (line : ℕ) : Type 0 where
-  pub plan : DrillPlan
+-- The first fault of the key files, or a fault of the library, whose counts of faults and of absences were and are these.
+abbrev pub IsKeyEnd : List Word → Option Files → ℕ → ℕ → ℕ → ℕ → Status → Type 0
+IsKeyEnd options files faults faults' absences absences' (status.KeyFile index fault) = Told (λ fs. IsLoaded fs options (Err (load.KeyFile index fault))) files
+IsKeyEnd options files faults faults' absences absences' (status.Missing name) = Told (λ fs. IsLoaded fs options (Err (load.Missing name))) files × Rose absences absences'
+IsKeyEnd options files faults faults' absences absences' status.FileFault = Rose faults faults'
+IsKeyEnd options files faults faults' absences absences' status.OutOfMemory = Unit {0}
+IsKeyEnd options files faults faults' absences absences' _ = ⊥
+
+-- ---- the input
+
+-- Where the source tells its bytes, these are all, and they are no more than a schedule may have.
+pub record IsInput (left : Option (List ℕ)) (text : List ℕ) : Type 0 where
+  pub size : length text ≤ 1048576
+  pub read : Told (λ bytes. bytes ≡ text) left
+
+-- The input has more bytes than a schedule may have, or a line that isn't built, or it failed; its count of faults was and is this.
+abbrev pub IsInputEnd : DrillPlan → Option (List ℕ) → ℕ → ℕ → Status → Type 0
+IsInputEnd plan left faults faults' status.ScriptTooLarge = Told (λ bytes. 1048576 < length bytes) left
+IsInputEnd plan left faults faults' (status.NotBuilt line) = (text : List ℕ) × IsInput left text × IsNotBuilt plan.space.space plan.space.pages text line
+IsInputEnd plan left faults faults' status.InputFault = Rose faults faults'
+IsInputEnd plan left faults faults' status.OutOfMemory = Unit {0}
+IsInputEnd plan left faults faults' _ = ⊥
+
+-- The input is a schedule, and it was drilled.
+pub record IsInputDrilled (plan : DrillPlan) (left : Option (List ℕ)) (d : Drilled) : Type 0 where
+  pub text : List ℕ
+  pub input : IsInput left text
+  pub statements : List Statement
+  pub schedule : IsSchedule plan.space.space plan.space.pages text statements
+  pub is : IsDrilled plan statements d
+
+-- ---- the output
+
+-- the lines of the session, and the report of the pages after the entries that its crash keeps
+abbrev pub drill_text : DrillPlan → Drilled → List ℕ
+drill_text plan d =
+    session_text d.end.stopped plan.choices.items d.end.journal d.end.acked d.end.kept
+    ++ report_text (contents_after d.end.kept d.journal (empty (info_of plan.space ∷ [])))
+
+-- ---- the command
+
+-- The words are a list of `drill`, its key files load, its schedule was drilled.
+pub record IsReady (words : List Word) (files : Option Files) (left : Option (List ℕ)) (plan : DrillPlan) (d : Drilled) : Type 0 where
+  pub words_are : IsDrill words
   pub asked : IsPlan (drop 1 words) plan
-  pub size : length bytes ≤ 1048576
-  pub line_is : IsNotBuilt plan.space.space plan.space.pages bytes line
+  pub keyed : IsKeyed (drop 1 words) files
+  pub drilled : IsInputDrilled plan left d
 
--- what the input's bytes say of a status that comes of them
-abbrev pub FitsInput : List Word → List ℕ → Status → Type 0
-FitsInput words bytes status.ScriptTooLarge = IsTooLarge bytes
-FitsInput words bytes (status.NotBuilt line) = IsRefused words bytes line
-FitsInput words bytes _ = Unit {0}
+-- It was drilled, the output was given exactly its text, and this is the session's journal, its replies and its end.
+pub record IsDone (words : List Word) (files : Option Files) (left given given' : Option (List ℕ)) (journal : List Entry) (replies : List Reply) (drill : List DrillEnd) : Type 0 where
+  pub plan : DrillPlan
+  pub drilled : Drilled
+  pub ready : IsReady words files left plan drilled
+  pub printed : given' ≡ extended (drill_text plan drilled) given
+  pub journal_is : journal ≡ drilled.journal
+  pub replies_are : replies ≡ drilled.replies.items
+  pub drill_is : drill ≡ drilled.end ∷ []
 
--- what the output was given: at Done nothing is said here; at a fault of the output, or where it had no memory, a front of some text; else nothing
-abbrev pub FitsOutput : Option (List ℕ) → Option (List ℕ) → Status → Type 0
-FitsOutput before now status.Done = Unit {0}
-FitsOutput before now status.OutFault = (text : List ℕ) × IsPartlyGiven text before now
-FitsOutput before now status.OutOfMemory = (text : List ℕ) × IsPartlyGiven text before now
-FitsOutput before now _ = now ≡ before
+-- the output failed, having been given a front of the text; its count of faults was and is this
+pub record IsOutFault (words : List Word) (files : Option Files) (left given given' : Option (List ℕ)) (faults faults' : ℕ) : Type 0 where
+  pub plan : DrillPlan
+  pub drilled : Drilled
+  pub ready : IsReady words files left plan drilled
+  pub partly : IsPartlyGiven (drill_text plan drilled) given given'
+  pub rose : Rose faults faults'
 
 -- The counts of faults of the library, the input and the output, and the library's count of absences.
 pub record Counts : Type 0 where
@@ -69,32 +111,19 @@ pub record Counts : Type 0 where
   pub input : ℕ
   pub output : ℕ
 
--- a fault of the outside comes only where its count rose
-abbrev pub FitsCounts : Counts → Counts → Status → Type 0
-FitsCounts before now (status.Missing name) = Rose before.absences now.absences
-FitsCounts before now status.FileFault = Rose before.library now.library
-FitsCounts before now status.InputFault = Rose before.input now.input
-FitsCounts before now status.OutFault = Rose before.output now.output
-FitsCounts before now _ = Unit {0}
+-- a status of the input comes after words and key files that are right
+abbrev pub IsPastKeys : List Word → Option Files → (DrillPlan → Type 0) → Type 0
+IsPastKeys words files P = IsDrill words × IsKeyed (drop 1 words) files × ((plan : DrillPlan) × IsPlan (drop 1 words) plan × P plan)
 
--- what a drill prints: the lines of its session, and the report of the pages after the entries that its crash keeps
-abbrev pub drill_text : DrillPlan → Drilled → List ℕ
-drill_text plan d =
-    session_text d.end.stopped plan.choices.items d.end.journal d.end.acked d.end.kept
-    ++ report_text (contents_after d.end.kept d.journal (empty (info_of plan.space ∷ [])))
-
--- The words ask for a drill, the input's bytes are its schedule, it was drilled, and the output was given its text.
-pub record IsDone (words : List Word) (left : Option (List ℕ)) (before now : Option (List ℕ)) (journal : List Entry) (replies : List Reply) (drill : List DrillEnd) : Type 0 where
-  pub plan : DrillPlan
-  pub asked : IsPlan (drop 1 words) plan
-  pub text : List ℕ
-  pub size : length text ≤ 1048576
-  pub read : Told (λ bytes. bytes ≡ text) left
-  pub statements : List Statement
-  pub schedule : IsSchedule plan.space.space plan.space.pages text statements
-  pub drilled : Drilled
-  pub is : IsDrilled plan statements drilled
-  pub journal_is : journal ≡ drilled.journal
-  pub replies_are : replies ≡ drilled.replies.items
-  pub drill_is : drill ≡ drilled.end ∷ []
-  pub printed : now ≡ extended (drill_text plan drilled) before
+-- Why the command isn't done. But for a fault of the output, or want of memory there, the output was given nothing.
+abbrev pub IsEnd : List Word → Option Files → Option (List ℕ) → Option (List ℕ) → Option (List ℕ) → Counts → Counts → Status → Type 0
+IsEnd words files left given given' before now (status.Usage i) = IsUsage words i × (given' ≡ given)
+IsEnd words files left given given' before now (status.KeyFile index fault) = IsDrill words × IsKeyEnd (drop 1 words) files before.library now.library before.absences now.absences (status.KeyFile index fault) × (given' ≡ given)
+IsEnd words files left given given' before now (status.Missing name) = IsDrill words × IsKeyEnd (drop 1 words) files before.library now.library before.absences now.absences (status.Missing name) × (given' ≡ given)
+IsEnd words files left given given' before now status.FileFault = IsDrill words × IsKeyEnd (drop 1 words) files before.library now.library before.absences now.absences status.FileFault × (given' ≡ given)
+IsEnd words files left given given' before now status.ScriptTooLarge = IsPastKeys words files (λ plan. IsInputEnd plan left before.input now.input status.ScriptTooLarge) × (given' ≡ given)
+IsEnd words files left given given' before now status.InputFault = IsPastKeys words files (λ plan. IsInputEnd plan left before.input now.input status.InputFault) × (given' ≡ given)
+IsEnd words files left given given' before now (status.NotBuilt line) = IsPastKeys words files (λ plan. IsInputEnd plan left before.input now.input (status.NotBuilt line)) × (given' ≡ given)
+IsEnd words files left given given' before now status.OutFault = IsOutFault words files left given given' before.output now.output
+IsEnd words files left given given' before now status.OutOfMemory = (text : List ℕ) × IsPartlyGiven text given given'
+IsEnd words files left given given' before now status.Done = ⊥

@@ -1,5 +1,5 @@
 // The key files that the words of `drill` name.
-ghost use Rattle.std.specs.Prelude.{◌≡◌, ◌⊎◌, Ok, Err, map, string_bytes, IfOk, MatchResult, MatchOption};
+ghost use Rattle.std.specs.Prelude.{◌≡◌, ◌⊎◌, ◌+◌, ◌<◌, ◌++◌, length, drop, Ok, Err, OnOk, map, string_bytes, IfOk, MatchResult, MatchOption};
 ghost use Rattle.std.specs.Option.{option_copied};
 ghost use Rattle.io_core.specs.Told.{Told};
 ghost use Rattle.key_file.specs.Cause.{HasCauses};
@@ -16,6 +16,24 @@ use key_file::{KeyDigest, LoadFault, load};
 use key_ring::Ring;
 use std::alloc::Global;
 
+// Adds the value at this place, where it is the name of a key file.
+fn push_name(
+    alloc: Global,
+    names: &mut Vec<String>,
+    options: &[String],
+    at: usize,
+) -> Result<(), OutOfMemory>
+    requires { at + 1 < length options.now }
+    ensures { OnOk result (map string_bytes names.new.items ++ values_of Flag.KeyFile (drop (at + 2) (map string_bytes options.now)) ≡ map string_bytes names.old.items ++ values_of Flag.KeyFile (drop at (map string_bytes options.now))) }
+{
+    if options[at].as_str() != Flag::KeyFile.name() {
+        return Ok(());
+    }
+    let name = String::from_str(alloc, options[at + 1].as_str())?;
+    names.push(name)?;
+    Ok(())
+}
+
 // The names of the key files, in the order in which they stand.
 fn names_in(alloc: Global, options: &[String]) -> Result<Vec<String>, OutOfMemory>
     ensures { IfOk result (λ names. map string_bytes names.items ≡ values_of Flag.KeyFile (map string_bytes options.now)) }
@@ -23,9 +41,7 @@ fn names_in(alloc: Global, options: &[String]) -> Result<Vec<String>, OutOfMemor
     let mut names = Vec::new(alloc);
     let mut at = 0;
     while at + 1 < options.len() {
-        if options[at].as_str() == Flag::KeyFile.name() {
-            names.push(String::from_str(alloc, options[at + 1].as_str())?)?;
-        }
+        push_name(alloc, &mut names, options, at)?;
         at += 2;
     }
     Ok(names)

@@ -80,35 +80,26 @@ pub struct Drills {
     ends: Vec<DrillEnd>,
 }
 
-impl Model for Drills {
-    ghost use Rattle.std.specs.Prelude.{List};
-    ghost use Rattle.keyd_cli.specs.declared.outcome.DrillEnd.{DrillEnd};
-
-    ghost Value = { List DrillEnd };
-
-    ghost view = { λ d. d.ends.items };
-}
-
 impl Drills {
     ghost use Rattle.std.specs.Prelude.{◌≡◌, ◌<◌, length, slice_index_or};
 
     pub(crate) fn of(ends: Vec<DrillEnd>) -> Drills
-        ensures { result ≡ ends.items }
+        ensures { result.ends.items ≡ ends.items }
     {
         Drills { ends }
     }
 
     /// How many sessions there are.
     pub fn len(&self) -> usize
-        ensures { result ≡ length self.now }
+        ensures { result ≡ length self.now.ends.items }
     {
         self.ends.len()
     }
 
     /// The session at this place, from 0.
     pub fn get(&self, i: usize) -> &DrillEnd
-        requires { i < length self.now }
-        ensures { result.now ≡ slice_index_or self.now i result.now }
+        requires { i < length self.now.ends.items }
+        ensures { result.now ≡ slice_index_or self.now.ends.items i result.now }
     {
         &self.ends[i]
     }

@@ -3,7 +3,7 @@ ghost use Rattle.std.specs.Prelude.{◌≡◌, ◌≤◌, ◌<◌, [], map, leng
 ghost use Rattle.keyd_cli.specs.Printed.{letter_of};
 ghost use Rattle.keyd_cli.specs.Words.{AreOptions, IsChoice, times};
 ghost use Rattle.keyd_cli.specs.Plan.{value_in, IsSpaceIn, IsStopIn, AreChoicesIn};
-ghost use Rattle.keyd_cli.specs.PlanOf.{IsPlan};
+ghost use Rattle.keyd_cli.specs.PlanOf.{IsPlan, IsFitting};
 
 use crate::words::{Flag, SpaceWords, space_of, stop_of};
 use cause_core::OutOfMemory;
@@ -97,7 +97,8 @@ fn choices_in(alloc: Global, options: &[String]) -> Result<Vec<Choice>, OutOfMem
 pub fn plan_of(alloc: Global, options: &[String]) -> Result<DrillPlan, OutOfMemory>
     requires are { AreOptions (map string_bytes options.now) }
     requires space { 1 ≤ times Flag.Space (map string_bytes options.now) }
-    ensures { IfOk result (IsPlan (map string_bytes options.now)) }
+    ensures plan { IfOk result (IsPlan (map string_bytes options.now)) }
+    ensures fits { IfOk result IsFitting }
 {
     let space = space_in(options);
     let stop = stop_in(options);

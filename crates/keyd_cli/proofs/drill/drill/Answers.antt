@@ -12,7 +12,7 @@ use Rattle.engine_core.specs.Stands.{AllRecover, AllRefusable, Keeps, passes}
 use Rattle.engine_core.specs.Kept.{IsExact}
 use Rattle.keyd_cli.specs.Session.{HasRun, AreAckedWithin}
 use Rattle.keyd_cli.specs.Drill.{AreLost}
-use Rattle.keyd_cli.proofs.Drills.{drilled, moved}
+use Rattle.keyd_cli.proofs.CrashOf.{drilled, moved}
 use Rattle.keyd_cli.proofs.drill.drill.Goals as goal
 
 pub kept-requires-clause-refusable : goal.kept-requires-clause-refusable

@@ -7,7 +7,7 @@ use Rattle.disk_model.specs.declared.names.FileName.TheVariants.{Log}
 use Rattle.engine_core.specs.Stands.{Keeps, passes}
 use Rattle.engine_core.proofs.Crashes.{crash-keeps, crash-settled}
 use Rattle.disk_model.proofs.Lucky.{crash_is_lucky}
-use Rattle.keyd_cli.proofs.Drills.{crash-inside, crash-lost}
+use Rattle.keyd_cli.proofs.CrashOf.{crash-inside, crash-lost}
 use Rattle.keyd_cli.proofs.drill.kept.Goals as goal
 
 pub scan-requires : goal.scan-requires

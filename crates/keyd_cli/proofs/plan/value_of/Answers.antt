@@ -3,11 +3,8 @@ use Rattle.std.proofs.lemmas.List.{length-map, get_or-map}
 use Rattle.keyd_cli.specs.declared.words.Flag.{Flag}
 use Rattle.keyd_cli.specs.Words.{Word, name_of}
 use Rattle.keyd_cli.specs.Plan.{value_in}
-use Rattle.keyd_cli.proofs.Values.{value_here, value_behind, value_none}
+use Rattle.keyd_cli.proofs.Values.{word_is, value_here, value_behind, value_none}
 use Rattle.keyd_cli.proofs.plan.value_of.Goals as goal
-
-word_is : {S : Type 0} (f : S → Word) (strings : List S) (i : ℕ) (x : S) (text : Word) → i < length strings → x ≡ get_or strings i x → text ≡ f x → get_or (map f strings) i [] ≡ text
-word_is f strings i x text low is read = get_or-map f strings i x [] low ∙ ap f (sym is) ∙ sym read
 
 pub returns-then-eq : goal.returns-then-eq
 returns-then-eq c =
