@@ -1,6 +1,5 @@
 -- The crash of a session's disk, and when it was stopped.
-use Rattle.std.proofs.Common.{◌≡◌, ◌≢◌, ◌⊎◌, ℕ, ◌+◌, ◌-◌, ◌<◌, ◌≤◌, min, Bool, true, false, true≢false, nat_le, if◌then◌else◌, List, [], ◌∷◌, length, take, drop, Option, Some, None, MatchOption, refl, sym, ◌∙◌, ap, subst, inl, inr, arith}
-use Rattle.std.specs.List.{All}
+use Rattle.std.proofs.Common.{◌≡◌, ◌≢◌, ◌⊎◌, ℕ, ◌+◌, ◌-◌, ◌<◌, ◌≤◌, min, Bool, true, false, true≢false, nat_le, if◌then◌else◌, List, [], ◌∷◌, length, take, Option, Some, None, MatchOption, refl, sym, ◌∙◌, ap, subst, inl, inr, arith}
 use Rattle.std.proofs.lemmas.List.Elements.{All-get_or}
 use Rattle.disk_model.specs.Event.{Event, Open, has_file, file_in, is_there, reads, marks, record_of, same_file}
 use Rattle.disk_model.specs.Memory.{replay}

@@ -1,5 +1,5 @@
 -- The values of an option among options and their values.
-use Rattle.std.proofs.Common.{◌≡◌, ℕ, ◌+◌, ◌≤◌, ◌<◌, length, drop, get_or, arith, sym, ◌∙◌, ap, List, [], ◌∷◌, ◌++◌, true, false, refl, if◌then◌else◌, rules}
+use Rattle.std.proofs.Common.{◌≡◌, ℕ, ◌+◌, ◌≤◌, ◌<◌, length, drop, get_or, arith, ◌∙◌, ap, List, [], ◌∷◌, true, false, refl, if◌then◌else◌, rules}
 use Rattle.std.specs.Str.{bytes_eq}
 use Rattle.std.proofs.lemmas.List.{length-drop}
 use Rattle.std.proofs.lemmas.Slice.Eq.{bytes_eq-Decides}

@@ -12,7 +12,7 @@ use Rattle.std.proofs.lemmas.Bool.Decides.{Decides-eqb}
 use Rattle.std.proofs.lemmas.Slice.Eq.{bytes_eq-Decides}
 use Rattle.keyd_cli.specs.declared.words.Flag.{Flag}
 use Rattle.keyd_cli.specs.declared.words.Flag.TheVariants.{KeyFile, FileKey, Digest, Space, Stop, Choice}
-use Rattle.keyd_cli.specs.Words.{Word, name_of, most_of, space_word, IsSpace, IsStop, IsChoice, IsLetter, IsValue, ArePairs, option_words, times, AreOptions, IsDrill, CanBegin, IsUsage}
+use Rattle.keyd_cli.specs.Words.{Word, name_of, most_of, space_word, IsLetter, IsValue, ArePairs, option_words, times, AreOptions, IsDrill, CanBegin, IsUsage}
 
 -- one pair
 pub one_pair : (f : Flag) (word value : Word) → word ≡ name_of f → IsValue f value → ArePairs (word ∷ value ∷ [])

@@ -1,5 +1,5 @@
 -- The parts of a text, one cut after another.
-use Rattle.std.proofs.Common.{◌≡◌, ◌≢◌, ℕ, ◌<◌, ◌==◌, length, get_or, sym, ◌∙◌, ap, List, [], ◌∷◌, ◌++◌, true, false, refl, All, rules}
+use Rattle.std.proofs.Common.{◌≡◌, ◌≢◌, ℕ, ◌==◌, get_or, ◌∙◌, ap, List, [], ◌∷◌, false, refl, All, rules}
 use Rattle.std.proofs.lemmas.List.Splits.{slice_split_none, slice_split_at}
 use Rattle.std.proofs.lemmas.Bool.Decides.{Decides-eqb}
 use Rattle.keyd_cli.specs.Parts.{IsNot, IsCut, parts_of}

@@ -1,12 +1,12 @@
 -- A schedule, one line further.
-use Rattle.std.proofs.Common.{◌≡◌, ◌≢◌, ℕ, ◌+◌, ◌-◌, ◌<◌, ◌≤◌, ◌++◌, length, take, drop, get_or, arith, sym, ◌∙◌, ap, subst, List, [], ◌∷◌, zero, suc, true, false, Bool, cond, refl, codes, ◌==◌, if◌then◌else◌, Option, None, Some, MatchOption}
+use Rattle.std.proofs.Common.{◌≡◌, ℕ, ◌+◌, ◌-◌, ◌<◌, ◌≤◌, ◌++◌, length, take, drop, get_or, arith, sym, ◌∙◌, ap, subst, List, [], ◌∷◌, suc, cond, refl, codes, ◌==◌, if◌then◌else◌}
 use Rattle.std.proofs.lemmas.List.{take_more, take_all, drop_more, take-append-drop, length-take-le, length-drop}
 use Rattle.std.proofs.lemmas.List.Sums.{sum_by_push, count_by-le-length}
 use Rattle.std.proofs.lemmas.List.Splits.{length-slice_split}
 use Rattle.keyd_cli.specs.declared.act.Act.{Act}
 use Rattle.keyd_cli.specs.declared.act.Statement.{Statement}
 use Rattle.keyd_cli.specs.Schedule.{lines_of, words_of, IsSkipped, IsAct, IsSync, IsMtr}
-use Rattle.keyd_cli.specs.Reads.{Reads, ReadNone, ReadSkipped, ReadAct, is_mtr, mtr_count, HasRoom, IsNotBuilt}
+use Rattle.keyd_cli.specs.Reads.{Reads, ReadSkipped, ReadAct, is_mtr, mtr_count, HasRoom, IsNotBuilt}
 
 -- the n-th line, where so many are read
 pub record AtLine (all : List (List ℕ)) (n : ℕ) (line : List ℕ) (rest : List (List ℕ)) : Type 0 where

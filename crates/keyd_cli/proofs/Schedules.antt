@@ -1,13 +1,12 @@
 -- A line of a put is read in one way.
-use Rattle.std.proofs.Common.{◌≡◌, ℕ, ◌+◌, ◌<◌, ◌≤◌, ◌^◌, length, get_or, arith, sym, ◌∙◌, ap, subst, List, [], ◌∷◌, Result, Ok, Err, inl, inr, codes}
-use Rattle.std.specs.Fmt.{decimal}
+use Rattle.std.proofs.Common.{◌≡◌, ℕ, ◌+◌, ◌<◌, ◌≤◌, length, get_or, arith, sym, ◌∙◌, ap, subst, List, [], ◌∷◌, Result, Ok, Err, inl, inr, codes}
 use Rattle.std.proofs.lemmas.Fmt.{decimal_injective}
 use Rattle.hex.specs.Hex.{decode_of}
 use Rattle.store_model.specs.declared.change.Change.{Change}
 use Rattle.store_model.specs.declared.change.Change.TheVariants.{Put}
-use Rattle.keyd_cli.specs.Schedule.{words_of, AreNumbers, IsPutLine, IsAct, IsSync, IsMtr, IsSkipped}
+use Rattle.keyd_cli.specs.Schedule.{AreNumbers, IsPutLine, IsAct, IsSync, IsMtr, IsSkipped}
 use Rattle.keyd_cli.specs.declared.act.Act.{Act}
-use Rattle.keyd_cli.specs.declared.act.Act.TheVariants.{Mtr, Sync}
+use Rattle.keyd_cli.specs.declared.act.Act.TheVariants.{Mtr}
 
 ok_or_none : {E : Type 0} → Result (List ℕ) E → List ℕ
 ok_or_none (Ok bytes) = bytes

@@ -1,6 +1,6 @@
 -- Statements in a row: their entries and replies.
-use Rattle.std.proofs.Common.{◌≡◌, ℕ, ◌+◌, ◌≤◌, ◌<◌, ◌++◌, length, take, arith, sym, ◌∙◌, ap, subst, List, [], ◌∷◌, true, false, Bool, cond, refl, add-zero, drop}
-use Rattle.std.proofs.lemmas.List.{append-nil, length-append, take_all, take-append-le}
+use Rattle.std.proofs.Common.{◌≡◌, ℕ, ◌+◌, ◌≤◌, ◌++◌, length, arith, sym, ◌∙◌, ap, subst, List, [], ◌∷◌, cond, refl, add-zero, drop}
+use Rattle.std.proofs.lemmas.List.{append-nil, length-append}
 use Rattle.std.proofs.lemmas.List.Sums.{sum_by-append, sum_by-cons}
 use mathlib.Core.List.{append_assoc}
 use Rattle.engine_core.specs.declared.journal.Entry.{Entry}

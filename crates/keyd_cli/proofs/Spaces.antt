@@ -1,12 +1,12 @@
 -- A space's word, cut at its colons.
-use Rattle.std.proofs.Common.{◌≡◌, ◌≢◌, ℕ, ◌+◌, ◌<◌, ◌≤◌, ◌^◌, ◌++◌, length, get_or, arith, sym, ◌∙◌, ap, subst, List, [], ◌∷◌, zero, suc, codes, refl, All, drop}
+use Rattle.std.proofs.Common.{◌≡◌, ◌≢◌, ℕ, ◌<◌, ◌^◌, ◌++◌, length, get_or, arith, sym, ◌∙◌, ap, [], ◌∷◌, zero, suc, codes, refl, All, drop}
 use Rattle.std.specs.Fmt.{decimal}
 use Rattle.std.proofs.lemmas.Fmt.{decimal_injective, digits_decimal}
 use Rattle.std.proofs.lemmas.Str.Parse.{digit_at}
 use Rattle.keyd_cli.proofs.Numbers.{own}
 use Rattle.keyd_cli.specs.Parts.{IsCut}
 use Rattle.keyd_cli.specs.Numbers.{IsNumber}
-use Rattle.keyd_cli.specs.Words.{Word, IsNoColon, AreParts, IsSpace, space_word}
+use Rattle.keyd_cli.specs.Words.{Word, IsNoColon, AreParts, IsSpace}
 
 first_of : (c : ℕ) (xs : Word) → All IsNoColon (c ∷ xs) → c ≢ 58
 first_of c xs free = free 0 0 (omega arith)

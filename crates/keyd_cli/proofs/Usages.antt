@@ -1,5 +1,5 @@
 -- Each way in which words are no list of `drill`, at its index.
-use Rattle.std.proofs.Common.{◌≡◌, ◌≢◌, ℕ, ◌+◌, ◌<◌, ◌≤◌, ◌++◌, length, take, get_or, arith, sym, ◌∙◌, ap, subst, List, [], ◌∷◌, zero, suc, codes, refl, add-one, drop}
+use Rattle.std.proofs.Common.{◌≡◌, ◌≢◌, ℕ, ◌+◌, ◌<◌, ◌≤◌, ◌++◌, length, take, get_or, arith, sym, ◌∙◌, ap, subst, List, [], ◌∷◌, suc, codes, add-one, drop}
 use Rattle.std.proofs.lemmas.List.{take_more, take_all}
 use mathlib.Core.List.{append_assoc}
 use Rattle.keyd_cli.specs.declared.words.Flag.{Flag}

@@ -1,5 +1,5 @@
 -- The value of an option among options and their values.
-use Rattle.std.proofs.Common.{◌≡◌, ◌≢◌, ℕ, ◌+◌, ◌-◌, ◌<◌, ◌≤◌, length, drop, get_or, map, arith, sym, ◌∙◌, ap, subst, List, [], ◌∷◌, zero, suc, true, false, Bool, cond, refl, if◌then◌else◌, Option, Some, None, rules}
+use Rattle.std.proofs.Common.{◌≡◌, ℕ, ◌+◌, ◌<◌, ◌≤◌, length, drop, get_or, map, arith, sym, ◌∙◌, ap, subst, List, [], ◌∷◌, true, false, Bool, cond, refl, if◌then◌else◌, Some, None, rules}
 use Rattle.std.specs.Str.{bytes_eq}
 use Rattle.std.proofs.lemmas.List.{drop_more, length-drop, get_or-map}
 use Rattle.std.proofs.lemmas.List.Sums.{sum_by-cons}

@@ -1,5 +1,5 @@
 -- The key files that the words of `drill` name.
-use Rattle.std.specs.Prelude.{◌≡◌, ℕ, if◌then◌else◌, List, [], ◌∷◌, codes, Option, Some, None, Result}
+use Rattle.std.specs.Prelude.{if◌then◌else◌, List, [], ◌∷◌, codes, Option, Some, None, Result}
 use Rattle.std.specs.Str.{bytes_eq}
 use Rattle.io_core.specs.Files.{Files}
 use Rattle.key_file.specs.declared.derivation.KeyDigest.{KeyDigest}

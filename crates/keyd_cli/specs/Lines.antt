@@ -1,5 +1,5 @@
 -- What one line of a schedule is.
-use Rattle.std.specs.Prelude.{◌≡◌, ℕ, List}
+use Rattle.std.specs.Prelude.{ℕ, List}
 use Rattle.keyd_cli.specs.declared.act.Act.{Act}
 use Rattle.keyd_cli.specs.declared.schedule.LineIs.{LineIs}
 use Rattle.keyd_cli.specs.declared.schedule.LineIs.TheVariants as line_is

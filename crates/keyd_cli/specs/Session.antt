@@ -2,7 +2,6 @@
 use Rattle.std.specs.Prelude.{◌≡◌, ℕ, ◌+◌, ◌*◌, ◌≤◌, ◌<◌, Bool, true, false, List, [], ◌∷◌, ◌++◌, length, take, Option, Some, None}
 use Rattle.engine_core.specs.declared.journal.Entry.{Entry}
 use Rattle.engine_core.specs.Text.{IsSmall}
-use Rattle.store_model.specs.declared.change.Change.{Change}
 use Rattle.keyd_cli.specs.declared.act.Act.{Act}
 use Rattle.keyd_cli.specs.declared.act.Act.TheVariants.{Mtr, Sync}
 use Rattle.keyd_cli.specs.declared.act.Statement.{Statement}

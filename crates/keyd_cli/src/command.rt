@@ -39,11 +39,7 @@ fn key_status(fault: LoadFault) -> Status
 }
 
 // Whether the key files that the options name load.
-fn check_keys<L: Library>(
-    alloc: Global,
-    files: &mut L,
-    options: &[String],
-) -> Result<(), Status>
+fn check_keys<L: Library>(alloc: Global, files: &mut L, options: &[String]) -> Result<(), Status>
     requires { AreOptions (map string_bytes options.now) }
     ensures ok { OnOk result (IsKeyed (map string_bytes options.now) (L.files files.old)) }
     ensures err { IfErr result (IsKeyEnd (map string_bytes options.now) (L.files files.old) (L.faults files.old) (L.faults files.new) (L.absences files.old) (L.absences files.new)) }
@@ -69,11 +65,7 @@ fn read_input<S: Source>(alloc: Global, input: &mut S) -> Result<Vec<u8>, Status
 }
 
 // The statements of a schedule.
-fn statements_of(
-    alloc: Global,
-    text: &[u8],
-    space: &SpaceWords,
-) -> Result<Vec<Statement>, Status>
+fn statements_of(alloc: Global, text: &[u8], space: &SpaceWords) -> Result<Vec<Statement>, Status>
     requires pages { 2 ≤ space.now.pages }
     requires size { length text.now ≤ 1048576 }
     ensures ok { IfOk result (λ s. IsSchedule space.now.space space.now.pages text.now s.items) }
@@ -117,11 +109,7 @@ fn print<K: Sink>(out: &mut K, text: &[u8]) -> Result<(), Status>
 }
 
 // Drills the schedule of the input.
-fn drill_input<S: Source>(
-    alloc: Global,
-    plan: &DrillPlan,
-    input: &mut S,
-) -> Result<Drilled, Status>
+fn drill_input<S: Source>(alloc: Global, plan: &DrillPlan, input: &mut S) -> Result<Drilled, Status>
     requires fits { IsFitting plan.now }
     ensures ok { IfOk result (IsInputDrilled plan.now (S.left input.old)) }
     ensures err { IfErr result (IsInputEnd plan.now (S.left input.old) (S.faults input.old) (S.faults input.new)) }

@@ -76,5 +76,11 @@ pub fn load_keys<L: Library>(
     let Ok(names) = names_in(alloc, options) else {
         return Err(LoadFault::OutOfMemory);
     };
-    load(alloc, files, &names, filekey_in(options), digest_of(options))
+    load(
+        alloc,
+        files,
+        &names,
+        filekey_in(options),
+        digest_of(options),
+    )
 }

@@ -70,8 +70,10 @@ fn seen(alloc: Global, line: &str, script: &[u8]) -> Result<((u8, usize), Vec<u8
 #[test]
 fn a_drill_prints_its_session_and_the_pages_that_it_keeps(rt: HostRuntime) -> Result<(), Fail> {
     let alloc = rt.alloc();
-    let used = "space 5 pages 4 key 1 plain floor 0\npage 1 type 0 38:616263\npage 2 unused\npage 3 unused\nend\n";
-    let unused = "space 5 pages 4 key 1 plain floor 0\npage 1 unused\npage 2 unused\npage 3 unused\nend\n";
+    let used =
+        "space 5 pages 4 key 1 plain floor 0\npage 1 type 0 38:616263\npage 2 unused\npage 3 unused\nend\n";
+    let unused =
+        "space 5 pages 4 key 1 plain floor 0\npage 1 unused\npage 2 unused\npage 3 unused\nend\n";
     let rows = [
         ("", "crash end choice l\njournal 1 acked 1 kept 1\n", used),
         (
@@ -120,11 +122,7 @@ fn refusals_come_with_their_word_or_line(rt: HostRuntime) -> Result<(), Fail> {
         ("drill --space 5:4:1:cipher", PUT, (2, 2)),
         ("drill --space 5:4:1:plain", PUT, (2, 3)),
         ("run", PUT, (2, 0)),
-        (
-            "drill --key-file keys2 --space 5:4:1:plain",
-            PUT,
-            (3, 0),
-        ),
+        ("drill --key-file keys2 --space 5:4:1:plain", PUT, (3, 0)),
         (WORDS, "mtr 1 put 5 1 38 aa\nflush\n", (4, 2)),
         (WORDS, "mtr 1 put 5 4 38 aa\n", (4, 1)),
         (WORDS, "mtr 1 put 5 1 38 a\n", (4, 1)),

@@ -1,4 +1,4 @@
-use Rattle.std.proofs.Common.{◌≡◌, ℕ, IsErrAnd, arith, rules}
+use Rattle.std.proofs.Common.{◌≡◌, IsErrAnd, arith, rules}
 use Rattle.keyd_cli.specs.Ends.{IsInputEnd}
 use Rattle.keyd_cli.proofs.Endings.{handed}
 use Rattle.keyd_cli.proofs.Runnable.{schedule-runnable}

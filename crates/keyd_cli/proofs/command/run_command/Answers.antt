@@ -1,4 +1,4 @@
-use Rattle.std.proofs.Common.{◌≡◌, ℕ, List, drop, map, string_bytes, Option, IsErrAnd, rules, sym, ◌∙◌, ap, subst, refl}
+use Rattle.std.proofs.Common.{◌≡◌, ℕ, List, drop, map, string_bytes, IsErrAnd, rules, ◌∙◌, ap, subst}
 use Rattle.keyd_cli.specs.declared.status.Status.TheVariants as status
 use Rattle.keyd_cli.specs.Words.{Word}
 use Rattle.keyd_cli.specs.PlanOf.{IsPlan}

@@ -1,5 +1,4 @@
-use Rattle.std.proofs.Common.{◌≡◌, ◌≢◌, ◌⊎◌, ℕ, ◌≤◌, List, length, refl, sym, ◌∙◌, ap, subst, ⊎_elim, None}
-use Rattle.disk_model.specs.Event.{Event}
+use Rattle.std.proofs.Common.{◌≡◌, ◌≢◌, ℕ, ◌≤◌, List, length, refl, sym, ◌∙◌, subst, ⊎_elim, None}
 use Rattle.disk_model.specs.Contents.{events}
 use Rattle.disk_model.specs.Log.{GoesOn, goes_on_then}
 use Rattle.disk_model.specs.Crash.{crash_image}
@@ -7,7 +6,7 @@ use Rattle.disk_model.specs.Image.{IsLucky}
 use Rattle.disk_model.specs.declared.calls.Choice.{Choice}
 use Rattle.disk_model.specs.declared.memory.MemDisk.{MemDisk}
 use Rattle.engine_core.specs.declared.journal.Entry.{Entry}
-use Rattle.engine_core.specs.declared.fault.State.TheVariants.{Up, Starved}
+use Rattle.engine_core.specs.declared.fault.State.TheVariants.{Starved}
 use Rattle.engine_core.specs.Stands.{AllRecover, AllRefusable, Keeps, passes}
 use Rattle.engine_core.specs.Kept.{IsExact}
 use Rattle.keyd_cli.specs.Session.{HasRun, AreAckedWithin}

@@ -1,4 +1,4 @@
-use Rattle.std.proofs.Common.{◌≡◌, ℕ, List, length, refl, sym, ◌∙◌, ap, subst, Option, MatchOption}
+use Rattle.std.proofs.Common.{List, refl, sym, ◌∙◌, subst, Option, MatchOption}
 use Rattle.disk_model.specs.Event.{Event}
 use Rattle.disk_model.specs.Image.{InFile}
 use Rattle.disk_model.specs.Contents.{events}

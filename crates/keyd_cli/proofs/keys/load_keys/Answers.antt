@@ -2,7 +2,6 @@ use Rattle.std.proofs.Common.{◌≡◌, ◌≤◌, length, map, string_bytes, a
 use Rattle.std.proofs.lemmas.List.{length-map}
 use Rattle.keyd_cli.specs.declared.words.Flag.TheVariants.{KeyFile}
 use Rattle.keyd_cli.specs.Words.{most_of, times}
-use Rattle.keyd_cli.specs.Keys.{values_of}
 use Rattle.keyd_cli.proofs.Endings.{values-count}
 use Rattle.keyd_cli.proofs.keys.load_keys.Goals as goal
 

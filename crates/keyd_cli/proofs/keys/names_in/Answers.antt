@@ -1,4 +1,4 @@
-use Rattle.std.proofs.Common.{◌≡◌, ◌+◌, [], ◌++◌, length, map, drop, string_bytes, arith, sym, ◌∙◌, ap}
+use Rattle.std.proofs.Common.{◌≡◌, [], ◌++◌, map, drop, string_bytes, arith, sym, ◌∙◌, ap}
 use Rattle.std.proofs.lemmas.List.{length-map, append-nil}
 use Rattle.keyd_cli.specs.declared.words.Flag.TheVariants.{KeyFile}
 use Rattle.keyd_cli.specs.Keys.{values_of}

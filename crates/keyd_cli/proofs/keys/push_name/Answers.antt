@@ -1,8 +1,8 @@
-use Rattle.std.proofs.Common.{rules, ◌≡◌, ℕ, ◌+◌, ◌<◌, List, [], ◌∷◌, ◌++◌, length, map, drop, get_or, string_bytes, arith, sym, ◌∙◌, ap}
+use Rattle.std.proofs.Common.{rules, ◌≡◌, ◌+◌, ◌<◌, [], ◌∷◌, ◌++◌, length, map, drop, get_or, string_bytes, arith, sym, ◌∙◌, ap}
 use Rattle.std.proofs.lemmas.List.{length-map, map-append}
 use Rattle.std.proofs.Common.{append_assoc}
 use Rattle.keyd_cli.specs.declared.words.Flag.TheVariants.{KeyFile}
-use Rattle.keyd_cli.specs.Words.{Word, name_of}
+use Rattle.keyd_cli.specs.Words.{name_of}
 use Rattle.keyd_cli.specs.Keys.{values_of}
 use Rattle.keyd_cli.proofs.Values.{word_is}
 use Rattle.keyd_cli.proofs.KeyNames.{values_here, values_behind}

@@ -1,4 +1,4 @@
-use Rattle.std.proofs.Common.{◌≡◌, ℕ, ◌<◌, ◌≤◌, ◌^◌, arith}
+use Rattle.std.proofs.Common.{◌≡◌, ◌<◌, ◌^◌, arith}
 use Rattle.keyd_cli.proofs.Spaces.{no_other_number}
 use Rattle.keyd_cli.proofs.number.number_within.Goals as goal
 

@@ -1,6 +1,6 @@
-use Rattle.std.proofs.Common.{rules, ◌≡◌, map, string_bytes, MatchOption, Some, None, sym, ap, subst, refl}
+use Rattle.std.proofs.Common.{map, string_bytes}
 use Rattle.keyd_cli.specs.declared.words.Flag.TheVariants as flag
-use Rattle.keyd_cli.specs.Words.{Word, IsValue, IsChoice}
+use Rattle.keyd_cli.specs.Words.{IsValue}
 use Rattle.keyd_cli.proofs.Values.{value_fits}
 use Rattle.keyd_cli.proofs.plan.choices_in.Goals as goal
 

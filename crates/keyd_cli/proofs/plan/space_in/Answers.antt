@@ -1,6 +1,6 @@
-use Rattle.std.proofs.Common.{rules, ◌≡◌, map, string_bytes, MatchOption, Some, sym, ap, subst}
+use Rattle.std.proofs.Common.{map, string_bytes}
 use Rattle.keyd_cli.specs.declared.words.Flag.TheVariants as flag
-use Rattle.keyd_cli.specs.Words.{Word, IsValue, IsSpace}
+use Rattle.keyd_cli.specs.Words.{IsValue}
 use Rattle.keyd_cli.proofs.Values.{value_present, value_fits}
 use Rattle.keyd_cli.proofs.plan.space_in.Goals as goal
 

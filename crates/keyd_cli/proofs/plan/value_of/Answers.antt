@@ -1,8 +1,6 @@
-use Rattle.std.proofs.Common.{rules, ◌≡◌, ◌≢◌, ℕ, ◌+◌, ◌<◌, ◌≤◌, List, [], ◌∷◌, length, map, take, get_or, string_bytes, arith, sym, ◌∙◌, ap, subst, Some}
-use Rattle.std.proofs.lemmas.List.{length-map, get_or-map}
-use Rattle.keyd_cli.specs.declared.words.Flag.{Flag}
-use Rattle.keyd_cli.specs.Words.{Word, name_of}
-use Rattle.keyd_cli.specs.Plan.{value_in}
+use Rattle.std.proofs.Common.{rules, ◌≡◌, ◌+◌, ◌<◌, [], length, map, get_or, string_bytes, arith, sym, ◌∙◌, ap, Some}
+use Rattle.std.proofs.lemmas.List.{length-map}
+use Rattle.keyd_cli.specs.Words.{name_of}
 use Rattle.keyd_cli.proofs.Values.{word_is, value_here, value_behind, value_none}
 use Rattle.keyd_cli.proofs.plan.value_of.Goals as goal
 

@@ -1,4 +1,4 @@
-use Rattle.std.proofs.Common.{◌≡◌, ℕ, ◌-◌, ◌≤◌, map, drop, length, string_bytes}
+use Rattle.std.proofs.Common.{◌≡◌, ◌-◌, ◌≤◌, map, drop, length, string_bytes}
 use Rattle.keyd_cli.specs.Plan.{value_in}
 use Rattle.keyd_cli.proofs.plan.value_of.Given as goal
 

@@ -1,5 +1,5 @@
-use Rattle.std.proofs.Common.{rules, ◌≡◌, ◌<◌, ◌≤◌, length, get_or, sym, ◌∙◌, ap, subst, codes, arith, false, true, MatchOption, Option, None}
-use Rattle.keyd_cli.specs.Schedule.{IsSync, IsAct}
+use Rattle.std.proofs.Common.{rules, ◌≡◌, ◌<◌, length, codes}
+use Rattle.keyd_cli.specs.Schedule.{IsSync}
 use Rattle.keyd_cli.proofs.Schedules.{not_skipped, no_act}
 use Rattle.keyd_cli.proofs.schedule.read_line.Goals as goal
 

@@ -1,4 +1,4 @@
-use Rattle.std.proofs.Common.{rules, ◌≡◌, ℕ, ◌+◌, ◌<◌, ◌≤◌, ◌^◌, length, take, sym, ◌∙◌, ap, subst, arith, true, Fits, Result, Err, List, [], if◌then◌else◌}
+use Rattle.std.proofs.Common.{◌≡◌, ℕ, ◌+◌, sym, ◌∙◌, ap, subst, arith, true, Result, Err, List, [], if◌then◌else◌}
 use Rattle.keyd_cli.specs.declared.act.Act.{Act}
 use Rattle.keyd_cli.specs.declared.schedule.ScheduleFault.{ScheduleFault}
 use Rattle.keyd_cli.specs.declared.schedule.ScheduleFault.TheVariants.{NotBuilt}
@@ -8,7 +8,7 @@ use Rattle.keyd_cli.specs.declared.schedule.LineIs.TheVariants as line_is
 use Rattle.keyd_cli.specs.Lines.{IsLine}
 use Rattle.keyd_cli.specs.Schedule.{lines_of, IsAct, IsSkipped}
 use Rattle.keyd_cli.specs.Reads.{Reads, ReadNone, mtr_count, is_mtr, HasRoom, IsNotBuilt}
-use Rattle.keyd_cli.proofs.ReadsLemmas.{AtLine, at_line, all_read, few_lines, skipped_more, act_more, count_more, refused_at, one_act}
+use Rattle.keyd_cli.proofs.ReadsLemmas.{at_line, all_read, few_lines, skipped_more, act_more, count_more, refused_at, one_act}
 use Rattle.keyd_cli.proofs.schedule.read_schedule.Goals as goal
 
 pub loop-line-init : goal.loop-line-init

@@ -1,4 +1,4 @@
-use Rattle.std.proofs.Common.{◌≡◌, ℕ, ◌≤◌, take, drop, length}
+use Rattle.std.proofs.Common.{◌≡◌, ◌≤◌, take, drop, length}
 use Rattle.keyd_cli.specs.Schedule.{lines_of}
 use Rattle.keyd_cli.specs.Reads.{Reads, mtr_count}
 use Rattle.keyd_cli.proofs.schedule.read_schedule.Given as goal

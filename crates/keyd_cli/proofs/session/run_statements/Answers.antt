@@ -1,4 +1,4 @@
-use Rattle.std.proofs.Common.{rules, ◌≡◌, ◌+◌, ◌≤◌, ◌++◌, [], ◌∷◌, length, sym, ◌∙◌, ap, subst, arith, Some}
+use Rattle.std.proofs.Common.{◌≡◌, ◌++◌, [], ◌∷◌, sym, ◌∙◌, ap, subst, arith}
 use Rattle.std.specs.Vec.Iter.{into_iter_items}
 use mathlib.Core.List.{append_assoc}
 use Rattle.keyd_cli.specs.Session.{AreAckedWithin}
@@ -23,7 +23,7 @@ loop-statement-preserved g c =
     let done = rw c.in-Some-2.is at c.in_ok-reply.ensures.done in
     let after = rw c.in-Some-2.is at c.in_ok-reply.ensures.acked in
     let acked = acked_more c.in-Some.statement.line c.in-Some.statement.act c.loop-statement.engine.journal c.answer.new.engine.journal c.loop-statement.engine.acked c.answer.new.engine.acked
-        c.loop-statement.replies.items c.push.new.self.items c.in-Some-2.reply done.0 (ap (λ r. r.answer) done.1) c.in_ok-push.ensures.items after i.within i.low in
+    c.loop-statement.replies.items c.push.new.self.items c.in-Some-2.reply done.0 (ap (λ r. r.answer) done.1) c.in_ok-push.ensures.items after i.within i.low in
     record {
       next = tt;
       finite = tt;

@@ -1,8 +1,8 @@
-use Rattle.std.proofs.Common.{rules, ◌≡◌, ◌≢◌, ℕ, ◌+◌, ◌<◌, ◌≤◌, List, [], ◌∷◌, length, map, take, get_or, string_bytes, codes, arith, sym, ◌∙◌, ap, subst, OnOk}
+use Rattle.std.proofs.Common.{rules, ◌≡◌, ℕ, ◌+◌, ◌<◌, ◌≤◌, List, [], ◌∷◌, length, map, take, get_or, string_bytes, codes, arith, sym, ◌∙◌, ap, subst}
 use Rattle.std.proofs.lemmas.List.{length-map, take_all, get_or-map, take-map}
 use Rattle.keyd_cli.specs.declared.words.Flag.{Flag}
 use Rattle.keyd_cli.specs.declared.words.Flag.TheVariants.{KeyFile, Space}
-use Rattle.keyd_cli.specs.Words.{Word, AreOptions, IsDrill, IsUsage, IsValue, times, name_of, most_of}
+use Rattle.keyd_cli.specs.Words.{Word, AreOptions, IsUsage, IsValue, times, most_of}
 use Rattle.keyd_cli.proofs.Options.{no_options}
 use Rattle.keyd_cli.proofs.Usages.{usage_unknown, usage_often, usage_value, usage_missing, usage_needed, needs_key_file, needs_space, kept_more}
 use Rattle.keyd_cli.proofs.words.check_options.Goals as goal

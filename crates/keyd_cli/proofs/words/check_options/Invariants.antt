@@ -1,4 +1,4 @@
-use Rattle.std.proofs.Common.{◌≡◌, ℕ, ◌≤◌, ◌-◌, ◌%◌, map, take, length, string_bytes}
+use Rattle.std.proofs.Common.{◌≤◌, ◌-◌, map, take, length, string_bytes}
 use Rattle.keyd_cli.specs.Words.{AreOptions}
 use Rattle.keyd_cli.proofs.words.check_options.Given as goal
 

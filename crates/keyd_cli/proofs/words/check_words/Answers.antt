@@ -1,5 +1,5 @@
-use Rattle.std.proofs.Common.{rules, ◌≡◌, ◌≢◌, List, [], ◌∷◌, length, map, string_bytes, codes, arith, sym, ◌∙◌, ap, subst}
-use Rattle.keyd_cli.specs.Words.{Word, IsDrill, IsUsage}
+use Rattle.std.proofs.Common.{rules, ◌≡◌, ◌≢◌, List, [], ◌∷◌, length, map, string_bytes, codes, arith, sym, ◌∙◌, subst}
+use Rattle.keyd_cli.specs.Words.{Word, IsUsage}
 use Rattle.keyd_cli.proofs.Usages.{usage_none, usage_command}
 use Rattle.keyd_cli.proofs.words.check_words.Goals as goal
 

@@ -1,5 +1,4 @@
-use Rattle.std.proofs.Common.{◌≡◌, ◌≢◌, MatchOption, All, List, [], ◌∷◌, ◌++◌, ap, sym, ◌∙◌, codes, rules}
-use Rattle.keyd_cli.specs.Words.{AreParts}
+use Rattle.std.proofs.Common.{◌≡◌, ◌++◌, codes, rules}
 use Rattle.keyd_cli.proofs.Spaces.{no_cut, behind_one, behind_two, behind_three}
 use Rattle.keyd_cli.proofs.words.parts_of.Goals as goal
 

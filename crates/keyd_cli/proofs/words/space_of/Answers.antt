@@ -1,8 +1,7 @@
-use Rattle.std.proofs.Common.{◌≡◌, ◌≢◌, ℕ, ◌≤◌, MatchOption, ap, sym, ◌∙◌, subst}
+use Rattle.std.proofs.Common.{◌≡◌, ℕ, sym, subst}
 use Rattle.std.specs.Fmt.{decimal}
-use Rattle.keyd_cli.specs.Numbers.{IsNumber}
 use Rattle.keyd_cli.specs.Words.{Word, IsSpace, AreParts}
-use Rattle.keyd_cli.proofs.Spaces.{one_way, parts_of_space, space_of_parts}
+use Rattle.keyd_cli.proofs.Spaces.{one_way, parts_of_space}
 use Rattle.keyd_cli.proofs.words.space_of.Goals as goal
 
 pub returns-in_err-parts : goal.returns-in_err-parts

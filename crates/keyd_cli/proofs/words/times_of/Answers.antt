@@ -1,6 +1,6 @@
-use Rattle.std.proofs.Common.{◌≡◌, ℕ, ◌+◌, ◌≤◌, ◌<◌, ◌∙◌, List, length, map, take, string_bytes, arith, sym, ap, true, false, Bool, cond, refl}
+use Rattle.std.proofs.Common.{◌≡◌, ℕ, length, map, string_bytes, arith, ap, Bool, cond, refl}
 use Rattle.std.proofs.lemmas.List.{length-map}
-use Rattle.keyd_cli.specs.Words.{times, option_words}
+use Rattle.keyd_cli.specs.Words.{option_words}
 use Rattle.keyd_cli.proofs.Options.{times_step}
 use Rattle.keyd_cli.proofs.words.times_of.Goals as goal
 use Rattle.keyd_cli.proofs.words.times_of.Goals.{then-stands_at, else-stands_at}

@@ -1,4 +1,4 @@
-use Rattle.std.proofs.Common.{◌≡◌, ℕ, ◌≤◌, map, take, string_bytes}
+use Rattle.std.proofs.Common.{◌≡◌, ◌≤◌, map, take, string_bytes}
 use Rattle.keyd_cli.specs.Words.{times}
 use Rattle.keyd_cli.proofs.words.times_of.Given as goal
 

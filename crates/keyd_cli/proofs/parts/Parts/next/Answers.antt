@@ -1,4 +1,4 @@
-use Rattle.std.proofs.Common.{◌≡◌, sym, ◌∙◌, ap}
+use Rattle.std.proofs.Common.{sym, ◌∙◌, ap}
 use Rattle.keyd_cli.specs.Parts.{parts_left}
 use Rattle.keyd_cli.proofs.PartsLemmas.{one_part, first_part}
 use Rattle.keyd_cli.proofs.parts.Parts.next.Goals as goal
