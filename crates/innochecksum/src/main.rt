@@ -5,8 +5,8 @@
 use innochecksum_cli::{CheckStatus, end_with, innochecksum, read_words};
 use io_core::{Folder, StdSink};
 use std::io::ErrorKind;
-use std::rt::Env;
 use std::process::ExitCode;
+use std::rt::Env;
 use std::{env, io};
 
 fn main(rt: HostRuntime) -> ExitCode {

@@ -1,10 +1,9 @@
 -- A read of a whole page, and of the first bytes of a file.
-use Rattle.std.proofs.Common.{◌≡◌, ◌≤◌, ◌+◌, ◌*◌, ◌-◌, ℕ, List, [], ◌++◌, length, take, drop, min, Option, Some, unwrap_or, refl, sym, ap, ◌∙◌, subst, arith, length-drop}
+use Rattle.std.proofs.Common.{◌≡◌, ◌≤◌, ◌+◌, ◌*◌, ◌-◌, ℕ, List, [], ◌++◌, length, take, drop, Option, Some, unwrap_or, ap, ◌∙◌, subst, arith, length-drop}
 use Rattle.std.proofs.lemmas.List.{append-nil, drop_all, take-take, drop-take}
 use Rattle.std.specs.Int.{from_be_bytes, w32}
 use Rattle.space_head.specs.Fields.{be32_at}
 use Rattle.io_core.specs.Files.{IsFilled}
-use Rattle.io_core.proofs.Fills.{take-filled}
 
 -- a buffer that a file fills holds the bytes from the place on
 pub filled_whole : (before after bytes : List ℕ) (count : ℕ) → length before ≤ length bytes → IsFilled bytes before count after → (count ≡ length before) × (after ≡ take (length before) bytes)

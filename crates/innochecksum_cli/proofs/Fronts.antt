@@ -1,5 +1,5 @@
 -- Fronts of a text that were given to a sink.
-use Rattle.std.proofs.Common.{◌≡◌, ◌≤◌, ◌+◌, ℕ, min, List, [], ◌++◌, length, take, refl, sym, ap, ◌∙◌, Option, Some, None, Result, Ok, Err, OnErr, IsErrAnd, MatchResult, arith}
+use Rattle.std.proofs.Common.{◌≡◌, ◌+◌, ℕ, min, List, [], ◌++◌, length, take, refl, sym, ap, ◌∙◌, Option, Some, None, Result, Ok, Err, OnErr, IsErrAnd, MatchResult, arith}
 use Rattle.std.proofs.Math.Seq.{take-append-add}
 use Rattle.std.proofs.lemmas.List.{append-nil, take-append-le, take_at, take_min}
 use Rattle.io_core.specs.Stream.{IsPartlyGiven, extended}
@@ -29,7 +29,7 @@ part_given a b c text before mid now is first part =
     let k = part.0 in
     let j = min k (length b) in
     let here : take (length a + j) text ≡ a ++ take k b =
-        ap (take (length a + j)) is ∙ take-append-add a (b ++ c) j ∙ ap (λ (t : List ℕ). a ++ t) (take-append-le j b c (omega arith) ∙ take_min k b) in
+    ap (take (length a + j)) is ∙ take-append-add a (b ++ c) j ∙ ap (λ (t : List ℕ). a ++ t) (take-append-le j b c (omega arith) ∙ take_min k b) in
     (length a + j, given_then before mid now a (take k b) first part.1 ∙ ap (λ (t : List ℕ). extended t before) (sym here))
 
 -- a fact that holds at hand holds at an error

@@ -1,5 +1,5 @@
 -- The report on pages, as far as they were looked at.
-use Rattle.std.proofs.Common.{◌≡◌, ◌≤◌, ◌<◌, ◌+◌, ◌-◌, ℕ, Bool, true, false, ltb, List, [], ◌∷◌, ◌++◌, length, take, cond, filter, refl, sym, ap, ◌∙◌, append_assoc, inl, inr, arith}
+use Rattle.std.proofs.Common.{◌≡◌, ◌≤◌, ◌+◌, ◌-◌, ℕ, Bool, true, false, ltb, List, [], ◌∷◌, ◌++◌, length, take, cond, refl, ap, ◌∙◌, append_assoc, inl, inr, arith}
 use Rattle.std.specs.List.{flat_map}
 use Rattle.std.proofs.Math.Seq.{take-append-add}
 use Rattle.std.proofs.lemmas.Bool.{cases_lt, le-ltb, lt-ltb}
@@ -10,7 +10,6 @@ use Rattle.innochecksum_cli.specs.Pages.{Page, is_mismatch}
 use Rattle.innochecksum_cli.specs.Lines.{line_of_mismatch, line_of_page, stopped_line}
 use Rattle.innochecksum_cli.specs.Inspection.{Report, ending, is_cut, mismatches, report_of}
 use Rattle.innochecksum_cli.specs.declared.options.Options.{Options}
-use Rattle.innochecksum_cli.specs.declared.status.CheckStatus.{CheckStatus}
 use Rattle.innochecksum_cli.specs.declared.status.CheckStatus.TheVariants.{Done, Mismatch, Truncated}
 
 -- the lines of the mismatches among pages
@@ -56,20 +55,22 @@ report_front o a b count rest few = go (ltb o.allowed (length (mismatches (a ++ 
   where
     split : o.allowed + 1 ≡ length (mismatches a) + (o.allowed + 1 - length (mismatches a))
     split = omega (arith, few)
+
     cut : take (o.allowed + 1) (mismatches (a ++ b)) ≡ mismatches a ++ take (o.allowed + 1 - length (mismatches a)) (mismatches b)
     cut = ap (take (o.allowed + 1)) (filter-append is_mismatch a b) ∙ ap (λ (k : ℕ). take k (mismatches a ++ mismatches b)) split
         ∙ take-append-add (mismatches a) (mismatches b) (o.allowed + 1 - length (mismatches a))
+
     go : (over : Bool) → (t : List ℕ) × ((cond {A = Report} over (stopped_report o (take (o.allowed + 1) (mismatches (a ++ b)))) (ended_report o (a ++ b) count rest)).text ≡ lines a ++ t)
     go true = (
-        flat_map line_of_mismatch (take (o.allowed + 1 - length (mismatches a)) (mismatches b)) ++ stopped_line (o.allowed + 1) o.allowed,
-        ap (λ (t : List ℕ). t ++ stopped_line (o.allowed + 1) o.allowed) (ap (flat_map line_of_mismatch) cut
-        ∙ flat_map-append line_of_mismatch (mismatches a) (take (o.allowed + 1 - length (mismatches a)) (mismatches b)))
-        ∙ append_assoc (lines a) (flat_map line_of_mismatch (take (o.allowed + 1 - length (mismatches a)) (mismatches b))) (stopped_line (o.allowed + 1) o.allowed),
-      )
+      flat_map line_of_mismatch (take (o.allowed + 1 - length (mismatches a)) (mismatches b)) ++ stopped_line (o.allowed + 1) o.allowed,
+      ap (λ (t : List ℕ). t ++ stopped_line (o.allowed + 1) o.allowed) (ap (flat_map line_of_mismatch) cut
+          ∙ flat_map-append line_of_mismatch (mismatches a) (take (o.allowed + 1 - length (mismatches a)) (mismatches b)))
+          ∙ append_assoc (lines a) (flat_map line_of_mismatch (take (o.allowed + 1 - length (mismatches a)) (mismatches b))) (stopped_line (o.allowed + 1) o.allowed),
+    )
     go false = (
-        lines b ++ ending o (a ++ b) count rest,
-        ap (λ (t : List ℕ). t ++ ending o (a ++ b) count rest) (lines-append a b) ∙ append_assoc (lines a) (lines b) (ending o (a ++ b) count rest),
-      )
+      lines b ++ ending o (a ++ b) count rest,
+      ap (λ (t : List ℕ). t ++ ending o (a ++ b) count rest) (lines-append a b) ∙ append_assoc (lines a) (lines b) (ending o (a ++ b) count rest),
+    )
 
 -- at the first mismatch past the permitted number the report stops
 pub report_stop : (o : Options) (a b : List Page) (count rest : ℕ) → length (mismatches a) ≡ o.allowed + 1
@@ -93,7 +94,7 @@ pub report_after : (o : Options) (a : List Page) (page : Page) (b : List Page) (
 report_after o a page b count rest few =
     let most = few_push a page in
     let joined : (t : List ℕ) → lines (a ++ page ∷ []) ++ t ≡ lines a ++ (line_of_page page ++ t) =
-        λ t. ap (λ (l : List ℕ). l ++ t) (lines_push a page) ∙ append_assoc (lines a) (line_of_page page) t in
+    λ t. ap (λ (l : List ℕ). l ++ t) (lines_push a page) ∙ append_assoc (lines a) (line_of_page page) t in
     elim (cases_lt o.allowed (length (mismatches (a ++ page ∷ [])))) [
       | inl past ↦
           let many : length (mismatches (a ++ page ∷ [])) ≡ o.allowed + 1 = omega (arith, most, few, past) in

@@ -1,7 +1,6 @@
 -- The pages that are asked for, one after another.
-use Rattle.std.proofs.Common.{◌≡◌, ◌≤◌, ◌<◌, ◌+◌, ◌-◌, ◌*◌, ◌/◌, ◌%◌, ◌^◌, subst, ℕ, min, List, [], ◌∷◌, ◌++◌, length, take, drop, map, get_or, refl, sym, ap, ◌∙◌, Option, arith}
-use Rattle.std.specs.List.{range_with_len}
-use Rattle.std.proofs.lemmas.List.{append-nil, drop_more, get_or-drop, get_or-take, length-drop, length-take, take-append-drop, take_all, take_more}
+use Rattle.std.proofs.Common.{◌≡◌, ◌≤◌, ◌<◌, ◌+◌, ◌-◌, ◌*◌, ◌/◌, ◌%◌, ◌^◌, subst, ℕ, min, List, [], ◌∷◌, ◌++◌, length, take, drop, get_or, sym, ap, ◌∙◌, Option, arith}
+use Rattle.std.proofs.lemmas.List.{append-nil, get_or-drop, get_or-take, length-drop, length-take, take-append-drop, take_all, take_more}
 use Rattle.std.proofs.lemmas.List.Sums.{length-filter}
 use Rattle.std.proofs.Math.Nat.{mul-le-mul_left}
 use Rattle.std.proofs.lemmas.List.FromFn.{get_or-map-range_with_len, length-map-range_with_len}
@@ -53,7 +52,7 @@ selected_split o size file k n is below =
     let long = length-selected o size file in
     let inside : k < length all = omega (arith, long, is, below) in
     let more : take (k + 1) all ≡ take k all ++ page ∷ [] =
-        take_more all k page inside ∙ ap (λ (p : Page). take k all ++ p ∷ []) (get_or-selected o size file k n page is below) in
+    take_more all k page inside ∙ ap (λ (p : Page). take k all ++ p ∷ []) (get_or-selected o size file k n page is below) in
     (drop (k + 1) all, sym (take-append-drop (k + 1) all) ∙ ap (λ (l : List Page). l ++ drop (k + 1) all) more, more)
 
 -- The first k of the pages that are asked for were looked at.

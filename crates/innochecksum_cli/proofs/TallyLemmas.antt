@@ -1,5 +1,5 @@
 -- One page more in the counts.
-use Rattle.std.proofs.Common.{◌≡◌, ◌≢◌, ◌≤◌, ◌<◌, ◌+◌, ◌-◌, ◌^◌, ℕ, Bool, true, false, not, ◌&&◌, eqb, min, List, [], ◌∷◌, ◌++◌, length, get_or, cond, count_by, refl, sym, ap, ◌∙◌, inl, inr, arith}
+use Rattle.std.proofs.Common.{◌≡◌, ◌≢◌, ◌≤◌, ◌<◌, ◌+◌, ◌-◌, ◌^◌, ℕ, Bool, true, false, not, ◌&&◌, min, List, [], ◌∷◌, ◌++◌, length, get_or, cond, count_by, refl, sym, ap, ◌∙◌, inl, inr, arith}
 use Rattle.std.proofs.Math.ListN.{set}
 use Rattle.std.proofs.lemmas.Bool.{cases_eq, eq-eqb, ne_eqb}
 use Rattle.std.proofs.lemmas.List.{get_or-set_other, get_or-set_same}
@@ -45,6 +45,7 @@ kinds_push pages x kinds k new used short counts inside below same own made kind
     when_true : (b : Bool) → (b && true) ≡ b
     when_true true = refl
     when_true false = refl
+
     when_false : (b : Bool) → (b && false) ≡ false
     when_false true = refl
     when_false false = refl

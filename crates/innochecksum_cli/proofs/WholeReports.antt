@@ -1,5 +1,5 @@
 -- What a file's report comes to, and what was given of it.
-use Rattle.std.proofs.Common.{◌≡◌, ◌≤◌, ◌<◌, ◌/◌, ◌%◌, ℕ, Bool, true, false, ltb, List, [], ◌++◌, length, cond, refl, sym, ap, ap₂, subst, ◌∙◌, Option, Some, None, Result, Ok, Err, OnOk, OnErr, IfErr, IsErrAnd, ◌⊎◌, inl, inr, arith}
+use Rattle.std.proofs.Common.{◌≡◌, ◌≤◌, ◌<◌, ◌/◌, ◌%◌, ℕ, Bool, true, false, List, [], ◌++◌, length, cond, refl, sym, ap, ap₂, subst, ◌∙◌, Option, Some, None, Result, Ok, Err, OnOk, OnErr, IfErr, IsErrAnd, ◌⊎◌, inl, inr, arith}
 use Rattle.std.proofs.lemmas.Bool.{le-ltb, lt-ltb}
 use Rattle.std.proofs.lemmas.List.{append-nil}
 use Rattle.io_core.specs.Stream.{IsPartlyGiven, extended}
@@ -11,7 +11,7 @@ use Rattle.innochecksum_cli.specs.Pages.{Page, whole_pages}
 use Rattle.innochecksum_cli.specs.Lines.{pages_line}
 use Rattle.innochecksum_cli.specs.Looks.{IsLooked}
 use Rattle.innochecksum_cli.specs.Stops.{IsStop, status_of}
-use Rattle.innochecksum_cli.specs.Inspection.{Agrees, Report, ending, headed_report, inspected, is_cut, refused, report_of, selected, sized_report}
+use Rattle.innochecksum_cli.specs.Inspection.{Agrees, Report, ending, inspected, is_cut, refused, report_of, selected, sized_report}
 use Rattle.innochecksum_cli.specs.declared.options.Options.{Options}
 use Rattle.innochecksum_cli.specs.declared.looks.Looked.{Looked}
 use Rattle.innochecksum_cli.specs.declared.status.CheckStatus.{CheckStatus}

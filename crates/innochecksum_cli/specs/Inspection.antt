@@ -10,7 +10,7 @@ use Rattle.innochecksum_cli.specs.Pages.{Page, is_mismatch, whole_pages}
 use Rattle.innochecksum_cli.specs.Lines.{checked_line, line_of_mismatch, pages_line, stopped_line, summary, truncated_line}
 use Rattle.innochecksum_cli.specs.declared.options.Options.{Options}
 use Rattle.innochecksum_cli.specs.declared.status.CheckStatus.{CheckStatus}
-use Rattle.innochecksum_cli.specs.declared.status.CheckStatus.TheVariants.{Done, FileFault, Head, Mismatch, Missing, OutFault, OutOfMemory, Short, Truncated, Usage}
+use Rattle.innochecksum_cli.specs.declared.status.CheckStatus.TheVariants.{Done, FileFault, Head, Mismatch, Missing, OutFault, OutOfMemory, Short, Truncated}
 
 -- the text that is printed, and the status
 pub record Report : Type 0 where

@@ -1,5 +1,5 @@
 -- The lines that are printed. Each ends with a line feed, 10.
-use Rattle.std.specs.Prelude.{ℕ, ◌^◌, ◌-◌, ◌==◌, false, List, [], ◌∷◌, ◌++◌, codes, map, filter, count_by, if◌then◌else◌}
+use Rattle.std.specs.Prelude.{ℕ, ◌^◌, ◌-◌, ◌==◌, false, List, [], ◌++◌, codes, filter, count_by, if◌then◌else◌}
 use Rattle.std.specs.List.{flat_map, list_any, range_with_len}
 use Rattle.std.specs.Fmt.{decimal, digits, format_spec, padded_integral}
 use Rattle.page_text.specs.State.{computed_sum, stored_sum}

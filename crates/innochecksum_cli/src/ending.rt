@@ -5,9 +5,9 @@ ghost use Rattle.innochecksum_cli.specs.Lines.{kind_lines, summary, truncated_li
 ghost use Rattle.innochecksum_cli.specs.Tallies.{IsTally};
 ghost use Rattle.innochecksum_cli.specs.Inspection.{ending, is_cut};
 
+use crate::Options;
 use crate::lines::{checked_line, ciphered_line, kind_line, truncated_line, unused_line};
 use crate::looks::Looked;
-use crate::Options;
 use crate::tally::Tally;
 use std::alloc::{AllocError, Global};
 
@@ -58,12 +58,7 @@ pub fn is_cut(options: &Options, whole: u64, rest: u64) -> bool
 }
 
 /// That the file ends within a page, where it does.
-fn cut_text(
-    alloc: Global,
-    options: &Options,
-    whole: u64,
-    rest: u64,
-) -> Result<String, AllocError>
+fn cut_text(alloc: Global, options: &Options, whole: u64, rest: u64) -> Result<String, AllocError>
     ensures { IfOk result (λ text. string_bytes text ≡ (if is_cut options.now whole rest then truncated_line whole rest else [])) }
 {
     if is_cut(options, whole, rest) {

@@ -40,11 +40,7 @@ fn length_of<L: Library>(files: &mut L, name: &str) -> Result<u64, CheckStatus>
 }
 
 /// The page size that the flags of page 0 name. `front` is as long as the least page.
-fn size_of<L: Library>(
-    files: &mut L,
-    name: &str,
-    front: &mut [u8],
-) -> Result<usize, CheckStatus>
+fn size_of<L: Library>(files: &mut L, name: &str, front: &mut [u8]) -> Result<usize, CheckStatus>
     requires { length front.old ≡ LEAST }
     ensures answer { OfFile (λ file. LEAST ≤ length file → IsSizeAnswer (page_size (be32_at file 54)) result) name.now (L.files files.old) }
     ensures one_of_five { IfOk result IsPageSize }

@@ -17,7 +17,6 @@
 //! and line a status comes to.
 #![tactic(auto)]
 
-
 mod ending;
 mod endings;
 mod inspection;

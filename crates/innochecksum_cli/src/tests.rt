@@ -93,13 +93,43 @@ fn seven_pages_one_of_which_is_damaged(rt: HostRuntime) -> Result<(), Fail> {
         ("-c t.ibd", CheckStatus::Done, false, "pages 7\n"),
         ("-p 4 t.ibd", CheckStatus::Mismatch, true, stopped),
         ("-s 4 -e 4 t.ibd", CheckStatus::Mismatch, true, stopped),
-        ("-p 3 -e 1 t.ibd", CheckStatus::Done, false, "checked 1 mismatches 0\n"),
-        ("-s 5 -e 3 t.ibd", CheckStatus::Done, false, "checked 0 mismatches 0\n"),
-        ("-s 5 --end-page=6 t.ibd", CheckStatus::Done, false, "checked 2 mismatches 0\n"),
-        ("-p 5 -S t.ibd", CheckStatus::Done, false, "unused 1\nciphered 0\nchecked 1 mismatches 0\n"),
-        ("-p 7 t.ibd", CheckStatus::Done, false, "checked 0 mismatches 0\n"),
+        (
+            "-p 3 -e 1 t.ibd",
+            CheckStatus::Done,
+            false,
+            "checked 1 mismatches 0\n",
+        ),
+        (
+            "-s 5 -e 3 t.ibd",
+            CheckStatus::Done,
+            false,
+            "checked 0 mismatches 0\n",
+        ),
+        (
+            "-s 5 --end-page=6 t.ibd",
+            CheckStatus::Done,
+            false,
+            "checked 2 mismatches 0\n",
+        ),
+        (
+            "-p 5 -S t.ibd",
+            CheckStatus::Done,
+            false,
+            "unused 1\nciphered 0\nchecked 1 mismatches 0\n",
+        ),
+        (
+            "-p 7 t.ibd",
+            CheckStatus::Done,
+            false,
+            "checked 0 mismatches 0\n",
+        ),
         ("-p x t.ibd", CheckStatus::Usage, false, ""),
-        ("-p 18446744073709551616 t.ibd", CheckStatus::Usage, false, ""),
+        (
+            "-p 18446744073709551616 t.ibd",
+            CheckStatus::Usage,
+            false,
+            "",
+        ),
         ("-c", CheckStatus::Usage, false, ""),
         ("--help", CheckStatus::Usage, false, ""),
         ("none.ibd", CheckStatus::Missing, false, ""),
@@ -137,9 +167,30 @@ fn files_that_are_cut_or_refused(rt: HostRuntime) -> Result<(), Fail> {
         (4096, 0x15, 3 * 4096, "t.ibd", CheckStatus::Short(12288), ""),
         (4096, 0x13, 4095, "t.ibd", CheckStatus::Short(4095), ""),
         (16384, 0x15, 16383, "t.ibd", CheckStatus::Short(16383), ""),
-        (16384, 5, 16384, "t.ibd", CheckStatus::Head(HeadFault::NoMarker(5)), ""),
-        (16384, 0x55, 16384, "t.ibd", CheckStatus::Head(HeadFault::FlagBits(85)), ""),
-        (65536, 0x17, 131_073, "-c t.ibd", CheckStatus::Done, "pages 2\n"),
+        (
+            16384,
+            5,
+            16384,
+            "t.ibd",
+            CheckStatus::Head(HeadFault::NoMarker(5)),
+            "",
+        ),
+        (
+            16384,
+            0x55,
+            16384,
+            "t.ibd",
+            CheckStatus::Head(HeadFault::FlagBits(85)),
+            "",
+        ),
+        (
+            65536,
+            0x17,
+            131_073,
+            "-c t.ibd",
+            CheckStatus::Done,
+            "pages 2\n",
+        ),
     ];
     for (size, flags, bytes, words, want, text) in sizes {
         let mut file = Vec::new(alloc);
@@ -149,7 +200,11 @@ fn files_that_are_cut_or_refused(rt: HostRuntime) -> Result<(), Fail> {
         file.truncate(bytes);
         let got = run(alloc, &file, words, [0, 0])?;
         assert_eq!(rt; got.0, want, "flags {flags:x} of {bytes} bytes");
-        assert_eq!(rt; got.1.as_slice(), text.as_bytes(), "flags {flags:x} of {bytes} bytes");
+        assert_eq!(rt;
+            got.1.as_slice(),
+            text.as_bytes(),
+            "flags {flags:x} of {bytes} bytes"
+        );
     }
     Ok(())
 }
@@ -186,10 +241,18 @@ fn a_status_has_its_number_and_line(rt: HostRuntime) -> Result<(), Fail> {
         (CheckStatus::Mismatch, 1, "innochecksum: mismatch t.ibd\n"),
         (CheckStatus::Truncated, 1, "innochecksum: truncated t.ibd\n"),
         (CheckStatus::Short(12288), 1, "innochecksum: short 12288\n"),
-        (CheckStatus::Head(HeadFault::NoMarker(5)), 1, "innochecksum: head NoMarker 5\n"),
+        (
+            CheckStatus::Head(HeadFault::NoMarker(5)),
+            1,
+            "innochecksum: head NoMarker 5\n",
+        ),
         (CheckStatus::Usage, 2, "innochecksum: usage\n"),
         (CheckStatus::Missing, 3, "innochecksum: missing t.ibd\n"),
-        (CheckStatus::FileFault, 7, "innochecksum: file fault t.ibd\n"),
+        (
+            CheckStatus::FileFault,
+            7,
+            "innochecksum: file fault t.ibd\n",
+        ),
         (CheckStatus::OutFault, 7, "innochecksum: output fault\n"),
         (CheckStatus::OutOfMemory, 8, "innochecksum: out of memory\n"),
     ];

@@ -75,11 +75,26 @@ fn bare<'a>(alloc: Global) -> Command<'a>
 fn command<'a>(alloc: Global) -> Result<Command<'a>, AllocError>
     ensures { IfOk result (λ c. app_of c ≡ command) }
 {
-    let count = flag(alloc, "count", 'c', "Print the number of whole pages and end");
+    let count = flag(
+        alloc,
+        "count",
+        'c',
+        "Print the number of whole pages and end",
+    );
     let start = number(alloc, "start-page", 's', "The first page to check, from 0");
     let end = number(alloc, "end-page", 'e', "The last page to check");
-    let page = number(alloc, "page", 'p', "Check this page alone, whatever -s and -e say");
-    let summary = flag(alloc, "page-type-summary", 'S', "End with a summary of the page types");
+    let page = number(
+        alloc,
+        "page",
+        'p',
+        "Check this page alone, whatever -s and -e say",
+    );
+    let summary = flag(
+        alloc,
+        "page-type-summary",
+        'S',
+        "End with a summary of the page types",
+    );
     bare(alloc)
         .arg(count)?
         .arg(start)?

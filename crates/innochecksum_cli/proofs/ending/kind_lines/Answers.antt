@@ -1,8 +1,8 @@
-use Rattle.std.proofs.Common.{◌≡◌, ◌<◌, ◌≤◌, ◌+◌, ◌++◌, ℕ, Bool, true, false, ltb, List, length, count_by, slice_index, sym, ◌∙◌, ap, arith, rules, string_bytes, cond, []}
+use Rattle.std.proofs.Common.{◌≡◌, ◌<◌, true, false, ltb, length, count_by, slice_index, sym, ◌∙◌, ap, arith, rules, string_bytes}
 use Rattle.std.proofs.lemmas.Bool.{le-ltb, lt-ltb}
 use Rattle.std.proofs.lemmas.List.{append-nil}
-use Rattle.innochecksum_cli.specs.Pages.{Page, is_of_kind}
-use Rattle.innochecksum_cli.specs.Lines.{kind_line, kind_lines}
+use Rattle.innochecksum_cli.specs.Pages.{is_of_kind}
+use Rattle.innochecksum_cli.specs.Lines.{kind_lines}
 use Rattle.innochecksum_cli.proofs.KindLines.{kind_lines_more, kind_lines_none}
 use Rattle.innochecksum_cli.proofs.ending.kind_lines.Goals as goal
 use Rattle.innochecksum_cli.proofs.ending.kind_lines.Goals.{then-count-gt0+in_ok-line+in_ok-push_str, else-count-gt0}

@@ -1,4 +1,4 @@
-use Rattle.std.proofs.Common.{◌≡◌, rules, refl}
+use Rattle.std.proofs.Common.{rules, refl}
 use Rattle.innochecksum_cli.specs.Words.{name_of, options_of}
 use Rattle.innochecksum_cli.proofs.words.asked_by.Goals as goal
 

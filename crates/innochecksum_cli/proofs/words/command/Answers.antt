@@ -1,6 +1,6 @@
-use Rattle.std.proofs.Common.{◌≡◌, ap₂, ◌∙◌}
+use Rattle.std.proofs.Common.{ap₂, ◌∙◌}
 use Rattle.std.proofs.lemmas.Result.{IfOk-weaker}
-use Rattle.clap.specs.Words.{App, app_of, with_rule}
+use Rattle.clap.specs.Words.{with_rule}
 use Rattle.innochecksum_cli.proofs.words.command.Goals as goal
 
 pub returns : goal.returns

@@ -1,6 +1,6 @@
-use Rattle.std.proofs.Common.{◌≡◌, List, map, string_bytes, true, IsErrAnd, rules, refl, sym, ap, ◌∙◌}
-use Rattle.clap.specs.Words.{App, Text, app_of, first_of, first_value, found_of, fault_of, is_simple, is_simple_and_free, kind_of, matches_of, takes}
-use Rattle.innochecksum_cli.specs.Words.{command, name_of, options_of, values_in}
+use Rattle.std.proofs.Common.{◌≡◌, map, string_bytes, IsErrAnd, rules, sym, ap, ◌∙◌}
+use Rattle.clap.specs.Words.{App, app_of, fault_of, is_simple_and_free, takes}
+use Rattle.innochecksum_cli.specs.Words.{name_of, options_of}
 use Rattle.innochecksum_cli.proofs.Matches.{command_is_free, if_err_is, values_are}
 use Rattle.innochecksum_cli.proofs.words.read_words.Goals as goal
 

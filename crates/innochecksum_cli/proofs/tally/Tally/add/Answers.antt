@@ -1,8 +1,6 @@
-use Rattle.std.proofs.Common.{◌≡◌, ◌<◌, ◌^◌, ◌+◌, ℕ, Bool, true, false, not, eqb, List, length, cond, get_or, refl, sym, ap, ◌∙◌, arith, rules}
-use Rattle.std.proofs.lemmas.Grind.{common_steps}
+use Rattle.std.proofs.Common.{◌≡◌, ◌<◌, ◌^◌, Bool, not, length, get_or, ap, ◌∙◌, arith}
 use Rattle.std.proofs.lemmas.List.{get_or_read, length_push}
-use Rattle.space_head.specs.Fields.{be16_at, be32_at}
-use Rattle.innochecksum_cli.specs.Pages.{Page, is_ciphered, is_mismatch, is_of_kind, is_zero}
+use Rattle.innochecksum_cli.specs.Pages.{Page, is_ciphered, is_mismatch, is_zero}
 use Rattle.innochecksum_cli.proofs.StateLemmas.{bad_is, zero_is}
 use Rattle.innochecksum_cli.proofs.TallyLemmas.{counted_push, kinds_push}
 use Rattle.innochecksum_cli.proofs.tally.Tally.add.Goals as goal
