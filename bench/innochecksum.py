@@ -3,7 +3,7 @@
 
 The file has 65,536 pages of 16 KiB with right CRC-32C checksums and is removed at the end. Each program
 runs once to warm up and then five times; the least wall time is printed, and how many times cat's it is.
-The real innochecksum is timed where `innochecksum` of another path is found (Debian: mariadb-server).
+The real innochecksum is timed where `innochecksum` of another path is found (Debian: mariadb-server-core).
 
     bench/innochecksum.py [PROGRAM] [REAL]
 """
@@ -37,25 +37,40 @@ def crc32c(data, register=0xFFFFFFFF):
     return register ^ 0xFFFFFFFF
 
 
+def of_number(bits, number):
+    """What a page number changes in the checksum, which is linear in the bytes."""
+    change = 0
+    for bit in range(32):
+        if number >> bit & 1:
+            change ^= bits[bit]
+    return change
+
+
 def write(path):
-    """Pages that differ in number, type and body in a few ways, so that few checksums are computed in Python."""
-    kinds = []
-    for kind in range(16):
-        page = bytearray(os.urandom(SIZE))
-        page[0:4] = struct.pack(">I", 1)
-        page[4:8] = struct.pack(">I", kind)
-        page[24:26] = struct.pack(">H", 17855)
-        page[-4:] = struct.pack(">I", crc32c(page[:-4]))
-        kinds.append(bytes(page))
-    first = bytearray(kinds[0])
-    first[0:4] = bytes(4)
+    """Pages of one body in clear, each with its number and its checksum."""
+    body = bytearray(os.urandom(SIZE))
+    body[0:38] = bytes(38)
+    body[24:26] = struct.pack(">H", 17855)
+    body[34:38] = struct.pack(">I", 5)
+    body[-8:-4] = bytes(4)
+    first = bytearray(body)
     first[24:26] = struct.pack(">H", 8)
+    first[38:42] = struct.pack(">I", 5)
     first[54:58] = struct.pack(">I", 0x15)
     first[-4:] = struct.pack(">I", crc32c(first[:-4]))
+    base = crc32c(body[:-4])
+    zero = crc32c(bytes(SIZE - 4))
+    bits = []
+    for bit in range(32):
+        page = bytearray(SIZE - 4)
+        page[4:8] = struct.pack(">I", 1 << bit)
+        bits.append(crc32c(page) ^ zero)
     with open(path, "wb") as file:
         file.write(first)
         for number in range(1, PAGES):
-            file.write(kinds[number % len(kinds)])
+            body[4:8] = struct.pack(">I", number)
+            body[-4:] = struct.pack(">I", base ^ of_number(bits, number))
+            file.write(body)
 
 
 def least(words):
