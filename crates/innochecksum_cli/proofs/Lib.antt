@@ -1,0 +1,11 @@
+pub mod StateLemmas
+pub mod TallyLemmas
+pub mod Fronts
+pub mod KindLines
+pub mod Fills
+pub mod Reports
+pub mod SelectedPages
+pub mod WholeReports
+pub mod Numbers
+pub mod Matches
+pub mod AskedReports

@@ -1,0 +1,10 @@
+pub mod Pages
+pub mod Lines
+pub mod Inspection
+pub mod Stops
+pub mod Tallies
+pub mod States
+pub mod Looks
+pub mod Heads
+pub mod Words
+pub mod StatusLines
