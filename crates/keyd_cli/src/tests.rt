@@ -5,6 +5,7 @@ use io_core::{ByteSink, ByteSource, Shelf};
 use rand_pcg::Pcg32;
 use std::alloc::{AllocError, Global};
 use std::test::Fail;
+use store_model::{Change, Contents, Mtr, Piece, SpaceInfo, fold, report};
 
 const WORDS: &str = "drill --key-file keys1 --space 5:4:1:plain";
 
@@ -166,5 +167,214 @@ fn a_script_is_at_most_a_mebibyte_and_objects_may_fail(rt: HostRuntime) -> Resul
         vec![in alloc; 1]?,
     )?;
     assert_eq!(rt; output.0, (7, 0));
+    Ok(())
+}
+
+// The mini-transactions of the scripts below, in order: a page, and the byte at its place 38. No two
+// fronts of them leave the same pages.
+const PUTS: [(u32, u8); 4] = [(1, 0x11), (2, 0x22), (1, 0x33), (2, 0x44)];
+
+// Scripts, a letter for each line: m for a mini-transaction, s for sync.
+const SCRIPTS: [&str; 4] = ["m", "mms", "msms", "mmms"];
+
+const CHOICES: [&str; 13] = [
+    "l", "k", "t", "lk", "kl", "tk", "kt", "lt", "tl", "kkl", "ktk", "lkk", "kkt",
+];
+
+fn script_of(alloc: Global, letters: &str) -> Result<String, AllocError> {
+    let mut script = String::new(alloc);
+    let mut puts = PUTS.iter();
+    for letter in letters.bytes() {
+        if letter == b's' {
+            script.push_str("sync\n")?;
+        } else if let Some((page, byte)) = puts.next() {
+            let line = format!(in alloc; "mtr 1 put 5 {page} 38 {byte:x}\n")?;
+            script.push_str(line.as_str())?;
+        }
+    }
+    Ok(script)
+}
+
+// The report of the pages after the first so many mini-transactions.
+fn report_of(alloc: Global, kept: usize) -> Result<Vec<u8>, Fail> {
+    let mut mtrs = Vec::new(alloc);
+    for (page, byte) in PUTS.iter().take(kept) {
+        let change = Change::Put {
+            space: 5,
+            page: *page,
+            at: 38,
+            bytes: Piece::of(vec![in alloc; *byte]?),
+        };
+        mtrs.push(Mtr::of(vec![in alloc; change]?))?;
+    }
+    let space = SpaceInfo {
+        space: 5,
+        pages: 3,
+        key_id: 1,
+        salt: [0; 16],
+        ciphered: false,
+        floor: 0,
+    };
+    let contents = fold(alloc, &mtrs, Contents::empty(alloc, &[space])?)?;
+    Ok(report(alloc, &contents)?)
+}
+
+// What a session comes to: the turns of its disk, whether it was stopped, its entries, those that are
+// acknowledged, and the writes that no sync followed.
+#[derive(Clone, Copy)]
+struct Course {
+    turns: u64,
+    stopped: bool,
+    journal: u64,
+    acked: u64,
+    unsynced: u64,
+}
+
+// A sync writes each entry that isn't acknowledged in a turn, and syncs the file in a turn more. With
+// no such entry it does nothing.
+fn synced(course: Course, stop: u64) -> Course {
+    let pending = course.journal.saturating_sub(course.acked);
+    if pending == 0 {
+        return course;
+    }
+    let last = course.turns.saturating_add(pending).saturating_add(1);
+    if course.turns < stop && stop <= last {
+        return Course {
+            stopped: true,
+            unsynced: stop.saturating_sub(course.turns).min(pending),
+            ..course
+        };
+    }
+    Course {
+        turns: last,
+        acked: course.journal,
+        ..course
+    }
+}
+
+fn course_of(letters: &str, stop: u64) -> Course {
+    let mut course = Course {
+        turns: 0,
+        stopped: false,
+        journal: 0,
+        acked: 0,
+        unsynced: 0,
+    };
+    for letter in letters.bytes() {
+        if course.stopped {
+            return course;
+        }
+        if letter == b's' {
+            course = synced(course, stop);
+        } else {
+            course.journal = course.journal.saturating_add(1);
+        }
+    }
+    course
+}
+
+// How many entries the crash keeps: those that are acknowledged, and those whose writes are kept up to
+// the first that isn't. The last letter serves the rest.
+fn kept_of(course: &Course, choice: &str) -> u64 {
+    let mut kept = course.acked;
+    let mut letters = choice.bytes();
+    let mut letter = b'l';
+    for _ in 0..course.unsynced {
+        if let Some(next) = letters.next() {
+            letter = next;
+        }
+        if letter != b'k' {
+            return kept;
+        }
+        kept = kept.saturating_add(1);
+    }
+    kept
+}
+
+// The lines of the session that the drill is to print.
+fn lines_of(alloc: Global, course: &Course, stop: u64, choice: &str) -> Result<String, AllocError> {
+    let mut lines = if course.stopped {
+        format!(in alloc; "crash {stop} choice {choice}\n")?
+    } else {
+        format!(in alloc; "crash end choice {choice}\n")?
+    };
+    let journal = course.journal;
+    let acked = course.acked;
+    let kept = kept_of(course, choice);
+    let counts = format!(in alloc; "journal {journal} acked {acked} kept {kept}\n")?;
+    lines.push_str(counts.as_str())?;
+    Ok(lines)
+}
+
+fn options_of(alloc: Global, stop: u64, choice: &str) -> Result<String, AllocError> {
+    let words = "drill --key-file keys1 --space 5:3:1:plain --stop";
+    format!(in alloc; "{words} {stop} --choice {choice}")
+}
+
+// Whether the drill prints its lines, and the report of the mini-transactions that it keeps.
+fn is_as_wanted(
+    alloc: Global,
+    reports: &[Vec<u8>],
+    letters: &str,
+    stop: u64,
+    choice: &str,
+) -> Result<bool, Fail> {
+    let script = script_of(alloc, letters)?;
+    let options = options_of(alloc, stop, choice)?;
+    let (status, out) = seen(alloc, options.as_str(), script.as_bytes())?;
+    let course = course_of(letters, stop);
+    let Some(report) = reports.get(kept_of(&course, choice) as usize) else {
+        return Ok(false);
+    };
+    let mut wanted = lines_of(alloc, &course, stop, choice)?
+        .as_bytes()
+        .to_vec(alloc)?;
+    wanted.extend_from_slice(report)?;
+    Ok(status == (0, 0) && out == wanted)
+}
+
+// Whether a choice is tried: at a stop past the last turn one is, and else one letter for each unsynced
+// write, or k for all.
+fn is_tried(course: &Course, stop: u64, choice: &str) -> bool {
+    if course.stopped {
+        choice == "k" || choice.len() as u64 == course.unsynced
+    } else {
+        stop == 6 && choice == "k"
+    }
+}
+
+// The first choice at which the drill isn't as wanted.
+fn first_wrong(
+    alloc: Global,
+    reports: &[Vec<u8>],
+    letters: &str,
+    stop: u64,
+) -> Result<Option<&'static str>, Fail> {
+    let course = course_of(letters, stop);
+    for choice in CHOICES {
+        if is_tried(&course, stop, choice)
+            && !is_as_wanted(alloc, reports, letters, stop, choice)?
+        {
+            return Ok(Some(choice));
+        }
+    }
+    Ok(None)
+}
+
+#[test]
+fn a_crash_keeps_what_was_acknowledged_and_a_front_of_the_rest(
+    rt: HostRuntime,
+) -> Result<(), Fail> {
+    let alloc = rt.alloc();
+    let mut reports = Vec::new(alloc);
+    for kept in 0..5 {
+        reports.push(report_of(alloc, kept)?)?;
+    }
+    for letters in SCRIPTS {
+        for stop in 1..7 {
+            let wrong = first_wrong(alloc, &reports, letters, stop)?;
+            assert!(rt; wrong.is_none(), "at {letters} {stop}: {wrong:?}");
+        }
+    }
     Ok(())
 }
