@@ -12,3 +12,6 @@ pub mod Stops
 pub mod CrashOf
 pub mod KeyNames
 pub mod Endings
+pub mod Completes
+pub mod Built
+pub mod OnePlan

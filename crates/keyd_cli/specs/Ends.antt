@@ -1,5 +1,5 @@
 -- How `drill` ends, by its words, the library's files, the input's bytes and what the output is given.
-use Rattle.std.specs.Prelude.{◌≡◌, ◌≤◌, ◌<◌, ℕ, List, [], ◌∷◌, ◌++◌, length, drop, Option, Ok, Err}
+use Rattle.std.specs.Prelude.{◌≡◌, ◌≤◌, ◌<◌, ℕ, List, [], ◌∷◌, ◌++◌, length, drop, Option, Some, Ok, Err}
 use Rattle.cause_core.specs.Counts.{Rose}
 use Rattle.io_core.specs.Files.{Files}
 use Rattle.io_core.specs.Told.{Told}
@@ -127,3 +127,26 @@ IsEnd words files left given given' before now (status.NotBuilt line) = IsPastKe
 IsEnd words files left given given' before now status.OutFault = IsOutFault words files left given given' before.output now.output
 IsEnd words files left given given' before now status.OutOfMemory = (text : List ℕ) × IsPartlyGiven text given given'
 IsEnd words files left given given' before now status.Done = ⊥
+
+-- ---- what is enough to be done
+
+-- no count rose from the one to the other
+pub record NoneRose (before now : Counts) : Type 0 where
+  pub library : Rose before.library now.library → ⊥
+  pub absences : Rose before.absences now.absences → ⊥
+  pub input : Rose before.input now.input → ⊥
+  pub output : Rose before.output now.output → ⊥
+
+-- The words are a list of `drill`, no key file has a fault, and the input is a schedule of no more bytes than it may have.
+pub record IsComplete (words : List Word) (files : Option Files) (left : Option (List ℕ)) : Type 0 where
+  pub words_are : IsDrill words
+  pub plan : DrillPlan
+  pub asked : IsPlan (drop 1 words) plan
+  pub fs : Files
+  pub told : files ≡ Some fs
+  pub faultless : (fault : LoadFault) → IsLoaded fs (drop 1 words) (Err fault) → ⊥
+  pub text : List ℕ
+  pub read : left ≡ Some text
+  pub size : length text ≤ 1048576
+  pub statements : List Statement
+  pub schedule : IsSchedule plan.space.space plan.space.pages text statements

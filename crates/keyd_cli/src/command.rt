@@ -6,7 +6,7 @@ ghost use Rattle.cause_core.specs.Counts.{Rose};
 ghost use Rattle.keyd_cli.specs.declared.status.Status.TheVariants as status;
 ghost use Rattle.keyd_cli.specs.Words.{IsDrill, IsUsage, AreOptions};
 ghost use Rattle.keyd_cli.specs.Reads.{IsSchedule, IsNotBuilt};
-ghost use Rattle.keyd_cli.specs.Ends.{load_status, IsKeyed, IsKeyEnd, IsInput, IsInputEnd, IsInputDrilled, IsReady, IsDone, IsEnd, drill_text};
+ghost use Rattle.keyd_cli.specs.Ends.{load_status, IsKeyed, IsKeyEnd, IsInput, IsInputEnd, IsInputDrilled, IsReady, IsDone, IsEnd, NoneRose, IsComplete, drill_text};
 ghost use Rattle.keyd_cli.specs.PlanOf.{IsFitting};
 
 use crate::act::Statement;
@@ -207,6 +207,7 @@ where
     R: Rng,
     ensures done { result.status ≡ status.Done → IsDone (map string_bytes words.now) (L.files files.old) (S.left input.old) (K.given out.old) (K.given out.new) result.journal result.replies result.drill.ends.items }
     ensures ends { result.status ≢ status.Done → IsEnd (map string_bytes words.now) (L.files files.old) (S.left input.old) (K.given out.old) (K.given out.new) (record { library = L.faults files.old; absences = L.absences files.old; input = S.faults input.old; output = K.faults out.old }) (record { library = L.faults files.new; absences = L.absences files.new; input = S.faults input.new; output = K.faults out.new }) result.status }
+    ensures complete { IsComplete (map string_bytes words.now) (L.files files.old) (S.left input.old) → NoneRose (record { library = L.faults files.old; absences = L.absences files.old; input = S.faults input.old; output = K.faults out.old }) (record { library = L.faults files.new; absences = L.absences files.new; input = S.faults input.new; output = K.faults out.new }) → (result.status ≡ status.Done) ⊎ (result.status ≡ status.OutOfMemory) }
     ensures empty { result.status ≢ status.Done → (result.journal ≡ []) × (result.replies ≡ []) × (result.drill.ends.items ≡ []) }
     ensures disk { result.disk ≡ disk }
     ensures same { L.files files.new ≡ L.files files.old }

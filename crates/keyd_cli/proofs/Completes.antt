@@ -1,0 +1,34 @@
+-- Words, key files and a schedule that are as they should be are done, or memory is refused.
+use Rattle.std.proofs.Common.{◌≡◌, ℕ, ◌≤◌, List, length, drop, Option, refl, sym, ◌∙◌, ap, subst, arith}
+use Rattle.io_core.specs.Files.{Files}
+use Rattle.keyd_cli.specs.declared.plan.DrillPlan.{DrillPlan}
+use Rattle.keyd_cli.specs.declared.status.Status.{Status}
+use Rattle.keyd_cli.specs.declared.status.Status.TheVariants as status
+use Rattle.keyd_cli.specs.Words.{Word}
+use Rattle.keyd_cli.specs.PlanOf.{IsPlan}
+use Rattle.keyd_cli.specs.Reads.{IsNotBuilt}
+use Rattle.keyd_cli.specs.Ends.{IsEnd, Counts, NoneRose, IsComplete}
+use Rattle.keyd_cli.proofs.Built.{built-not_refused}
+use Rattle.keyd_cli.proofs.OnePlan.{one-space}
+
+module _ (words : List Word) (files : Option Files) (left given given' : Option (List ℕ)) (before now : Counts) (all : IsComplete words files left) (none : NoneRose before now) where
+  not_refused : (p : DrillPlan) (text : List ℕ) (line : ℕ) → IsPlan (drop 1 words) p → text ≡ all.text → IsNotBuilt p.space.space p.space.pages text line → ⊥
+  not_refused p text line asked same refused =
+      let one = one-space (drop 1 words) p all.plan asked all.asked in
+      built-not_refused all.plan.space.space all.plan.space.pages all.text all.statements line all.schedule
+      (subst (λ t. IsNotBuilt all.plan.space.space all.plan.space.pages t line) same
+      (subst (λ pages. IsNotBuilt all.plan.space.space pages text line) one.1 (subst (λ space. IsNotBuilt space p.space.pages text line) one.0 refused)))
+
+  pub completes : (s : Status) → IsEnd words files left given given' before now s → s ≡ status.OutOfMemory
+  completes status.OutOfMemory end = refl
+  completes status.Done end = absurd end
+  completes (status.Usage i) end = absurd (end.0.faulty all.words_are)
+  completes (status.KeyFile index fault) end = absurd (all.faultless _ (end.1.0.here all.fs all.told))
+  completes (status.Missing name) end = absurd (all.faultless _ (end.1.0.0.here all.fs all.told))
+  completes status.FileFault end = absurd (none.library end.1.0)
+  completes status.ScriptTooLarge end = let more = end.0.1.1.1.1.here all.text all.read in absurd (omega (arith, more, all.size))
+  completes status.InputFault end = absurd (none.input end.0.1.1.1.1)
+  completes (status.NotBuilt line) end =
+      let refused = end.0.1.1.1.1 in
+      absurd (not_refused end.0.1.1.0 refused.0 line end.0.1.1.1.0 (sym (refused.1.0.read.here all.text all.read)) refused.1.1)
+  completes status.OutFault end = absurd (none.output end.rose)
