@@ -22,13 +22,11 @@ module _ (words : List Word) (files : Option Files) (left given given' : Option 
   pub completes : (s : Status) → IsEnd words files left given given' before now s → s ≡ status.OutOfMemory
   completes status.OutOfMemory end = refl
   completes status.Done end = absurd end
-  completes (status.Usage i) end = absurd (end.0.faulty all.words_are)
-  completes (status.KeyFile index fault) end = absurd (all.faultless _ (end.1.0.here all.fs all.told))
-  completes (status.Missing name) end = absurd (all.faultless _ (end.1.0.0.here all.fs all.told))
-  completes status.FileFault end = absurd (none.library end.1.0)
-  completes status.ScriptTooLarge end = let more = end.0.1.1.1.1.here all.text all.read in absurd (omega (arith, more, all.size))
-  completes status.InputFault end = absurd (none.input end.0.1.1.1.1)
-  completes (status.NotBuilt line) end =
-      let refused = end.0.1.1.1.1 in
-      absurd (not_refused end.0.1.1.0 refused.0 line end.0.1.1.1.0 (sym (refused.1.0.read.here all.text all.read)) refused.1.1)
+  completes (status.Usage i) (usage, same) = absurd (usage.faulty all.words_are)
+  completes (status.KeyFile index fault) (is, end, same) = absurd (all.faultless _ (end.here all.fs all.told))
+  completes (status.Missing name) (is, (end, rose), same) = absurd (all.faultless _ (end.here all.fs all.told))
+  completes status.FileFault (is, rose, same) = absurd (none.library rose)
+  completes status.ScriptTooLarge ((is, keyed, (plan, asked, end)), same) = let more = end.here all.text all.read in absurd (omega (arith, more, all.size))
+  completes status.InputFault ((is, keyed, (plan, asked, rose)), same) = absurd (none.input rose)
+  completes (status.NotBuilt line) ((is, keyed, (plan, asked, (text, input, refused))), same) = absurd (not_refused plan text line asked (sym (input.read.here all.text all.read)) refused)
   completes status.OutFault end = absurd (none.output end.rose)

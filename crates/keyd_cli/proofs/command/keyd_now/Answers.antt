@@ -1,14 +1,11 @@
-use Rattle.std.proofs.Common.{rules, ◌≡◌, ◌≢◌, ◌⊎◌, ◌≤◌, ◌<◌, ◌∷◌, [], ℕ, Err, length, drop, map, string_bytes, IfOk, IfErr, OnOk, ◌+◌, ◌-◌, ◌*◌, ◌/◌, ◌%◌, Bool, true, false, nat_eq, nat_lt, List, ◌++◌, slice_index_or, slice_set, bit_and, bit_or, Fits, w8, w32, w64, Bor, MutBor}
-use Rattle.io_core.specs.Told.{Told}
-use Rattle.io_core.specs.Stream.{extended, IsPartlyGiven}
-use Rattle.cause_core.specs.Counts.{Rose}
-use Rattle.keyd_cli.specs.declared.status.Status.TheVariants as status
-use Rattle.keyd_cli.specs.Words.{IsDrill, IsUsage, AreOptions}
-use Rattle.keyd_cli.specs.Reads.{IsSchedule, IsNotBuilt}
-use Rattle.keyd_cli.specs.Ends.{load_status, IsKeyed, IsKeyEnd, IsInput, IsInputEnd, IsInputDrilled, IsReady, IsDone, IsEnd, NoneRose, IsComplete, drill_text}
-use Rattle.keyd_cli.specs.PlanOf.{IsFitting}
+use Rattle.std.proofs.Common.{◌≡◌, ◌∙◌, map, string_bytes, inr}
+use Rattle.keyd_cli.specs.Ends.{Counts}
+use Rattle.keyd_cli.proofs.Completes.{completes}
 use Rattle.keyd_cli.proofs.command.keyd_now.Goals as goal
 
--- src/command.rt:193:1
 pub returns-in-Err-clause-complete : goal.returns-in-Err-clause-complete
-returns-in-Err-clause-complete g c = ?
+returns-in-Err-clause-complete g c = λ all none.
+    let before : Counts = record { library = g.L.Library.faults c.args.files.now; absences = g.L.Library.absences c.args.files.now; input = g.S.Source.faults c.args.input.now; output = g.K.Sink.faults c.args.out.now } in
+    let now : Counts = record { library = g.L.Library.faults c.run_command.new.files; absences = g.L.Library.absences c.run_command.new.files; input = g.S.Source.faults c.run_command.new.input; output = g.K.Sink.faults c.run_command.new.out } in
+    inr (c.ended.ensures.status
+    ∙ completes (map string_bytes c.args.words.now) (g.L.Library.files c.args.files.now) (g.S.Source.left c.args.input.now) (g.K.Sink.given c.args.out.now) (g.K.Sink.given c.run_command.new.out) before now all none c.in-Err.status c.in-Err.ensures.err)
