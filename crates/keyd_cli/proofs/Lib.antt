@@ -12,3 +12,4 @@ pub mod Stops
 pub mod CrashOf
 pub mod KeyNames
 pub mod Endings
+pub mod Built
