@@ -1,5 +1,5 @@
 -- Words, key files and a schedule that are as they should be are done, or memory is refused.
-use Rattle.std.proofs.Common.{◌≡◌, ℕ, ◌≤◌, List, length, drop, Option, refl, sym, ◌∙◌, ap, subst, arith}
+use Rattle.std.proofs.Common.{◌≡◌, ℕ, List, drop, Option, refl, sym, subst, arith}
 use Rattle.io_core.specs.Files.{Files}
 use Rattle.keyd_cli.specs.declared.plan.DrillPlan.{DrillPlan}
 use Rattle.keyd_cli.specs.declared.status.Status.{Status}

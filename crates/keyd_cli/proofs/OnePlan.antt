@@ -12,9 +12,10 @@ use Rattle.keyd_cli.proofs.Spaces.{one_way, parts_of_space}
 -- a space's word writes one ID and one number of pages
 pub same_space : (value : Word) (a b c d e f : ℕ) → IsSpace value a b c → IsSpace value d e f → (a ≡ d) × (b ≡ e)
 same_space value a b c d e f p q =
-    let parts = one_way value (decimal a) (decimal b) (decimal c) (decimal d) (decimal e) (decimal f) (parts_of_space value a b c p) (parts_of_space value d e f q) in
-    (decimal_injective a d (omega (arith, p.id_to)) (omega (arith, q.id_to)) parts.0,
-     decimal_injective b e (omega (arith, p.pages_to)) (omega (arith, q.pages_to)) parts.1)
+    let parts = one_way value (decimal a) (decimal b) (decimal c) (decimal d) (decimal e) (decimal f) (parts_of_space value a b c p) (parts_of_space value d e f q) in (
+      decimal_injective a d (omega (arith, p.id_to)) (omega (arith, q.id_to)) parts.0,
+      decimal_injective b e (omega (arith, p.pages_to)) (omega (arith, q.pages_to)) parts.1,
+    )
 
 -- two plans of the same options have the same space
 pub one-space : (options : List Word) (p q : DrillPlan) → IsPlan options p → IsPlan options q → (p.space.space ≡ q.space.space) × (p.space.pages ≡ q.space.pages)

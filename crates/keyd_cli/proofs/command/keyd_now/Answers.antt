@@ -1,4 +1,4 @@
-use Rattle.std.proofs.Common.{◌≡◌, ◌∙◌, map, string_bytes, inr}
+use Rattle.std.proofs.Common.{◌∙◌, map, string_bytes, inr}
 use Rattle.keyd_cli.specs.Ends.{Counts}
 use Rattle.keyd_cli.proofs.Completes.{completes}
 use Rattle.keyd_cli.proofs.command.keyd_now.Goals as goal
