@@ -23,13 +23,13 @@ fn words_of(alloc: Global, line: &str) -> Result<Vec<String>, AllocError> {
 }
 
 // A library with the key file `keys1`.
-fn shelf(alloc: Global) -> Result<Shelf, AllocError> {
+fn shelf(alloc: Global, failing: Vec<u64>) -> Result<Shelf, AllocError> {
     let mut files = Vec::new(alloc);
     files.push((
         String::from_str(alloc, "keys1")?,
         Vec::from_slice(alloc, KEYS)?,
     ))?;
-    Ok(Shelf::new(files, Vec::new(alloc)))
+    Ok(Shelf::new(files, failing))
 }
 
 // A status as its number and the index or line that it tells.
@@ -43,17 +43,18 @@ fn told(status: &Status) -> (u8, usize) {
     (status.number(), detail)
 }
 
-// What the command gives: its status and its output. The listed takes of the input and gives of the
-// output fail.
+// What the command gives: its status and its output. The listed calls of the library, takes of the
+// input and gives of the output fail.
 fn outcome(
     alloc: Global,
     line: &str,
     script: &[u8],
+    calls: Vec<u64>,
     takes: Vec<u64>,
     gives: Vec<u64>,
 ) -> Result<((u8, usize), Vec<u8>), Fail> {
     let words = words_of(alloc, line)?;
-    let mut files = shelf(alloc)?;
+    let mut files = shelf(alloc, calls)?;
     let mut input = ByteSource::new(Vec::from_slice(alloc, script)?, takes);
     let mut out = ByteSink::new(alloc, gives);
     let mut rng = Pcg32::new(42, 54);
@@ -65,7 +66,14 @@ fn outcome(
 }
 
 fn seen(alloc: Global, line: &str, script: &[u8]) -> Result<((u8, usize), Vec<u8>), Fail> {
-    outcome(alloc, line, script, Vec::new(alloc), Vec::new(alloc))
+    outcome(
+        alloc,
+        line,
+        script,
+        Vec::new(alloc),
+        Vec::new(alloc),
+        Vec::new(alloc),
+    )
 }
 
 #[test]
@@ -151,10 +159,23 @@ fn a_script_is_at_most_a_mebibyte_and_objects_may_fail(rt: HostRuntime) -> Resul
     assert_eq!(rt; seen(alloc, WORDS, &script)?.0, (0, 0));
     script.push(b'#')?;
     assert_eq!(rt; seen(alloc, WORDS, &script)?.0, (4, 0));
+    for call in 1..3u64 {
+        let calls = vec![in alloc; call]?;
+        let file = outcome(
+            alloc,
+            WORDS,
+            PUT.as_bytes(),
+            calls,
+            Vec::new(alloc),
+            Vec::new(alloc),
+        )?;
+        assert!(rt; file.0 == (7, 0) && file.1.is_empty(), "at {call}");
+    }
     let input = outcome(
         alloc,
         WORDS,
         PUT.as_bytes(),
+        Vec::new(alloc),
         vec![in alloc; 1]?,
         Vec::new(alloc),
     )?;
@@ -163,6 +184,7 @@ fn a_script_is_at_most_a_mebibyte_and_objects_may_fail(rt: HostRuntime) -> Resul
         alloc,
         WORDS,
         PUT.as_bytes(),
+        Vec::new(alloc),
         Vec::new(alloc),
         vec![in alloc; 1]?,
     )?;
@@ -174,11 +196,18 @@ fn a_script_is_at_most_a_mebibyte_and_objects_may_fail(rt: HostRuntime) -> Resul
 // fronts of them leave the same pages.
 const PUTS: [(u32, u8); 4] = [(1, 0x11), (2, 0x22), (1, 0x33), (2, 0x44)];
 
-// Scripts, a letter for each line: m for a mini-transaction, s for sync.
-const SCRIPTS: [&str; 4] = ["m", "mms", "msms", "mmms"];
+// Every script of one to four lines, a letter for each line: m for a mini-transaction, s for sync.
+const SCRIPTS: [&str; 30] = [
+    "m", "s", "mm", "ms", "sm", "ss", "mmm", "mms", "msm", "mss", "smm", "sms", "ssm", "sss",
+    "mmmm", "mmms", "mmsm", "mmss", "msmm", "msms", "mssm", "msss", "smmm", "smms", "smsm", "smss",
+    "ssmm", "ssms", "sssm", "ssss",
+];
 
-const CHOICES: [&str; 13] = [
-    "l", "k", "t", "lk", "kl", "tk", "kt", "lt", "tl", "kkl", "ktk", "lkk", "kkt",
+// Every choice of one to three letters.
+const CHOICES: [&str; 39] = [
+    "l", "k", "t", "ll", "lk", "lt", "kl", "kk", "kt", "tl", "tk", "tt", "lll", "llk", "llt",
+    "lkl", "lkk", "lkt", "ltl", "ltk", "ltt", "kll", "klk", "klt", "kkl", "kkk", "kkt", "ktl",
+    "ktk", "ktt", "tll", "tlk", "tlt", "tkl", "tkk", "tkt", "ttl", "ttk", "ttt",
 ];
 
 fn script_of(alloc: Global, letters: &str) -> Result<String, AllocError> {
@@ -333,14 +362,9 @@ fn is_as_wanted(
     Ok(status == (0, 0) && out == wanted)
 }
 
-// Whether a choice is tried: at a stop past the last turn one is, and else one letter for each unsynced
-// write, or k for all.
+// Whether a choice is tried: each at a stop that is met, and past the last turn one.
 fn is_tried(course: &Course, stop: u64, choice: &str) -> bool {
-    if course.stopped {
-        choice == "k" || choice.len() as u64 == course.unsynced
-    } else {
-        stop == 6 && choice == "k"
-    }
+    course.stopped || stop == 6 && choice == "k"
 }
 
 // The first choice at which the drill isn't as wanted.
