@@ -1,11 +1,11 @@
 // The ciphers' measurements.
-use crate::figure::Figure;
+use crate::figure::timed;
 use aes_core::plain::PlainKey;
 use aes_core::{BlockKey, cbc_tail_decrypt, cbc_tail_encrypt, ctr_apply};
 use anyhow::{Result, bail};
 use std::alloc::Global;
 use std::io::Print;
-use std::time::{Clock, Instant};
+use std::time::Clock;
 
 /// The blocks of 64 MiB.
 const BLOCKS: usize = 4 * 1024 * 1024;
@@ -57,20 +57,6 @@ fn apply_ctr(key: &BlockKey, text: &mut [u8]) {
     for _ in 0..TEXTS {
         ctr_apply(key, &IV, text);
     }
-}
-
-// Times the work, and prints its figure.
-macro_rules! timed {
-    ($rt:expr, $name:expr, $bytes:expr, $work:expr) => {{
-        let start = Instant::now($rt)?;
-        $work;
-        let figure = Figure {
-            name: $name,
-            bytes: $bytes,
-            time: start.elapsed($rt)?,
-        };
-        println!($rt; "{figure}")?;
-    }};
 }
 
 fn measure_steps(rt: &(impl Print + Clock), key: &PlainKey) -> Result<[u8; 16]> {

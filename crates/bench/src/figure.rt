@@ -21,3 +21,20 @@ impl<'a> fmt::Display for Figure<'a> {
         write!(f, "{}: {rate} MB/s", self.name)
     }
 }
+
+// Times the work and prints its figure; the value is the work's.
+macro_rules! timed {
+    ($rt:expr, $name:expr, $bytes:expr, $work:expr) => {{
+        let start = std::time::Instant::now($rt)?;
+        let done = $work;
+        let figure = $crate::figure::Figure {
+            name: $name,
+            bytes: $bytes,
+            time: start.elapsed($rt)?,
+        };
+        println!($rt; "{figure}")?;
+        done
+    }};
+}
+
+pub(crate) use timed;

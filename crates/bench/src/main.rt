@@ -9,6 +9,7 @@ mod by_one;
 mod checksums;
 mod ciphers;
 mod figure;
+mod pages;
 
 use anyhow::Result;
 use std::env;
@@ -18,7 +19,8 @@ fn main(rt: HostRuntime) -> Result<()> {
     match word {
         Some(word) if word.as_str() == "run" => {
             checksums::measure(rt.alloc(), &rt)?;
-            ciphers::measure(rt.alloc(), &rt)
+            ciphers::measure(rt.alloc(), &rt)?;
+            pages::measure(rt.alloc(), &rt)
         }
         _ => {
             println!(rt; "usage: bench run")?;
