@@ -29,4 +29,4 @@ module _ (words : List Word) (files : Option Files) (left given given' : Option 
   completes status.ScriptTooLarge ((is, keyed, (plan, asked, end)), same) = let more = end.here all.text all.read in absurd (omega (arith, more, all.size))
   completes status.InputFault ((is, keyed, (plan, asked, rose)), same) = absurd (none.input rose)
   completes (status.NotBuilt line) ((is, keyed, (plan, asked, (text, input, refused))), same) = absurd (not_refused plan text line asked (sym (input.read.here all.text all.read)) refused)
-  completes status.OutFault end = absurd (none.output end.rose)
+  completes status.OutFault (cut, rose) = absurd (none.output rose)

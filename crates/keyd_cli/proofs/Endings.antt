@@ -1,11 +1,10 @@
 -- How the stages of the command end it.
-use Rattle.std.proofs.Common.{◌≡◌, ◌⊎◌, ℕ, ◌+◌, List, [], ◌∷◌, length, drop, cond, Bool, true, false, if◌then◌else◌, Option, Some, None, Result, Ok, Err, IfErr, IsErrAnd, refl, sym, ap, subst, inl, inr, arith}
+use Rattle.std.proofs.Common.{◌≡◌, ◌⊎◌, ℕ, ◌+◌, List, [], ◌∷◌, length, drop, cond, Bool, true, false, if◌then◌else◌, Option, Result, Ok, Err, IfErr, IsErrAnd, refl, sym, subst, inl, inr, arith}
 use Rattle.std.specs.Str.{bytes_eq}
-use Rattle.std.proofs.lemmas.List.{append-nil}
 use Rattle.std.proofs.lemmas.List.Sums.{sum_by-cons}
 use Rattle.cause_core.specs.Counts.{Rose}
 use Rattle.io_core.specs.Files.{Files}
-use Rattle.io_core.specs.Stream.{extended, IsPartlyGiven}
+use Rattle.io_core.specs.Stream.{IsPartlyGiven}
 use Rattle.keyd_cli.specs.declared.words.Flag.{Flag}
 use Rattle.keyd_cli.specs.declared.plan.DrillPlan.{DrillPlan}
 use Rattle.keyd_cli.specs.declared.drill.Drilled.{Drilled}
@@ -14,7 +13,7 @@ use Rattle.keyd_cli.specs.declared.status.Status.TheVariants as status
 use Rattle.keyd_cli.specs.Words.{Word, name_of, ArePairs, option_words, times, IsDrill}
 use Rattle.keyd_cli.specs.PlanOf.{IsPlan}
 use Rattle.keyd_cli.specs.Keys.{values_of}
-use Rattle.keyd_cli.specs.Ends.{IsKeyed, IsKeyEnd, IsInputEnd, IsReady, IsEnd, Counts, drill_text}
+use Rattle.keyd_cli.specs.Ends.{IsKeyed, IsKeyEnd, IsInputEnd, IsReady, IsCutShort, IsEnd, Counts, drill_text}
 
 -- an option has as many values as it stands times
 pub values-count : (f : Flag) (ws : List Word) → ArePairs ws → length (values_of f ws) ≡ times f ws
@@ -32,13 +31,9 @@ pub handed : {T E : Type 0} (P : E → Type 0) (r : Result T E) (x : E) → IsEr
 handed P (Ok v) x is p = absurd is
 handed P (Err e) x is p = subst P (sym is) p
 
-nothing : (given : Option (List ℕ)) → given ≡ extended [] given
-nothing None = refl
-nothing (Some front) = ap Some (sym (append-nil front))
-
 module _ (words : List Word) (files : Option Files) (left given : Option (List ℕ)) (before now : Counts) where
   pub memory-end : IsEnd words files left given given before now status.OutOfMemory
-  memory-end = ([], (0, nothing given))
+  memory-end = inl refl
 
   pub key-end : (s : Status) → IsDrill words → IsKeyEnd (drop 1 words) files before.library now.library before.absences now.absences s → IsEnd words files left given given before now s
   key-end (status.KeyFile index fault) is end = (is, end, refl)
@@ -66,6 +61,8 @@ module _ (words : List Word) (files : Option Files) (left given : Option (List �
 
   pub print-end : (plan : DrillPlan) (d : Drilled) (text : List ℕ) (given' : Option (List ℕ)) (s : Status) → IsReady words files left plan d → text ≡ drill_text plan d
       → IsPartlyGiven text given given' × ((s ≡ status.OutOfMemory) ⊎ ((s ≡ status.OutFault) × Rose before.output now.output)) → IsEnd words files left given given' before now s
-  print-end plan d text given' s ready is (partly, inl memory) = subst (IsEnd words files left given given' before now) (sym memory) (text, partly)
-  print-end plan d text given' s ready is (partly, inr (fault, rose)) =
-      subst (IsEnd words files left given given' before now) (sym fault) (record { plan = plan; drilled = d; ready = ready; partly = subst (λ t. IsPartlyGiven t given given') is partly; rose = rose })
+  print-end plan d text given' s ready is (partly, why) = by (record { plan = plan; drilled = d; ready = ready; partly = subst (λ t. IsPartlyGiven t given given') is partly }) why
+    where
+      by : IsCutShort words files left given given' → (s ≡ status.OutOfMemory) ⊎ ((s ≡ status.OutFault) × Rose before.output now.output) → IsEnd words files left given given' before now s
+      by cut (inl memory) = subst (IsEnd words files left given given' before now) (sym memory) (inr cut)
+      by cut (inr (fault, rose)) = subst (IsEnd words files left given given' before now) (sym fault) (cut, rose)

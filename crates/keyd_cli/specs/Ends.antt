@@ -1,5 +1,5 @@
 -- How `drill` ends, by its words, the library's files, the input's bytes and what the output is given.
-use Rattle.std.specs.Prelude.{◌≡◌, ◌≤◌, ◌<◌, ℕ, List, [], ◌∷◌, ◌++◌, length, drop, Option, Some, Ok, Err}
+use Rattle.std.specs.Prelude.{◌≡◌, ◌⊎◌, ◌≤◌, ◌<◌, ℕ, List, [], ◌∷◌, ◌++◌, length, drop, Option, Some, Ok, Err}
 use Rattle.cause_core.specs.Counts.{Rose}
 use Rattle.io_core.specs.Files.{Files}
 use Rattle.io_core.specs.Told.{Told}
@@ -96,13 +96,12 @@ pub record IsDone (words : List Word) (files : Option Files) (left given given' 
   pub replies_are : replies ≡ drilled.replies.items
   pub drill_is : drill ≡ drilled.end ∷ []
 
--- the output failed, having been given a front of the text; its count of faults was and is this
-pub record IsOutFault (words : List Word) (files : Option Files) (left given given' : Option (List ℕ)) (faults faults' : ℕ) : Type 0 where
+-- It was drilled, and the output was given a front of its text.
+pub record IsCutShort (words : List Word) (files : Option Files) (left given given' : Option (List ℕ)) : Type 0 where
   pub plan : DrillPlan
   pub drilled : Drilled
   pub ready : IsReady words files left plan drilled
   pub partly : IsPartlyGiven (drill_text plan drilled) given given'
-  pub rose : Rose faults faults'
 
 -- The counts of faults of the library, the input and the output, and the library's count of absences.
 pub record Counts : Type 0 where
@@ -115,7 +114,7 @@ pub record Counts : Type 0 where
 abbrev pub IsPastKeys : List Word → Option Files → (DrillPlan → Type 0) → Type 0
 IsPastKeys words files P = IsDrill words × IsKeyed (drop 1 words) files × ((plan : DrillPlan) × IsPlan (drop 1 words) plan × P plan)
 
--- Why the command isn't done. But for a fault of the output, or want of memory there, the output was given nothing.
+-- Why the command isn't done. But for a fault of the output, or where it was refused memory, the output was given nothing.
 abbrev pub IsEnd : List Word → Option Files → Option (List ℕ) → Option (List ℕ) → Option (List ℕ) → Counts → Counts → Status → Type 0
 IsEnd words files left given given' before now (status.Usage i) = IsUsage words i × (given' ≡ given)
 IsEnd words files left given given' before now (status.KeyFile index fault) = IsDrill words × IsKeyEnd (drop 1 words) files before.library now.library before.absences now.absences (status.KeyFile index fault) × (given' ≡ given)
@@ -124,8 +123,8 @@ IsEnd words files left given given' before now status.FileFault = IsDrill words 
 IsEnd words files left given given' before now status.ScriptTooLarge = IsPastKeys words files (λ plan. IsInputEnd plan left before.input now.input status.ScriptTooLarge) × (given' ≡ given)
 IsEnd words files left given given' before now status.InputFault = IsPastKeys words files (λ plan. IsInputEnd plan left before.input now.input status.InputFault) × (given' ≡ given)
 IsEnd words files left given given' before now (status.NotBuilt line) = IsPastKeys words files (λ plan. IsInputEnd plan left before.input now.input (status.NotBuilt line)) × (given' ≡ given)
-IsEnd words files left given given' before now status.OutFault = IsOutFault words files left given given' before.output now.output
-IsEnd words files left given given' before now status.OutOfMemory = (text : List ℕ) × IsPartlyGiven text given given'
+IsEnd words files left given given' before now status.OutFault = IsCutShort words files left given given' × Rose before.output now.output
+IsEnd words files left given given' before now status.OutOfMemory = (given' ≡ given) ⊎ IsCutShort words files left given given'
 IsEnd words files left given given' before now status.Done = ⊥
 
 -- ---- what is enough to be done

@@ -14,7 +14,8 @@
 //!    missing, and no more than those acknowledged are kept where there was no stop or each unsynced
 //!    write is lost.
 //! 4. At Done the output was given exactly the lines of the session and the report of the pages after
-//!    the entries that are kept; after a fault of the output a front of that text; else nothing.
+//!    the entries that are kept; after a fault of the output, or where it was refused memory, a front
+//!    of that text; else nothing.
 //! 5. The disk that is handed in and the files of the library are as they were. It always returns.
 #![tactic(auto)]
 
