@@ -1,20 +1,17 @@
 -- A number of 16 bytes, highest first, as four words whose bytes are turned round.
-use Rattle.std.proofs.Common.{◌≡◌, ℕ, ◌*◌, ◌/◌, ◌%◌, ◌^◌, ◌<◌, [], ◌∷◌, ◌++◌, refl, ap, ◌∙◌, arith}
+use Rattle.std.proofs.Common.{◌≡◌, ℕ, ◌*◌, ◌/◌, ◌%◌, [], ◌∷◌, ◌++◌, refl, ap, ◌∙◌, arith}
 use Rattle.std.specs.Int.{byte_at, from_be_bytes, from_le_bytes, swap_bytes, to_be_bytes, to_le_bytes, w32, w128}
 use Rattle.std.proofs.Math.Nat.{div-div-eq-div-mul}
 use Rattle.std.proofs.lemmas.Nat.{le_bytes_4}
-use Rattle.aes_core.proofs.Inverse.{bytes_four}
+use Rattle.aes_core.proofs.Inverse.{byte_at-lt, bytes_four}
 
 turned : (a b c d : ℕ) → from_be_bytes w32 (a ∷ b ∷ c ∷ d ∷ []) ≡ from_le_bytes w32 (d ∷ c ∷ b ∷ a ∷ [])
 turned a b c d = omega arith
 
-below : (m : ℕ) → m % 256 < 256
-below m = omega arith
-
 pub swapped : (m s : ℕ) → s ≡ swap_bytes w32 m → to_le_bytes w32 s ≡ to_be_bytes w32 m
 swapped m s e =
     le_bytes_4 (byte_at 3 m ∷ byte_at 2 m ∷ byte_at 1 m ∷ byte_at 0 m ∷ []) s refl
-    (bytes_four (byte_at 3 m) (byte_at 2 m) (byte_at 1 m) (byte_at 0 m) (below (m / 256 ^ 3)) (below (m / 256 ^ 2)) (below (m / 256 ^ 1)) (below m))
+    (bytes_four (byte_at 3 m) (byte_at 2 m) (byte_at 1 m) (byte_at 0 m) (byte_at-lt 3 m) (byte_at-lt 2 m) (byte_at-lt 1 m) (byte_at-lt 0 m))
     (e ∙ turned (byte_at 0 m) (byte_at 1 m) (byte_at 2 m) (byte_at 3 m))
 
 -- the low word of a number

@@ -1,9 +1,11 @@
 -- Each step of AES is undone by its inverse, and so is the cipher, in both directions.
-use Rattle.std.proofs.Common.{◌≡◌, ℕ, zero, suc, ◌+◌, ◌-◌, ◌*◌, ◌/◌, ◌%◌, ◌<◌, ◌≤◌, List, [], ◌∷◌, ◌++◌, length, map, slice_index, bit_xor, refl, sym, ap, ◌∙◌, arith}
+use Rattle.std.proofs.Common.{◌≡◌, ℕ, zero, suc, ◌+◌, ◌-◌, ◌*◌, ◌/◌, ◌%◌, ◌^◌, ◌<◌, ◌≤◌, List, [], ◌∷◌, ◌++◌, length, map, slice_index, bit_xor, refl, sym, ap, ◌∙◌, arith}
+use Rattle.std.specs.Int.{byte_at}
 use Rattle.std.specs.List.{range_with_len}
 use Rattle.std.proofs.lemmas.List.{length-map}
 use Rattle.std.proofs.lemmas.Nat.{xor_lt}
 use Rattle.std.proofs.lemmas.Simd.{length-zip2}
+use lib.Lanes.{zip2}
 use Rattle.aes_core.specs.Field.{product_of, sub_byte, times, inv_sub_byte}
 use Rattle.aes_core.specs.Cipher.{AreBytes, IsBlock, after_rounds, before_rounds, circulant_times, column_times, decrypted_by, encrypted_by, mix_columns, round_key, row_times, shift_rows, sub_bytes, inv_mix_columns, inv_shift_rows, inv_sub_bytes, xored}
 use Rattle.aes_core.proofs.ByTable.{everywhere, sub-inv_sub, sub_byte-lt, inv_sub-sub, inv_sub_byte-lt}
@@ -39,11 +41,21 @@ bytes_map f h [] t i = omega arith
 bytes_map f h (x ∷ xs) t zero = h x (t 0)
 bytes_map f h (x ∷ xs) t (suc i) = bytes_map f h xs (λ j. t (suc j)) i
 
+bytes_zip2 : (f : ℕ → ℕ → ℕ) → ((a b : ℕ) → a < 256 → b < 256 → f a b < 256) → (xs ys : List ℕ) → AreBytes xs → AreBytes ys → AreBytes (zip2 f xs ys)
+bytes_zip2 f keeps [] ys h t i = omega arith
+bytes_zip2 f keeps (x ∷ xs) [] h t i = omega arith
+bytes_zip2 f keeps (x ∷ xs) (y ∷ ys) h t zero = keeps x y (h 0) (t 0)
+bytes_zip2 f keeps (x ∷ xs) (y ∷ ys) h t (suc i) = bytes_zip2 f keeps xs ys (λ j. h (suc j)) (λ j. t (suc j)) i
+
 pub bytes_xored : (xs ys : List ℕ) → AreBytes xs → AreBytes ys → AreBytes (xored xs ys)
-bytes_xored [] ys h t i = omega arith
-bytes_xored (x ∷ xs) [] h t i = omega arith
-bytes_xored (x ∷ xs) (y ∷ ys) h t zero = xor_lt 8 x y (h 0) (t 0)
-bytes_xored (x ∷ xs) (y ∷ ys) h t (suc i) = bytes_xored xs ys (λ j. h (suc j)) (λ j. t (suc j)) i
+bytes_xored xs ys h t = bytes_zip2 bit_xor (xor_lt 8) xs ys h t
+
+pub byte_at-lt : (k n : ℕ) → byte_at k n < 256
+byte_at-lt zero n = omega arith
+byte_at-lt (suc i) n = below (n / 256 ^ suc i)
+  where
+    below : (m : ℕ) → m % 256 < 256
+    below m = omega arith
 
 map_back : (f g : ℕ → ℕ) → ((a : ℕ) → a < 256 → g (f a) ≡ a) → (xs : List ℕ) → AreBytes xs → map g (map f xs) ≡ xs
 map_back f g h [] t = refl
@@ -56,8 +68,11 @@ xored_twice (x ∷ xs) (y ∷ ys) h = (λ i. xor_twice x y i ∷ xored_twice xs 
 
 -- ---- the steps keep blocks
 
+pub block_zip2 : (f : ℕ → ℕ → ℕ) → ((a b : ℕ) → a < 256 → b < 256 → f a b < 256) → (s k : List ℕ) → IsBlock s → IsBlock k → IsBlock (zip2 f s k)
+block_zip2 f keeps s k h t = record { long = length-zip2 f s k (h.long ∙ sym t.long) ∙ h.long; bytes = bytes_zip2 f keeps s k h.bytes t.bytes }
+
 pub block_xored : (s k : List ℕ) → IsBlock s → IsBlock k → IsBlock (xored s k)
-block_xored s k h t = record { long = length-zip2 bit_xor s k (h.long ∙ sym t.long) ∙ h.long; bytes = bytes_xored s k h.bytes t.bytes }
+block_xored s k h t = block_zip2 bit_xor (xor_lt 8) s k h t
 
 pub block_sub : (s : List ℕ) → IsBlock s → IsBlock (sub_bytes s)
 block_sub s h = record { long = length-map s sub_byte ∙ h.long; bytes = bytes_map sub_byte sub_byte-lt s h.bytes }

@@ -4,10 +4,10 @@ use Rattle.std.proofs.lemmas.Bool.{cases_lt}
 use Rattle.std.proofs.lemmas.List.{append-nil, drop-drop, drop_all, drop_at, take-append-drop, take_at}
 use Rattle.std.proofs.Math.Seq.{take-add}
 use Rattle.aes_core.specs.Cipher.{AreBytes, IsBlock, IsKey, decrypted, encrypted, round_count, schedule, xored}
-use Rattle.std.specs.Int.{byte_at, from_be_bytes, w128}
+use Rattle.std.specs.Int.{byte_at, from_be_bytes, to_be_bytes, w128}
 use Rattle.aes_core.specs.Modes.{block_at, block_before, cbc_blocks, cbc_tail, chain, counter_at, ctr, joined, key_stream, masked_tail, tail_of, uncbc_blocks, uncbc_tail, whole_blocks}
 use Rattle.aes_core.proofs.BlockLoop.{AreBlocks, length-block_at, length-joined}
-use Rattle.aes_core.proofs.Inverse.{bytes_made, block_decrypted, block_encrypted, block_xored, decrypted-encrypted, encrypted-decrypted, xored_twice}
+use Rattle.aes_core.proofs.Inverse.{byte_at-lt, bytes_made, block_decrypted, block_encrypted, block_xored, decrypted-encrypted, encrypted-decrypted, xored_twice}
 use Rattle.aes_core.proofs.Schedule.{bytes_drop, bytes_take, keys_of}
 
 -- ---- texts of blocks
@@ -94,6 +94,10 @@ no_tail key iv xs h =
     let all : length xs ≤ 16 * (length xs / 16) = omega arith in
     ap (λ (l : List ℕ). xored l (encrypted key iv)) (drop_all (16 * (length xs / 16)) xs all)
 
+-- a whole block of a text
+pub block_of_text : (xs : List ℕ) (i : ℕ) → AreBytes xs → 16 * i + 16 ≤ length xs → IsBlock (block_at xs i)
+block_of_text xs i b h = record { long = length-block_at xs i h; bytes = bytes_take 16 (drop (16 * i) xs) (bytes_drop (16 * i) xs b) }
+
 module _ (key iv : List ℕ) (k : IsKey key) (v : IsBlock iv) where
   block_E : (s : List ℕ) → IsBlock s → IsBlock (encrypted key s)
   block_E s h = block_encrypted (schedule key) s (round_count key) (keys_of key k) h
@@ -107,20 +111,17 @@ module _ (key iv : List ℕ) (k : IsKey key) (v : IsBlock iv) where
   ED : (s : List ℕ) → IsBlock s → encrypted key (decrypted key s) ≡ s
   ED s h = encrypted-decrypted (schedule key) s (round_count key) (omega arith) (keys_of key k) h
 
-  part : (xs : List ℕ) (i : ℕ) → AreBytes xs → 16 * i + 16 ≤ length xs → IsBlock (block_at xs i)
-  part xs i b h = record { long = length-block_at xs i h; bytes = bytes_take 16 (drop (16 * i) xs) (bytes_drop (16 * i) xs b) }
-
   cancelled : (s t : List ℕ) → IsBlock s → IsBlock t → xored (xored s t) t ≡ s
   cancelled s t h g = xored_twice s t (omega (arith, h.long, g.long))
 
   block_chain : (xs : List ℕ) (i : ℕ) → AreBytes xs → 16 * i ≤ length xs → IsBlock (chain key iv xs i)
   unfolding chain
   block_chain xs zero b h = v
-  block_chain xs (suc i) b h = block_E _ (block_xored (block_at xs i) (chain key iv xs i) (part xs i b (omega arith)) (block_chain xs i b (omega arith)))
+  block_chain xs (suc i) b h = block_E _ (block_xored (block_at xs i) (chain key iv xs i) (block_of_text xs i b (omega arith)) (block_chain xs i b (omega arith)))
 
   block_of_before : (xs : List ℕ) (i : ℕ) → AreBytes xs → 16 * i ≤ length xs → IsBlock (block_before iv xs i)
   block_of_before xs zero b h = v
-  block_of_before xs (suc i) b h = part xs i b (omega arith)
+  block_of_before xs (suc i) b h = block_of_text xs i b (omega arith)
 
   -- a text of blocks and a masked tail is as long as the text
   length-masked : (f : ℕ → List ℕ) (xs : List ℕ) → AreBlocks f (whole_blocks xs) → length (joined f (whole_blocks xs) ++ masked_tail key iv xs) ≡ length xs
@@ -152,7 +153,7 @@ module _ (key iv : List ℕ) (k : IsKey key) (v : IsBlock iv) where
       let before : (i : ℕ) → i < n → block_before iv c i ≡ chain key iv p i = before_is p c n f at in
       let each : (i : ℕ) → i < n → xored (decrypted key (block_at c i)) (block_before iv c i) ≡ block_at p i = λ i lt.
       let x : List ℕ = xored (block_at p i) (chain key iv p i) in
-      let hp : IsBlock (block_at p i) = part p i b (omega arith) in
+      let hp : IsBlock (block_at p i) = block_of_text p i b (omega arith) in
       let hc : IsBlock (chain key iv p i) = block_chain p i b (omega arith) in
       ap₂ (λ (y z : List ℕ). xored (decrypted key y) z) (at i lt) (before i lt)
       ∙ ap (λ (y : List ℕ). xored y (chain key iv p i)) (DE x (block_xored _ _ hp hc))
@@ -172,7 +173,7 @@ module _ (key iv : List ℕ) (k : IsKey key) (v : IsBlock iv) where
       let n : ℕ = whole_blocks c in
       let h = λ (i : ℕ). xored (decrypted key (block_at c i)) (block_before iv c i) in
       let p : List ℕ = uncbc_tail key iv c in
-      let hd : (i : ℕ) → i < n → IsBlock (decrypted key (block_at c i)) = λ i lt. block_D _ (part c i b (omega arith)) in
+      let hd : (i : ℕ) → i < n → IsBlock (decrypted key (block_at c i)) = λ i lt. block_D _ (block_of_text c i b (omega arith)) in
       let hb : (i : ℕ) → i < n → IsBlock (block_before iv c i) = λ i lt. block_of_before c i b (omega arith) in
       let blocks : AreBlocks h n = record { long = λ i lt. (block_xored _ _ (hd i lt) (hb i lt)).long } in
       let same : whole_blocks p ≡ n = ap (λ (m : ℕ). m / 16) (length-masked h c blocks) in
@@ -187,15 +188,15 @@ module _ (key iv : List ℕ) (k : IsKey key) (v : IsBlock iv) where
           → (i : ℕ) → i ≤ n → chain key iv p i ≡ block_before iv c i
       chain_is c p n b room at zero le = refl
       chain_is c p n b room at (suc i) le =
-          let hc : IsBlock (block_at c i) = part c i b (omega arith) in
+          let hc : IsBlock (block_at c i) = block_of_text c i b (omega arith) in
           ap₂ (λ (y z : List ℕ). encrypted key (xored y z)) (at i (omega arith)) (chain_is c p n b room at i (omega arith))
           ∙ ap (encrypted key) (cancelled (decrypted key (block_at c i)) (block_before iv c i) (block_D _ hc) (block_of_before c i b (omega arith)))
           ∙ ED (block_at c i) hc
 
   -- the text that comes of whole blocks: its length, and its last block
-  undone_blocks : (c : List ℕ) (n : ℕ) → AreBytes c → 16 * n ≤ length c → AreBlocks (λ i. xored (decrypted key (block_at c i)) (block_before iv c i)) n
+  pub undone_blocks : (c : List ℕ) (n : ℕ) → AreBytes c → 16 * n ≤ length c → AreBlocks (λ i. xored (decrypted key (block_at c i)) (block_before iv c i)) n
   undone_blocks c n b le =
-      record { long = λ i lt. (block_xored _ _ (block_D _ (part c i b (omega arith))) (block_of_before c i b (omega arith))).long }
+      record { long = λ i lt. (block_xored _ _ (block_D _ (block_of_text c i b (omega arith))) (block_of_before c i b (omega arith))).long }
 
   pub length-undone : (c : List ℕ) → AreBytes c → length (uncbc_tail key iv c) ≡ length c
   length-undone c b = length-masked (λ i. xored (decrypted key (block_at c i)) (block_before iv c i)) c (undone_blocks c (whole_blocks c) b (omega arith))
@@ -219,21 +220,12 @@ module _ (key iv : List ℕ) (k : IsKey key) (v : IsBlock iv) where
 
 -- ---- the key stream is blocks
 
-byte_at-lt : (k n : ℕ) → byte_at k n < 256
-byte_at-lt zero n = omega arith
-byte_at-lt (suc i) n = below (n / 256 ^ suc i)
-  where
-    below : (m : ℕ) → m % 256 < 256
-    below m = omega arith
-
-block_of_counter : (counter : List ℕ) (i : ℕ) → IsBlock (counter_at counter i)
-block_of_counter counter i =
-    let n : ℕ = (from_be_bytes w128 counter + i) % 2 ^ 128 in
-    record {
-      long = refl;
-      bytes = bytes_made (λ k. byte_at k n) (λ k. byte_at-lt k n) (15 ∷ 14 ∷ 13 ∷ 12 ∷ 11 ∷ 10 ∷ 9 ∷ 8 ∷ 7 ∷ 6 ∷ 5 ∷ 4 ∷ 3 ∷ 2 ∷ 1 ∷ 0 ∷ []);
-    }
+pub block_of_number : (n : ℕ) → IsBlock (to_be_bytes w128 n)
+block_of_number n = record {
+  long = refl;
+  bytes = bytes_made (λ k. byte_at k n) (λ k. byte_at-lt k n) (15 ∷ 14 ∷ 13 ∷ 12 ∷ 11 ∷ 10 ∷ 9 ∷ 8 ∷ 7 ∷ 6 ∷ 5 ∷ 4 ∷ 3 ∷ 2 ∷ 1 ∷ 0 ∷ []);
+}
 
 pub stream_blocks : (key counter : List ℕ) → IsKey key → (n : ℕ) → AreBlocks (λ j. encrypted key (counter_at counter j)) n
 stream_blocks key counter k n =
-    record { long = λ i lt. (block_encrypted (schedule key) (counter_at counter i) (round_count key) (keys_of key k) (block_of_counter counter i)).long }
+    record { long = λ i lt. (block_encrypted (schedule key) (counter_at counter i) (round_count key) (keys_of key k) (block_of_number ((from_be_bytes w128 counter + i) % 2 ^ 128))).long }

@@ -1,12 +1,15 @@
 // A key for the bodies by tables: the keys of the rounds as words, for both directions.
 
-ghost use Rattle.std.specs.Prelude.{◌≡◌, ℕ, ◌+◌, ◌*◌, ◌/◌, ◌<◌, ◌≤◌, List, length, take, drop, MatchOption};
-ghost use Rattle.aes_core.specs.Cipher.{IsBlock, IsKey, IsKeyLength, IsWordReady, bytes_of, decrypted, encrypted, round_key, state_of, inv_mix_columns};
+ghost use Rattle.std.specs.Prelude.{◌≡◌, ℕ, ◌+◌, ◌*◌, ◌/◌, ◌<◌, ◌≤◌, List, [], length, take, drop, get_or, MatchOption};
+ghost use Rattle.aes_core.specs.Cipher.{IsBlock, IsKey, IsKeyLength, IsWordReady, bytes_of, decrypted, encrypted, round_count, round_key, schedule, state_of, inv_mix_columns};
+ghost use Rattle.aes_core.specs.Planes.{AreKeyPlanes, ArePlanes};
 ghost use Rattle.aes_core.specs.Modes.{joined};
 
 use crate::expansion::expand;
+use crate::planes::{KeyPlanes, decrypt_eight, encrypt_eight, key_planes};
 use crate::{plain, words};
 use std::marker::Model;
+use std::simd::prelude::*;
 
 /// An AES key of 16, 24 or 32 bytes, with the keys of its rounds ready for the tables, both ways.
 /// Contracts see the key's bytes.
@@ -105,6 +108,38 @@ impl BlockKey {
     {
         let rounds = self.key_len / 4 + 6;
         words::encrypt(&self.words[0..4 * (rounds + 1)], rounds, block);
+    }
+
+    // The keys of the rounds as planes of bits, for `encrypt_eight` and `decrypt_eight`.
+    pub(crate) fn planes(&self) -> KeyPlanes
+        ensures { AreKeyPlanes result (schedule self.now) (round_count self.now) }
+    {
+        let rounds = self.key_len / 4 + 6;
+        key_planes(&self.words[0..4 * (rounds + 1)], rounds)
+    }
+
+    // Enciphers eight blocks, `planes` being those of this key.
+    #[inline(always)]
+    pub(crate) fn encrypt_eight(&self, planes: &KeyPlanes, blocks: [u8x16; 8]) -> [u8x16; 8]
+        requires key { AreKeyPlanes planes.now (schedule self.now) (round_count self.now) }
+        requires blocks { ArePlanes blocks }
+        ensures planes { ArePlanes result }
+        ensures value { (b : ℕ) → b < 8 → get_or result b [] ≡ encrypted self.now (get_or blocks b []) }
+    {
+        let rounds = self.key_len / 4 + 6;
+        encrypt_eight(planes, rounds, blocks)
+    }
+
+    // Deciphers eight blocks, `planes` being those of this key.
+    #[inline(always)]
+    pub(crate) fn decrypt_eight(&self, planes: &KeyPlanes, blocks: [u8x16; 8]) -> [u8x16; 8]
+        requires key { AreKeyPlanes planes.now (schedule self.now) (round_count self.now) }
+        requires blocks { ArePlanes blocks }
+        ensures planes { ArePlanes result }
+        ensures value { (b : ℕ) → b < 8 → get_or result b [] ≡ decrypted self.now (get_or blocks b []) }
+    {
+        let rounds = self.key_len / 4 + 6;
+        decrypt_eight(planes, rounds, blocks)
     }
 
     /// Deciphers the block in place (FIPS 197, 5.3): what it leaves there enciphers to what was there, and what was

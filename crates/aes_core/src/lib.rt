@@ -9,17 +9,24 @@
 //! Each deciphering call undoes its enciphering call for every length. Nothing here takes memory but
 //! the two padded calls, and nothing is refused but a key of another length and padded bytes.
 //!
-//! The bodies read tables at places that depend on the key and the text, so their time does too: no
-//! constant time is claimed. [`plain`] has the bodies without tables of columns, for comparison.
+//! One block goes by tables of columns; where blocks go side by side, in CTR and in deciphering CBC,
+//! eight at a time go as planes of bits, without tables, and what is left four at a time and one by
+//! one. The tables are read at places that depend on the key and the text, so the time does too: no
+//! constant time is claimed. [`plain`] has the bodies without either, for comparison.
 #![tactic(auto)]
 
 mod algorithm;
+mod circuit;
 mod expansion;
+mod inv_circuit;
 mod key;
+mod layers;
 mod modes;
 mod pad;
 pub mod plain;
+mod planes;
 mod tables;
+mod transpose;
 mod words;
 mod xor;
 

@@ -1,13 +1,17 @@
-// CBC with tail, and CTR. What can go block beside block goes four at a time.
+// CBC with tail, and CTR. What can go block beside block goes eight at a time as planes of bits, then
+// four at a time.
 
-ghost use Rattle.std.specs.Prelude.{◌≡◌, ℕ, List, ◌+◌, ◌*◌, ◌%◌, ◌^◌, ◌<◌, ◌≤◌, length};
+ghost use Rattle.std.specs.Prelude.{◌≡◌, ℕ, List, [], ◌∷◌, ◌++◌, ◌+◌, ◌*◌, ◌/◌, ◌%◌, ◌^◌, ◌<◌, ◌≤◌, length, drop, get_or};
 ghost use Rattle.std.specs.Int.{to_be_bytes, w128};
-ghost use Rattle.aes_core.specs.Cipher.{AreBytes, decrypted, encrypted, xored};
-ghost use Rattle.aes_core.specs.Modes.{block_at, cbc_tail, ctr, uncbc_tail};
+ghost use Rattle.aes_core.specs.Cipher.{AreBytes, IsBlock, decrypted, encrypted, round_count, schedule, xored};
+ghost use Rattle.aes_core.specs.Modes.{block_at, block_before, cbc_tail, ctr, joined, uncbc_tail};
+ghost use Rattle.aes_core.specs.Planes.{AreKeyPlanes, ArePlanes};
 
 use crate::key::BlockKey;
+use crate::planes::KeyPlanes;
 use crate::words::store;
-use crate::xor::{xor_sixteen, xor_with};
+use crate::xor::{xor_lanes, xor_sixteen, xor_with};
+use std::simd::prelude::*;
 
 /// Enciphers bytes of any number in place, in CBC with tail (this project's own): the whole blocks
 /// in CBC (SP 800-38A, 6.2), a last partial block by XOR with the first bytes of what the IV
@@ -57,6 +61,89 @@ fn plain_block(key: &BlockKey, cipher: [u8; 16], before: &[u8; 16]) -> [u8; 16]
     block
 }
 
+// Block i of the bytes, in a vector.
+#[inline(always)]
+fn lanes_of(bytes: &[u8], i: usize) -> u8x16
+    requires { 16 * i + 16 ≤ length bytes.now }
+    ensures { result ≡ block_at bytes.now i }
+{
+    u8x16::from_array(block_of(bytes, i))
+}
+
+// Eight blocks, from block i on.
+#[inline(always)]
+fn eight_of(bytes: &[u8], i: usize) -> [u8x16; 8]
+    requires { 16 * i + 128 ≤ length bytes.now }
+    ensures planes { ArePlanes result }
+    ensures value { (k : ℕ) → k < 8 → get_or result k [] ≡ block_at bytes.now (i + k) }
+{
+    [
+        lanes_of(bytes, i),
+        lanes_of(bytes, i + 1),
+        lanes_of(bytes, i + 2),
+        lanes_of(bytes, i + 3),
+        lanes_of(bytes, i + 4),
+        lanes_of(bytes, i + 5),
+        lanes_of(bytes, i + 6),
+        lanes_of(bytes, i + 7),
+    ]
+}
+
+// Eight blocks in place of 128 bytes.
+#[inline(always)]
+fn put_eight(to: &mut [u8], blocks: &[u8x16; 8])
+    requires room { length to.old ≡ 128 }
+    requires blocks { ArePlanes blocks.now }
+    ensures { to.new ≡ joined (λ k. get_or blocks.now k []) 8 }
+{
+    for k in 0..8 {
+        blocks[k].copy_to_slice(&mut to[16 * k..16 * k + 16]);
+    }
+}
+
+// The plain blocks of eight cipher blocks in CBC, `before` being the cipher block before them.
+#[inline(always)]
+fn plain_eight(key: &BlockKey, planes: &KeyPlanes, cipher: [u8x16; 8], before: u8x16) -> [u8x16; 8]
+    requires key { AreKeyPlanes planes.now (schedule key.now) (round_count key.now) }
+    requires cipher { ArePlanes cipher }
+    requires before { IsBlock before }
+    ensures planes { ArePlanes result }
+    ensures value { (k : ℕ) → k < 8 → get_or result k [] ≡ xored (decrypted key.now (get_or cipher k [])) (get_or (before ∷ cipher) k []) }
+{
+    let text = key.decrypt_eight(planes, cipher);
+    [
+        text[0] ^ before,
+        text[1] ^ cipher[0],
+        text[2] ^ cipher[1],
+        text[3] ^ cipher[2],
+        text[4] ^ cipher[3],
+        text[5] ^ cipher[4],
+        text[6] ^ cipher[5],
+        text[7] ^ cipher[6],
+    ]
+}
+
+// CBC deciphered on as many groups of eight blocks as there are. The value is the cipher block before
+// the rest, or the IV. `known` is for the caller, which cannot tell of bytes that are gone.
+fn decrypt_eights(key: &BlockKey, iv: &[u8; 16], bytes: &mut [u8]) -> [u8; 16]
+    ensures value { bytes.new ≡ joined (λ j. xored (decrypted key.now (block_at bytes.old j)) (block_before iv.now bytes.old j)) (8 * (length bytes.old / 128)) ++ drop (128 * (length bytes.old / 128)) bytes.old }
+    ensures before { result ≡ block_before iv.now bytes.old (8 * (length bytes.old / 128)) }
+    ensures known { AreBytes bytes.old }
+{
+    if bytes.len() < 128 {
+        return *iv;
+    }
+    let planes = key.planes();
+    let mut before = u8x16::from_array(*iv);
+    for i in 0..bytes.len() / 128 {
+        let cipher = eight_of(bytes, 8 * i);
+        let text = plain_eight(key, &planes, cipher, before);
+        put_eight(&mut bytes[128 * i..128 * i + 128], &text);
+        before = cipher[7];
+    }
+    before.to_array()
+}
+
 /// Deciphers bytes of any number in place, in CBC with tail: what it leaves there enciphers to what
 /// was there, and what [`cbc_tail_encrypt`] enciphered under this key and IV comes back.
 pub fn cbc_tail_decrypt(key: &BlockKey, iv: &[u8; 16], bytes: &mut [u8])
@@ -65,11 +152,12 @@ pub fn cbc_tail_decrypt(key: &BlockKey, iv: &[u8; 16], bytes: &mut [u8])
     ensures undoes { (p : List ℕ) → AreBytes p → bytes.old ≡ cbc_tail key.now iv.now p → bytes.new ≡ p }
 {
     key.known();
+    let eights = bytes.len() / 128;
     let fours = bytes.len() / 64;
     let count = bytes.len() / 16;
     let left = bytes.len() - 16 * count;
-    let mut before = *iv;
-    'fours: for i in 0..fours {
+    let mut before = decrypt_eights(key, iv, bytes);
+    'fours: for i in 2 * eights..fours {
         let a_at = 4 * i;
         let b_at = 4 * i + 1;
         let c_at = 4 * i + 2;
@@ -121,6 +209,61 @@ fn stream_block(key: &BlockKey, start: u128, i: usize) -> [u8; 16]
     block
 }
 
+// XOR of eight blocks into 128 bytes, by lanes.
+#[inline(always)]
+fn xor_eight(to: &mut [u8], with: &[u8x16; 8])
+    requires room { length to.old ≡ 128 }
+    requires blocks { ArePlanes with.now }
+    ensures { to.new ≡ joined (λ k. xored (block_at to.old k) (get_or with.now k [])) 8 }
+{
+    for k in 0..8 {
+        xor_lanes(&mut to[16 * k..16 * k + 16], with[k]);
+    }
+}
+
+// Counter block i, in a vector.
+#[inline(always)]
+fn counter_lanes(start: u128, i: usize) -> u8x16
+    ensures { result ≡ to_be_bytes w128 ((start + i) % 2 ^ 128) }
+{
+    u8x16::from_array(start.wrapping_add(i as u128).to_be_bytes())
+}
+
+// Eight blocks of the key stream, from block i on.
+#[inline(always)]
+fn stream_eight(key: &BlockKey, planes: &KeyPlanes, start: u128, i: usize) -> [u8x16; 8]
+    requires key { AreKeyPlanes planes.now (schedule key.now) (round_count key.now) }
+    requires room { i + 8 < 2 ^ 64 }
+    ensures planes { ArePlanes result }
+    ensures value { (k : ℕ) → k < 8 → get_or result k [] ≡ encrypted key.now (to_be_bytes w128 ((start + (i + k)) % 2 ^ 128)) }
+{
+    let counters = [
+        counter_lanes(start, i),
+        counter_lanes(start, i + 1),
+        counter_lanes(start, i + 2),
+        counter_lanes(start, i + 3),
+        counter_lanes(start, i + 4),
+        counter_lanes(start, i + 5),
+        counter_lanes(start, i + 6),
+        counter_lanes(start, i + 7),
+    ];
+    key.encrypt_eight(planes, counters)
+}
+
+// CTR on as many groups of eight blocks as there are.
+fn apply_eights(key: &BlockKey, start: u128, bytes: &mut [u8])
+    ensures { bytes.new ≡ joined (λ j. xored (block_at bytes.old j) (encrypted key.now (to_be_bytes w128 ((start + j) % 2 ^ 128)))) (8 * (length bytes.old / 128)) ++ drop (128 * (length bytes.old / 128)) bytes.old }
+{
+    if bytes.len() < 128 {
+        return;
+    }
+    let planes = key.planes();
+    for i in 0..bytes.len() / 128 {
+        let stream = stream_eight(key, &planes, start, 8 * i);
+        xor_eight(&mut bytes[128 * i..128 * i + 128], &stream);
+    }
+}
+
 /// Enciphers or deciphers bytes of any number in place, in CTR (SP 800-38A, 6.5): XOR with the key
 /// stream. The counter is the whole block as a big-endian number, plus one for each block, modulo
 /// 2^128. A second call with the same key and counter gives the bytes back.
@@ -131,10 +274,12 @@ pub fn ctr_apply(key: &BlockKey, counter: &[u8; 16], bytes: &mut [u8])
 {
     key.known();
     let start = u128::from_be_bytes(*counter);
+    let eights = bytes.len() / 128;
     let fours = bytes.len() / 64;
     let count = bytes.len() / 16;
     let left = bytes.len() - 16 * count;
-    'fours: for i in 0..fours {
+    apply_eights(key, start, bytes);
+    'fours: for i in 2 * eights..fours {
         let a_at = 4 * i;
         let b_at = 4 * i + 1;
         let c_at = 4 * i + 2;

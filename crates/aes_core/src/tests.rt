@@ -5,6 +5,7 @@ use crate::{
     Algorithm, BlockKey, PadFault, cbc_pad_decrypt, cbc_pad_encrypt, cbc_tail_decrypt,
     cbc_tail_encrypt, ctr_apply,
 };
+use std::alloc::Global;
 use std::process::Abort;
 
 // 00 01 02 .. 1f.
@@ -201,33 +202,47 @@ fn ctr_by_blocks(key: &PlainKey, counter: &[u8; 16], bytes: &mut [u8]) {
 }
 
 // The counter of the last block but one, so that it wraps.
+fn compare(rt: &impl Abort, alloc: Global, key: &[u8], n: usize) {
+    let by_tables = BlockKey::new(key).expect(rt, "a length of keys");
+    let by_steps = PlainKey::new(key).expect(rt, "a length of keys");
+    let iv = (u128::MAX - 1).to_be_bytes();
+    let mut text: Vec<u8> = Vec::new(alloc);
+    text.resize(n, 0).expect(rt, "memory");
+    for (i, b) in text.iter_mut().enumerate() {
+        *b = (i % 251) as u8;
+    }
+    let mut lanes = text.clone().expect(rt, "memory");
+    let mut blocks = text.clone().expect(rt, "memory");
+    cbc_tail_encrypt(&by_tables, &iv, &mut lanes);
+    cbc_by_blocks(&by_steps, &iv, &mut blocks);
+    assert!(rt; lanes == blocks, "CBC with tail of {n} bytes");
+    cbc_tail_decrypt(&by_tables, &iv, &mut lanes);
+    cbc_back_by_blocks(&by_steps, &iv, &mut blocks);
+    assert!(rt;
+        lanes == text && blocks == text,
+        "CBC with tail of {n} bytes, back"
+    );
+    cbc_back_by_blocks(&by_steps, &iv, &mut blocks);
+    cbc_tail_decrypt(&by_tables, &iv, &mut lanes);
+    assert!(rt; lanes == blocks, "CBC with tail of {n} bytes, deciphered");
+    ctr_apply(&by_tables, &iv, &mut lanes);
+    ctr_by_blocks(&by_steps, &iv, &mut blocks);
+    assert!(rt; lanes == blocks, "CTR of {n} bytes");
+}
+
+// Eight blocks are 128 bytes, four are 64.
 #[test]
 fn lanes_give_what_single_blocks_give(rt: HostRuntime) {
-    let by_tables = BlockKey::new(&counted()).expect(&rt, "a length of keys");
-    let by_steps = PlainKey::new(&counted()).expect(&rt, "a length of keys");
-    let iv = (u128::MAX - 1).to_be_bytes();
-    for n in [0, 1, 15, 16, 17, 63, 64, 65, 127, 4076, 16354] {
-        let mut text: Vec<u8> = Vec::new(rt.alloc());
-        text.resize(n, 0).expect(&rt, "memory");
-        for (i, b) in text.iter_mut().enumerate() {
-            *b = (i % 251) as u8;
-        }
-        let mut lanes = text.clone().expect(&rt, "memory");
-        let mut blocks = text.clone().expect(&rt, "memory");
-        cbc_tail_encrypt(&by_tables, &iv, &mut lanes);
-        cbc_by_blocks(&by_steps, &iv, &mut blocks);
-        assert!(rt; lanes == blocks, "CBC with tail of {n} bytes");
-        cbc_tail_decrypt(&by_tables, &iv, &mut lanes);
-        cbc_back_by_blocks(&by_steps, &iv, &mut blocks);
-        assert!(rt;
-            lanes == text && blocks == text,
-            "CBC with tail of {n} bytes, back"
-        );
-        cbc_back_by_blocks(&by_steps, &iv, &mut blocks);
-        cbc_tail_decrypt(&by_tables, &iv, &mut lanes);
-        assert!(rt; lanes == blocks, "CBC with tail of {n} bytes, deciphered");
-        ctr_apply(&by_tables, &iv, &mut lanes);
-        ctr_by_blocks(&by_steps, &iv, &mut blocks);
-        assert!(rt; lanes == blocks, "CTR of {n} bytes");
+    let key = counted();
+    for n in [
+        0, 1, 15, 16, 17, 63, 64, 65, 127, 128, 129, 191, 192, 255, 256, 257, 4076, 16354,
+    ] {
+        compare(&rt, rt.alloc(), &key, n);
+    }
+    let short = &key[..16];
+    let middle = &key[..24];
+    for n in [127, 128, 129, 337] {
+        compare(&rt, rt.alloc(), short, n);
+        compare(&rt, rt.alloc(), middle, n);
     }
 }

@@ -25,3 +25,12 @@ pub(crate) fn xor_sixteen(to: &mut [u8], with: &[u8])
     let lanes = u8x16::from_slice(to) ^ u8x16::from_slice(with);
     lanes.copy_to_slice(to);
 }
+
+#[inline(always)]
+pub(crate) fn xor_lanes(to: &mut [u8], with: u8x16)
+    requires { (length to.old ≡ 16) × (length with ≡ 16) }
+    ensures { to.new ≡ xored to.old with }
+{
+    let lanes = u8x16::from_slice(to) ^ with;
+    lanes.copy_to_slice(to);
+}

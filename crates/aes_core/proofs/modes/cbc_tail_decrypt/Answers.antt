@@ -1,22 +1,11 @@
-use Rattle.std.proofs.Common.{◌≡◌, ℕ, List, length, ◌+◌, ◌-◌, ◌*◌, ◌≤◌, ◌++◌, take, drop, length-drop, refl, sym, ap, ap₂, ◌∙◌, arith, add-one}
-use Rattle.std.proofs.lemmas.List.{drop-drop, drop_at}
+use Rattle.std.proofs.Common.{◌≡◌, ℕ, List, length, ◌+◌, ◌-◌, ◌*◌, ◌/◌, ◌≤◌, ◌++◌, drop, length-drop, refl, sym, ap, ap₂, ◌∙◌, arith, add-one}
 use borrow.Rule.Slice.PartMut.{put_mid}
 use Rattle.aes_core.specs.Cipher.{AreBytes, IsBlock, decrypted, encrypted, xored}
 use Rattle.aes_core.specs.Modes.{block_at, block_before, cbc_tail, joined, uncbc_tail, whole_blocks}
-use Rattle.aes_core.proofs.BlockLoop.{Written, length-joined, written_all, written_more, written_none, written_rest}
+use Rattle.aes_core.proofs.BlockLoop.{AreBlocks, Written, written_ahead, written_all, written_as, written_more, written_rest}
 use Rattle.aes_core.proofs.Loops.{xored_front}
-use Rattle.aes_core.proofs.ModeLaws.{cbc_redone, cbc_undone}
+use Rattle.aes_core.proofs.ModeLaws.{cbc_redone, cbc_undone, undone_blocks}
 use Rattle.aes_core.proofs.modes.cbc_tail_decrypt.Goals as goal
-
--- a block not yet written is as it was
-read_at : (f : ℕ → List ℕ) (xs now : List ℕ) (n m : ℕ) → Written f xs now n → n ≤ m → block_at now m ≡ block_at xs m
-read_at f xs now n m w le =
-    let d : ℕ = m - n in
-    let at : 16 * n + 16 * d ≡ 16 * m = omega arith in
-    let rest : drop (16 * n) now ≡ drop (16 * n) xs = ap (drop (16 * n)) w.text ∙ drop_at (joined f n) (drop (16 * n) xs) (16 * n) (length-joined f n w.blocks) in
-    ap (take 16)
-    (sym (drop-drop (16 * d) (16 * n) now ∙ ap (λ (k : ℕ). drop k now) at)
-    ∙ ap (drop (16 * d)) rest ∙ drop-drop (16 * d) (16 * n) xs ∙ ap (λ (k : ℕ). drop k xs) at)
 
 -- one block on
 one_more : (key iv xs now text cipher before ys : List ℕ) (n m k : ℕ)
@@ -29,7 +18,22 @@ one_more key iv xs now text cipher before ys n m k w em room ek ec eb made is ly
     (written_more h xs now ys n k w room ek (is ∙ made ∙ ap₂ (λ (a b : List ℕ). xored (decrypted key a) b) ec eb) ly)
 
 pub fours-init : goal.fours-init
-fours-init c = ((λ i. omega (arith, c.type_inv.bytes i)), refl, written_none _ c.args.bytes.now)
+fours-init c =
+    let key : List ℕ = c.args.key.now in
+    let iv : List ℕ = c.args.iv.now in
+    let xs : List ℕ = c.args.bytes.now in
+    let n : ℕ = 8 * (length xs / 128) in
+    let h = λ (j : ℕ). xored (decrypted key (block_at xs j)) (block_before iv xs j) in
+    let bytes : AreBytes xs = c.decrypt_eights-before.ensures.known in
+    let blocks : AreBlocks h n = undone_blocks key iv c.known.ensures (record { long = c.told-iv; bytes = c.fits-iv }) xs n bytes (omega arith) in
+    let same : 128 * (length xs / 128) ≡ 16 * n = omega arith in
+    let made : c.decrypt_eights-before.new.bytes ≡ joined h n ++ drop (16 * n) xs =
+    c.decrypt_eights-before.ensures.value ∙ ap (λ (m : ℕ). joined h n ++ drop m xs) same in
+    let e : n ≡ 4 * (2 * (length xs / 128)) = omega arith in (
+      bytes,
+      c.decrypt_eights-before.ensures.before ∙ ap (block_before iv xs) e,
+      rw (← e) (written_as h xs c.decrypt_eights-before.new.bytes n blocks (omega arith) made),
+    )
 
 pub fours-preserved : goal.fours-preserved
 fours-preserved c =
@@ -43,10 +47,10 @@ fours-preserved c =
     let room : 16 * n + 64 ≤ length xs = omega arith in
     let two : 4 * i + 2 ≡ n + 1 + 1 = omega arith in
     let three : 4 * i + 3 ≡ n + 1 + 1 + 1 = omega arith in
-    let ea : c.block_of-a.result ≡ block_at xs n = c.block_of-a.ensures ∙ read_at h xs c.fours.bytes n n w0 (omega arith) in
-    let eb : c.block_of-b.result ≡ block_at xs (n + 1) = c.block_of-b.ensures ∙ read_at h xs c.fours.bytes n (n + 1) w0 (omega arith) in
-    let ec : c.block_of-c.result ≡ block_at xs (n + 1 + 1) = c.block_of-c.ensures ∙ read_at h xs c.fours.bytes n (4 * i + 2) w0 (omega arith) ∙ ap (block_at xs) two in
-    let ed : c.block_of-d.result ≡ block_at xs (n + 1 + 1 + 1) = c.block_of-d.ensures ∙ read_at h xs c.fours.bytes n (4 * i + 3) w0 (omega arith) ∙ ap (block_at xs) three in
+    let ea : c.block_of-a.result ≡ block_at xs n = c.block_of-a.ensures ∙ written_ahead h xs c.fours.bytes n n w0 (omega arith) in
+    let eb : c.block_of-b.result ≡ block_at xs (n + 1) = c.block_of-b.ensures ∙ written_ahead h xs c.fours.bytes n (n + 1) w0 (omega arith) in
+    let ec : c.block_of-c.result ≡ block_at xs (n + 1 + 1) = c.block_of-c.ensures ∙ written_ahead h xs c.fours.bytes n (4 * i + 2) w0 (omega arith) ∙ ap (block_at xs) two in
+    let ed : c.block_of-d.result ≡ block_at xs (n + 1 + 1 + 1) = c.block_of-d.ensures ∙ written_ahead h xs c.fours.bytes n (4 * i + 3) w0 (omega arith) ∙ ap (block_at xs) three in
     let w1 = one_more key iv xs c.fours.bytes c.plain_block-ta.result c.block_of-a.result c.fours.before c.copy_from_slice.new.self n n (16 * n + 16 - 16 * n)
     w0 refl (omega arith) (omega arith) ea c.fours.invariant.1 c.plain_block-ta.ensures c.copy_from_slice.ensures.after (omega (arith, ap length c.copy_from_slice.ensures.after)) in
     let w2 = one_more key iv xs _ c.plain_block-tb.result c.block_of-b.result c.block_of-a.result c.copy_from_slice-in-fours.new.self (n + 1) (4 * i + 1) (16 * (4 * i + 1) + 16 - 16 * (4 * i + 1))
@@ -68,7 +72,7 @@ rest-preserved c =
     let xs : List ℕ = c.args.bytes.now in
     let k : ℕ = c.rest.k in
     let h = λ (j : ℕ). xored (decrypted key (block_at xs j)) (block_before iv xs j) in
-    let ea : c.block_of-cipher.result ≡ block_at xs k = c.block_of-cipher.ensures ∙ read_at h xs c.rest.bytes k k c.rest.invariant.2 (omega arith) in (
+    let ea : c.block_of-cipher.result ≡ block_at xs k = c.block_of-cipher.ensures ∙ written_ahead h xs c.rest.bytes k k c.rest.invariant.2 (omega arith) in (
       c.rest.invariant.0,
       ea ∙ ap (block_before iv xs) (sym (add-one k)),
       one_more key iv xs c.rest.bytes c.plain_block-text.result c.block_of-cipher.result c.rest.before c.copy_from_slice-in-rest.new.self k k (16 * k + 16 - 16 * k)

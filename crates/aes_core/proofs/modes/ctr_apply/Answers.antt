@@ -6,7 +6,7 @@ use Rattle.aes_core.specs.Cipher.{encrypted, xored}
 use Rattle.aes_core.specs.Modes.{block_at, counter_at, ctr, joined, whole_blocks}
 use Rattle.std.proofs.Common.{bit_xor}
 use Rattle.std.proofs.lemmas.Simd.{length-zip2}
-use Rattle.aes_core.proofs.BlockLoop.{AreBlocks, Written, length-block_at, written_all, written_more, written_none, written_read, written_rest}
+use Rattle.aes_core.proofs.BlockLoop.{AreBlocks, Written, length-block_at, written_all, written_as, written_more, written_read, written_rest}
 use Rattle.aes_core.proofs.Loops.{xored_front}
 use Rattle.aes_core.proofs.ModeLaws.{ctr_is, ctr_twice, stream_blocks}
 use Rattle.aes_core.proofs.modes.ctr_apply.Goals as goal
@@ -37,7 +37,28 @@ at_place : (key counter xs now : List ℕ) (n m : ℕ) → n ≡ m → Reached k
 at_place key counter xs now n m e r = rw (← e) r
 
 pub fours-init : goal.fours-init
-fours-init c = (record { long = λ j lt. absurd (omega arith) }, written_none _ c.args.bytes.now)
+fours-init c =
+    let key : List ℕ = c.args.key.now in
+    let xs : List ℕ = c.args.bytes.now in
+    let counter : List ℕ = c.args.counter.now in
+    let n : ℕ = 8 * (length xs / 128) in
+    let g = λ (j : ℕ). encrypted key (counter_at counter j) in
+    let f = λ (j : ℕ). xored (block_at xs j) (g j) in
+    let blocks : AreBlocks g n = stream_blocks key counter c.known.ensures n in
+    let each : AreBlocks f n = record {
+      long = λ j lt.
+          let lb : length (block_at xs j) ≡ 16 = length-block_at xs j (omega arith) in
+          let lg : length (g j) ≡ 16 = blocks.long j lt in
+          length-zip2 bit_xor (block_at xs j) (g j) (lb ∙ sym lg) ∙ lb;
+    } in
+    let same : 128 * (length xs / 128) ≡ 16 * n = omega arith in
+    let made : c.apply_eights.new.bytes ≡ joined f n ++ drop (16 * n) xs =
+    c.apply_eights.ensures
+    ∙ ap (λ (s : ℕ). joined (λ j. xored (block_at xs j) (encrypted key (to_be_bytes w128 ((s + j) % 2 ^ 128)))) n ++ drop (128 * (length xs / 128)) xs) c.from_be_bytes-start.ensures
+    ∙ ap (λ (m : ℕ). joined f n ++ drop m xs) same in
+    let e : n ≡ 4 * (2 * (length xs / 128)) = omega arith in
+    let r = at_place key counter xs c.apply_eights.new.bytes n (4 * (2 * (length xs / 128))) e (record { blocks = blocks; text = written_as f xs c.apply_eights.new.bytes n each (omega arith) made }) in
+    (r.blocks, r.text)
 
 pub fours-preserved : goal.fours-preserved
 fours-preserved c =
