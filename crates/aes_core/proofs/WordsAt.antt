@@ -1,28 +1,40 @@
 -- A round by tables is a round.
-use Rattle.std.proofs.Common.{slice_index, ◌++◌, ap₂, ◌≡◌, ℕ, zero, suc, ◌≤◌, length, take, drop, ◌+◌, ◌*◌, ◌/◌, ◌%◌, ◌^◌, ◌<◌, List, [], ◌∷◌, map, get_or, bit_and, bit_xor, refl, sym, ap, ◌∙◌, arith}
+use Rattle.std.proofs.Common.{slice_index, ◌++◌, ap₂, ◌≡◌, ℕ, zero, suc, ◌≤◌, length, take, drop, ◌+◌, ◌-◌, ◌*◌, ◌/◌, ◌%◌, ◌^◌, ◌<◌, List, [], ◌∷◌, map, get_or, bit_and, bit_xor, refl, sym, ap, ◌∙◌, arith}
 use Rattle.std.specs.Int.{byte_at, from_le_bytes, to_le_bytes, w32}
 use Rattle.std.specs.List.{range_with_len}
 use Rattle.std.proofs.lemmas.Nat.{and_mask, le_bytes_4, xor_mod, xor_shr}
-use lib.Bits.{xor_zero_l, xor_zero_r}
+use lib.Bits.{xor_assoc, xor_zero_l, xor_zero_r}
 use Rattle.aes_core.specs.Field.{product_of, sub_byte, times, inv_sub_byte}
 use Rattle.aes_core.specs.Cipher.{bytes_of, circulant_times, round_key, state_of, sub_bytes, inv_mix_columns, xored}
-use Rattle.aes_core.specs.declared.tables.TheConstants.{INV_ROUNDS, INV_SUB, ROUNDS, SUB}
+use Rattle.aes_core.specs.declared.tables.TheConstants.{INV_ROUNDS, INV_SUB, LAST, ROUNDS, SUB}
 use Rattle.aes_core.proofs.Inverse.{bytes_four, sixteen_of}
-use Rattle.aes_core.proofs.Linear.{row_times-xor}
+use Rattle.aes_core.proofs.Linear.{row_times-xor, xor_swap}
 use Rattle.aes_core.proofs.ByTable.{everywhere, sub_at, inv_sub_at}
 
 -- the tables one by one
-abbrev ROUND_0 : List ℕ
+abbrev pub ROUND_0 : List ℕ
 ROUND_0 = get_or ROUNDS 0 []
 
-abbrev ROUND_1 : List ℕ
+abbrev pub ROUND_1 : List ℕ
 ROUND_1 = get_or ROUNDS 1 []
 
-abbrev ROUND_2 : List ℕ
+abbrev pub ROUND_2 : List ℕ
 ROUND_2 = get_or ROUNDS 2 []
 
-abbrev ROUND_3 : List ℕ
+abbrev pub ROUND_3 : List ℕ
 ROUND_3 = get_or ROUNDS 3 []
+
+abbrev pub LAST_0 : List ℕ
+LAST_0 = get_or LAST 0 []
+
+abbrev pub LAST_1 : List ℕ
+LAST_1 = get_or LAST 1 []
+
+abbrev pub LAST_2 : List ℕ
+LAST_2 = get_or LAST 2 []
+
+abbrev pub LAST_3 : List ℕ
+LAST_3 = get_or LAST 3 []
 
 abbrev INV_ROUND_0 : List ℕ
 INV_ROUND_0 = get_or INV_ROUNDS 0 []
@@ -41,6 +53,50 @@ bytes_xor a b =
     let at : (k : ℕ) → bit_xor a b / 2 ^ k % 2 ^ 8 ≡ bit_xor (a / 2 ^ k % 2 ^ 8) (b / 2 ^ k % 2 ^ 8) =
     λ k. ap (λ (n : ℕ). n % 2 ^ 8) (xor_shr a b k) ∙ xor_mod (a / 2 ^ k) (b / 2 ^ k) 8 in
     (λ i. xor_mod a b 8 i ∷ at 8 i ∷ at 16 i ∷ at 24 i ∷ [])
+
+-- four words and a key, by their bytes
+four_summed : (w0 w1 w2 w3 key : ℕ) (c0 c1 c2 c3 : List ℕ) → to_le_bytes w32 w0 ≡ c0 → to_le_bytes w32 w1 ≡ c1 → to_le_bytes w32 w2 ≡ c2 → to_le_bytes w32 w3 ≡ c3
+    → to_le_bytes w32 (bit_xor (bit_xor (bit_xor (bit_xor w0 w1) w2) w3) key) ≡ xored (xored (xored (xored c0 c1) c2) c3) (to_le_bytes w32 key)
+four_summed w0 w1 w2 w3 key c0 c1 c2 c3 e0 e1 e2 e3 =
+    bytes_xor (bit_xor (bit_xor (bit_xor w0 w1) w2) w3) key
+    ∙ ap (λ (x : List ℕ). xored x (to_le_bytes w32 key))
+    (bytes_xor (bit_xor (bit_xor w0 w1) w2) w3
+    ∙ ap (λ (x : List ℕ). xored x (to_le_bytes w32 w3))
+    (bytes_xor (bit_xor w0 w1) w2 ∙ ap (λ (x : List ℕ). xored x (to_le_bytes w32 w2)) (bytes_xor w0 w1))
+    ∙ (λ i. xored (xored (xored (e0 i) (e1 i)) (e2 i)) (e3 i)))
+
+-- ---- the four columns of a round, each added up in the order in which its bytes are looked up
+
+xor_into : (m n k : ℕ) → bit_xor n (bit_xor m k) ≡ bit_xor (bit_xor m n) k
+xor_into m n k = xor_swap n m k ∙ sym (xor_assoc m n k)
+
+-- what is looked up, and then the key
+looked_first : (x y z w key : ℕ) → bit_xor w (bit_xor z (bit_xor y (bit_xor x key))) ≡ bit_xor (bit_xor (bit_xor (bit_xor x y) z) w) key
+looked_first x y z w key =
+    ap (λ (n : ℕ). bit_xor w (bit_xor z n)) (xor_into x y key) ∙ ap (bit_xor w) (xor_into (bit_xor x y) z key) ∙ xor_into (bit_xor (bit_xor x y) z) w key
+
+-- the first that was added goes last
+turned : (x y z w key : ℕ) → bit_xor w (bit_xor z (bit_xor y (bit_xor x key))) ≡ bit_xor x (bit_xor w (bit_xor z (bit_xor y key)))
+turned x y z w key =
+    ap (λ (n : ℕ). bit_xor w (bit_xor z n)) (xor_swap y x key) ∙ ap (bit_xor w) (xor_swap z x (bit_xor y key)) ∙ xor_swap w x (bit_xor z (bit_xor y key))
+
+-- From one column, added up from its byte of row 0 on, all four: row by row the byte of a word is looked up by l0, l1, l2, l3.
+pub in_turn : (l0 l1 l2 l3 : ℕ → ℕ) (made : ℕ → ℕ → ℕ → ℕ → ℕ → List ℕ)
+    → ((a b c d key : ℕ) → d < 2 ^ 32 → to_le_bytes w32 (bit_xor (l3 d) (bit_xor (l2 c) (bit_xor (l1 b) (bit_xor (l0 a) key)))) ≡ made a b c d key)
+    → (a b c d p q r s : ℕ) → a < 2 ^ 32 → b < 2 ^ 32 → c < 2 ^ 32 → d < 2 ^ 32
+    → to_le_bytes w32 (bit_xor (l3 d) (bit_xor (l2 c) (bit_xor (l1 b) (bit_xor (l0 a) p))))
+    ++ to_le_bytes w32 (bit_xor (l2 d) (bit_xor (l1 c) (bit_xor (l0 b) (bit_xor (l3 a) q))))
+    ++ to_le_bytes w32 (bit_xor (l1 d) (bit_xor (l0 c) (bit_xor (l3 b) (bit_xor (l2 a) r))))
+    ++ to_le_bytes w32 (bit_xor (l0 d) (bit_xor (l3 c) (bit_xor (l2 b) (bit_xor (l1 a) s))))
+    ≡ made a b c d p ++ made b c d a q ++ made c d a b r ++ made d a b c s
+in_turn l0 l1 l2 l3 made one a b c d p q r s ha hb hc hd =
+    let ep = one a b c d p hd in
+    let eq = ap (to_le_bytes w32) (turned (l3 a) (l0 b) (l1 c) (l2 d) q) ∙ one b c d a q ha in
+    let er = ap (to_le_bytes w32) (turned (l2 a) (l3 b) (l0 c) (l1 d) r ∙ turned (l3 b) (l0 c) (l1 d) (l2 a) r) ∙ one c d a b r hb in
+    let es = ap (to_le_bytes w32) (turned (l1 a) (l2 b) (l3 c) (l0 d) s ∙ turned (l2 b) (l3 c) (l0 d) (l1 a) s ∙ turned (l3 c) (l0 d) (l1 a) (l2 b) s) ∙ one d a b c s hc in
+    (λ i. ep i ++ eq i ++ er i ++ es i)
+
+-- ---- a round
 
 column_0 : map (λ a. to_le_bytes w32 (get_or ROUND_0 a 0)) (range_with_len 0 256)
     ≡ map (λ a. times 2 (get_or SUB a 0) ∷ times 1 (get_or SUB a 0) ∷ times 1 (get_or SUB a 0) ∷ times 3 (get_or SUB a 0) ∷ []) (range_with_len 0 256)
@@ -75,7 +131,7 @@ read_3 : (a : ℕ) → a < 256 → to_le_bytes w32 (get_or ROUND_3 a 0) ≡ time
 read_3 a h = everywhere (λ a. to_le_bytes w32 (get_or ROUND_3 a 0)) (λ a. times 1 (get_or SUB a 0) ∷ times 1 (get_or SUB a 0) ∷ times 3 (get_or SUB a 0) ∷ times 2 (get_or SUB a 0) ∷ []) column_3 a h ∙ ap (λ (x : ℕ). times 1 x ∷ times 1 x ∷ times 3 x ∷ times 2 x ∷ []) (sub_at a h)
 
 pub column_is : (a b c d key : ℕ) → d < 2 ^ 32
-    → to_le_bytes w32 (bit_xor (bit_xor (bit_xor (bit_xor (get_or ROUND_0 (bit_and a 255) 0) (get_or ROUND_1 (bit_and (b / 256) 255) 0)) (get_or ROUND_2 (bit_and (c / 65536) 255) 0)) (get_or ROUND_3 (d / 16777216) 0)) key)
+    → to_le_bytes w32 (bit_xor (get_or ROUND_3 (d / 16777216) 0) (bit_xor (get_or ROUND_2 (bit_and (c / 65536) 255) 0) (bit_xor (get_or ROUND_1 (bit_and (b / 256) 255) 0) (bit_xor (get_or ROUND_0 (bit_and a 255) 0) key))))
     ≡ xored (circulant_times 2 3 1 1 (sub_byte (byte_at 0 a)) (sub_byte (byte_at 1 b)) (sub_byte (byte_at 2 c)) (sub_byte (byte_at 3 d))) (to_le_bytes w32 key)
 column_is a b c d key hd =
     let w0 : ℕ = get_or ROUND_0 (bit_and a 255) 0 in
@@ -87,38 +143,33 @@ column_is a b c d key hd =
     let e1 = ap (λ (n : ℕ). to_le_bytes w32 (get_or ROUND_1 n 0)) (and_mask (b / 256) 8) ∙ read_1 (b / 256 % 256) (omega arith) in
     let e2 = ap (λ (n : ℕ). to_le_bytes w32 (get_or ROUND_2 n 0)) (and_mask (c / 65536) 8) ∙ read_2 (c / 65536 % 256) (omega arith) in
     let e3 = ap (λ (n : ℕ). to_le_bytes w32 (get_or ROUND_3 n 0)) top ∙ read_3 (d / 16777216 % 256) (omega arith) in
-    bytes_xor (bit_xor (bit_xor (bit_xor w0 w1) w2) w3) key
-    ∙ ap (λ (x : List ℕ). xored x (to_le_bytes w32 key))
-    (bytes_xor (bit_xor (bit_xor w0 w1) w2) w3
-    ∙ ap (λ (x : List ℕ). xored x (to_le_bytes w32 w3))
-    (bytes_xor (bit_xor w0 w1) w2 ∙ ap (λ (x : List ℕ). xored x (to_le_bytes w32 w2)) (bytes_xor w0 w1))
-    ∙ (λ i. xored (xored (xored (e0 i) (e1 i)) (e2 i)) (e3 i)))
+    ap (to_le_bytes w32) (looked_first w0 w1 w2 w3 key) ∙ four_summed w0 w1 w2 w3 key _ _ _ _ e0 e1 e2 e3
 
 -- ---- the last round
 
-masked_0 : map (λ a. to_le_bytes w32 (bit_and (get_or ROUND_2 a 0) 255)) (range_with_len 0 256) ≡ map (λ a. get_or SUB a 0 ∷ 0 ∷ 0 ∷ 0 ∷ []) (range_with_len 0 256)
-masked_0 = refl
+last_0 : map (λ a. to_le_bytes w32 (get_or LAST_0 a 0)) (range_with_len 0 256) ≡ map (λ a. get_or SUB a 0 ∷ 0 ∷ 0 ∷ 0 ∷ []) (range_with_len 0 256)
+last_0 = refl
 
-masked_1 : map (λ a. to_le_bytes w32 (bit_and (get_or ROUND_3 a 0) 65280)) (range_with_len 0 256) ≡ map (λ a. 0 ∷ get_or SUB a 0 ∷ 0 ∷ 0 ∷ []) (range_with_len 0 256)
-masked_1 = refl
+last_1 : map (λ a. to_le_bytes w32 (get_or LAST_1 a 0)) (range_with_len 0 256) ≡ map (λ a. 0 ∷ get_or SUB a 0 ∷ 0 ∷ 0 ∷ []) (range_with_len 0 256)
+last_1 = refl
 
-masked_2 : map (λ a. to_le_bytes w32 (bit_and (get_or ROUND_0 a 0) 16711680)) (range_with_len 0 256) ≡ map (λ a. 0 ∷ 0 ∷ get_or SUB a 0 ∷ 0 ∷ []) (range_with_len 0 256)
-masked_2 = refl
+last_2 : map (λ a. to_le_bytes w32 (get_or LAST_2 a 0)) (range_with_len 0 256) ≡ map (λ a. 0 ∷ 0 ∷ get_or SUB a 0 ∷ 0 ∷ []) (range_with_len 0 256)
+last_2 = refl
 
-masked_3 : map (λ a. to_le_bytes w32 (bit_and (get_or ROUND_1 a 0) 4278190080)) (range_with_len 0 256) ≡ map (λ a. 0 ∷ 0 ∷ 0 ∷ get_or SUB a 0 ∷ []) (range_with_len 0 256)
-masked_3 = refl
+last_3 : map (λ a. to_le_bytes w32 (get_or LAST_3 a 0)) (range_with_len 0 256) ≡ map (λ a. 0 ∷ 0 ∷ 0 ∷ get_or SUB a 0 ∷ []) (range_with_len 0 256)
+last_3 = refl
 
-last_read_0 : (a : ℕ) → a < 256 → to_le_bytes w32 (bit_and (get_or ROUND_2 a 0) 255) ≡ sub_byte a ∷ 0 ∷ 0 ∷ 0 ∷ []
-last_read_0 a h = everywhere (λ a. to_le_bytes w32 (bit_and (get_or ROUND_2 a 0) 255)) (λ a. get_or SUB a 0 ∷ 0 ∷ 0 ∷ 0 ∷ []) masked_0 a h ∙ ap (λ (x : ℕ). x ∷ 0 ∷ 0 ∷ 0 ∷ []) (sub_at a h)
+last_read_0 : (a : ℕ) → a < 256 → to_le_bytes w32 (get_or LAST_0 a 0) ≡ sub_byte a ∷ 0 ∷ 0 ∷ 0 ∷ []
+last_read_0 a h = everywhere (λ a. to_le_bytes w32 (get_or LAST_0 a 0)) (λ a. get_or SUB a 0 ∷ 0 ∷ 0 ∷ 0 ∷ []) last_0 a h ∙ ap (λ (x : ℕ). x ∷ 0 ∷ 0 ∷ 0 ∷ []) (sub_at a h)
 
-last_read_1 : (a : ℕ) → a < 256 → to_le_bytes w32 (bit_and (get_or ROUND_3 a 0) 65280) ≡ 0 ∷ sub_byte a ∷ 0 ∷ 0 ∷ []
-last_read_1 a h = everywhere (λ a. to_le_bytes w32 (bit_and (get_or ROUND_3 a 0) 65280)) (λ a. 0 ∷ get_or SUB a 0 ∷ 0 ∷ 0 ∷ []) masked_1 a h ∙ ap (λ (x : ℕ). 0 ∷ x ∷ 0 ∷ 0 ∷ []) (sub_at a h)
+last_read_1 : (a : ℕ) → a < 256 → to_le_bytes w32 (get_or LAST_1 a 0) ≡ 0 ∷ sub_byte a ∷ 0 ∷ 0 ∷ []
+last_read_1 a h = everywhere (λ a. to_le_bytes w32 (get_or LAST_1 a 0)) (λ a. 0 ∷ get_or SUB a 0 ∷ 0 ∷ 0 ∷ []) last_1 a h ∙ ap (λ (x : ℕ). 0 ∷ x ∷ 0 ∷ 0 ∷ []) (sub_at a h)
 
-last_read_2 : (a : ℕ) → a < 256 → to_le_bytes w32 (bit_and (get_or ROUND_0 a 0) 16711680) ≡ 0 ∷ 0 ∷ sub_byte a ∷ 0 ∷ []
-last_read_2 a h = everywhere (λ a. to_le_bytes w32 (bit_and (get_or ROUND_0 a 0) 16711680)) (λ a. 0 ∷ 0 ∷ get_or SUB a 0 ∷ 0 ∷ []) masked_2 a h ∙ ap (λ (x : ℕ). 0 ∷ 0 ∷ x ∷ 0 ∷ []) (sub_at a h)
+last_read_2 : (a : ℕ) → a < 256 → to_le_bytes w32 (get_or LAST_2 a 0) ≡ 0 ∷ 0 ∷ sub_byte a ∷ 0 ∷ []
+last_read_2 a h = everywhere (λ a. to_le_bytes w32 (get_or LAST_2 a 0)) (λ a. 0 ∷ 0 ∷ get_or SUB a 0 ∷ 0 ∷ []) last_2 a h ∙ ap (λ (x : ℕ). 0 ∷ 0 ∷ x ∷ 0 ∷ []) (sub_at a h)
 
-last_read_3 : (a : ℕ) → a < 256 → to_le_bytes w32 (bit_and (get_or ROUND_1 a 0) 4278190080) ≡ 0 ∷ 0 ∷ 0 ∷ sub_byte a ∷ []
-last_read_3 a h = everywhere (λ a. to_le_bytes w32 (bit_and (get_or ROUND_1 a 0) 4278190080)) (λ a. 0 ∷ 0 ∷ 0 ∷ get_or SUB a 0 ∷ []) masked_3 a h ∙ ap (λ (x : ℕ). 0 ∷ 0 ∷ 0 ∷ x ∷ []) (sub_at a h)
+last_read_3 : (a : ℕ) → a < 256 → to_le_bytes w32 (get_or LAST_3 a 0) ≡ 0 ∷ 0 ∷ 0 ∷ sub_byte a ∷ []
+last_read_3 a h = everywhere (λ a. to_le_bytes w32 (get_or LAST_3 a 0)) (λ a. 0 ∷ 0 ∷ 0 ∷ get_or SUB a 0 ∷ []) last_3 a h ∙ ap (λ (x : ℕ). 0 ∷ 0 ∷ 0 ∷ x ∷ []) (sub_at a h)
 
 apart : (a b c d : ℕ)
     → xored (xored (xored (a ∷ 0 ∷ 0 ∷ 0 ∷ []) (0 ∷ b ∷ 0 ∷ 0 ∷ [])) (0 ∷ 0 ∷ c ∷ 0 ∷ [])) (0 ∷ 0 ∷ 0 ∷ d ∷ []) ≡ a ∷ b ∷ c ∷ d ∷ []
@@ -130,25 +181,20 @@ apart a b c d =
     (λ i. ea i ∷ eb i ∷ ec i ∷ ed i ∷ [])
 
 pub last_column_is : (a b c d key : ℕ) → d < 2 ^ 32
-    → to_le_bytes w32 (bit_xor (bit_xor (bit_xor (bit_xor (bit_and (get_or ROUND_2 (bit_and a 255) 0) 255) (bit_and (get_or ROUND_3 (bit_and (b / 256) 255) 0) 65280)) (bit_and (get_or ROUND_0 (bit_and (c / 65536) 255) 0) 16711680)) (bit_and (get_or ROUND_1 (d / 16777216) 0) 4278190080)) key)
+    → to_le_bytes w32 (bit_xor (get_or LAST_3 (d / 16777216) 0) (bit_xor (get_or LAST_2 (bit_and (c / 65536) 255) 0) (bit_xor (get_or LAST_1 (bit_and (b / 256) 255) 0) (bit_xor (get_or LAST_0 (bit_and a 255) 0) key))))
     ≡ xored (sub_bytes (byte_at 0 a ∷ byte_at 1 b ∷ byte_at 2 c ∷ byte_at 3 d ∷ [])) (to_le_bytes w32 key)
 last_column_is a b c d key hd =
-    let w0 : ℕ = bit_and (get_or ROUND_2 (bit_and a 255) 0) 255 in
-    let w1 : ℕ = bit_and (get_or ROUND_3 (bit_and (b / 256) 255) 0) 65280 in
-    let w2 : ℕ = bit_and (get_or ROUND_0 (bit_and (c / 65536) 255) 0) 16711680 in
-    let w3 : ℕ = bit_and (get_or ROUND_1 (d / 16777216) 0) 4278190080 in
+    let w0 : ℕ = get_or LAST_0 (bit_and a 255) 0 in
+    let w1 : ℕ = get_or LAST_1 (bit_and (b / 256) 255) 0 in
+    let w2 : ℕ = get_or LAST_2 (bit_and (c / 65536) 255) 0 in
+    let w3 : ℕ = get_or LAST_3 (d / 16777216) 0 in
     let top : d / 16777216 ≡ d / 16777216 % 256 = omega arith in
-    let e0 = ap (λ (n : ℕ). to_le_bytes w32 (bit_and (get_or ROUND_2 n 0) 255)) (and_mask a 8) ∙ last_read_0 (a % 256) (omega arith) in
-    let e1 = ap (λ (n : ℕ). to_le_bytes w32 (bit_and (get_or ROUND_3 n 0) 65280)) (and_mask (b / 256) 8) ∙ last_read_1 (b / 256 % 256) (omega arith) in
-    let e2 = ap (λ (n : ℕ). to_le_bytes w32 (bit_and (get_or ROUND_0 n 0) 16711680)) (and_mask (c / 65536) 8) ∙ last_read_2 (c / 65536 % 256) (omega arith) in
-    let e3 = ap (λ (n : ℕ). to_le_bytes w32 (bit_and (get_or ROUND_1 n 0) 4278190080)) top ∙ last_read_3 (d / 16777216 % 256) (omega arith) in
-    bytes_xor (bit_xor (bit_xor (bit_xor w0 w1) w2) w3) key
-    ∙ ap (λ (x : List ℕ). xored x (to_le_bytes w32 key))
-    (bytes_xor (bit_xor (bit_xor w0 w1) w2) w3
-    ∙ ap (λ (x : List ℕ). xored x (to_le_bytes w32 w3))
-    (bytes_xor (bit_xor w0 w1) w2 ∙ ap (λ (x : List ℕ). xored x (to_le_bytes w32 w2)) (bytes_xor w0 w1))
-    ∙ (λ i. xored (xored (xored (e0 i) (e1 i)) (e2 i)) (e3 i))
-    ∙ apart (sub_byte (a % 256)) (sub_byte (b / 256 % 256)) (sub_byte (c / 65536 % 256)) (sub_byte (d / 16777216 % 256)))
+    let e0 = ap (λ (n : ℕ). to_le_bytes w32 (get_or LAST_0 n 0)) (and_mask a 8) ∙ last_read_0 (a % 256) (omega arith) in
+    let e1 = ap (λ (n : ℕ). to_le_bytes w32 (get_or LAST_1 n 0)) (and_mask (b / 256) 8) ∙ last_read_1 (b / 256 % 256) (omega arith) in
+    let e2 = ap (λ (n : ℕ). to_le_bytes w32 (get_or LAST_2 n 0)) (and_mask (c / 65536) 8) ∙ last_read_2 (c / 65536 % 256) (omega arith) in
+    let e3 = ap (λ (n : ℕ). to_le_bytes w32 (get_or LAST_3 n 0)) top ∙ last_read_3 (d / 16777216 % 256) (omega arith) in
+    ap (to_le_bytes w32) (looked_first w0 w1 w2 w3 key) ∙ four_summed w0 w1 w2 w3 key _ _ _ _ e0 e1 e2 e3
+    ∙ ap (λ (x : List ℕ). xored x (to_le_bytes w32 key)) (apart (sub_byte (a % 256)) (sub_byte (b / 256 % 256)) (sub_byte (c / 65536 % 256)) (sub_byte (d / 16777216 % 256)))
 
 -- ---- words loaded
 
@@ -181,6 +227,12 @@ key_words (a ∷ b ∷ c ∷ d ∷ w) (suc r) h =
     let f : 16 * suc r ≡ suc (suc (suc (suc (suc (suc (suc (suc (suc (suc (suc (suc (suc (suc (suc (suc (16 * r)))))))))))))))) = omega arith in
     ap (λ (n : ℕ). state_of (take 4 (drop n (a ∷ b ∷ c ∷ d ∷ w)))) e ∙ key_words w r (omega arith)
     ∙ ap (λ (n : ℕ). take 16 (drop n (bytes_of (a ∷ b ∷ c ∷ d ∷ w)))) (sym f)
+
+-- the key of round r, as a round reads it
+pub key_at : (w : List ℕ) (r : ℕ) → 4 * r + 4 ≤ length w → state_of (take (4 * r + 4 - 4 * r) (drop (4 * r) w)) ≡ round_key (bytes_of w) r
+key_at w r h =
+    let e : 4 * r + 4 - 4 * r ≡ 4 = omega arith in
+    ap (λ (n : ℕ). state_of (take n (drop (4 * r) w))) e ∙ key_words w r h
 
 -- ---- the way back
 
@@ -229,12 +281,7 @@ inv_column_is a b c d key hd =
     let e1 = ap (λ (n : ℕ). to_le_bytes w32 (get_or INV_ROUND_1 n 0)) (and_mask (b / 256) 8) ∙ inv_read_1 (b / 256 % 256) (omega arith) in
     let e2 = ap (λ (n : ℕ). to_le_bytes w32 (get_or INV_ROUND_2 n 0)) (and_mask (c / 65536) 8) ∙ inv_read_2 (c / 65536 % 256) (omega arith) in
     let e3 = ap (λ (n : ℕ). to_le_bytes w32 (get_or INV_ROUND_3 n 0)) top ∙ inv_read_3 (d / 16777216 % 256) (omega arith) in
-    bytes_xor (bit_xor (bit_xor (bit_xor w0 w1) w2) w3) key
-    ∙ ap (λ (x : List ℕ). xored x (to_le_bytes w32 key))
-    (bytes_xor (bit_xor (bit_xor w0 w1) w2) w3
-    ∙ ap (λ (x : List ℕ). xored x (to_le_bytes w32 w3))
-    (bytes_xor (bit_xor w0 w1) w2 ∙ ap (λ (x : List ℕ). xored x (to_le_bytes w32 w2)) (bytes_xor w0 w1))
-    ∙ (λ i. xored (xored (xored (e0 i) (e1 i)) (e2 i)) (e3 i)))
+    four_summed w0 w1 w2 w3 key _ _ _ _ e0 e1 e2 e3
 
 -- ---- the inverse of MixColumns is linear
 

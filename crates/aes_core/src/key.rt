@@ -46,18 +46,6 @@ fn words_of(keys: &[u8]) -> [u32; 60]
     out
 }
 
-fn four_words(s: &[u8]) -> [u32; 4]
-    requires { length s.now ≡ 16 }
-    ensures { state_of result ≡ s.now }
-{
-    [
-        u32::from_le_bytes([s[0], s[1], s[2], s[3]]),
-        u32::from_le_bytes([s[4], s[5], s[6], s[7]]),
-        u32::from_le_bytes([s[8], s[9], s[10], s[11]]),
-        u32::from_le_bytes([s[12], s[13], s[14], s[15]]),
-    ]
-}
-
 fn back_of(keys: &[u8]) -> [u32; 60]
     requires { length keys.now ≡ 240 }
     ensures { bytes_of result ≡ joined (λ j. inv_mix_columns (round_key keys.now j)) 15 }
@@ -67,7 +55,7 @@ fn back_of(keys: &[u8]) -> [u32; 60]
         let mut block = [0u8; 16];
         block.copy_from_slice(&keys[16 * r..16 * r + 16]);
         let turned = plain::inv_mix_columns(block);
-        let four = four_words(&turned);
+        let four = words::four_words(&turned);
         out[4 * r..4 * r + 4].copy_from_slice(&four);
     }
     out
@@ -108,6 +96,15 @@ impl BlockKey {
     {
         let rounds = self.key_len / 4 + 6;
         words::encrypt(&self.words[0..4 * (rounds + 1)], rounds, block);
+    }
+
+    // Enciphers a block of four words.
+    #[inline(always)]
+    pub(crate) fn encrypt_words(&self, first: [u32; 4]) -> [u32; 4]
+        ensures { state_of result ≡ encrypted self.now (state_of first) }
+    {
+        let rounds = self.key_len / 4 + 6;
+        words::encrypt_words(&self.words[0..4 * (rounds + 1)], rounds, first)
     }
 
     // The keys of the rounds as planes of bits, for `encrypt_eight` and `decrypt_eight`.

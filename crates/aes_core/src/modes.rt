@@ -9,22 +9,25 @@ ghost use Rattle.aes_core.specs.Planes.{AreKeyPlanes, ArePlanes};
 
 use crate::key::BlockKey;
 use crate::planes::KeyPlanes;
-use crate::words::store;
+use crate::words::{four_words, load, store};
 use crate::xor::{xor_lanes, xor_sixteen, xor_with};
 use std::simd::prelude::*;
 
 /// Enciphers bytes of any number in place, in CBC with tail (this project's own): the whole blocks
 /// in CBC (SP 800-38A, 6.2), a last partial block by XOR with the first bytes of what the IV
 /// enciphers to.
+// Kept apart from its callers: the rounds, which are inlined in it, fill the registers.
+#[inline(never)]
 pub fn cbc_tail_encrypt(key: &BlockKey, iv: &[u8; 16], bytes: &mut [u8])
     ensures { bytes.new ≡ cbc_tail key.now iv.now bytes.old }
 {
-    let mut chain = *iv;
+    let mut chain = four_words(iv);
     let count = bytes.len() / 16;
     for i in 0..count {
-        xor_sixteen(&mut chain, &bytes[16 * i..16 * i + 16]);
-        key.encrypt_block(&mut chain);
-        bytes[16 * i..16 * i + 16].copy_from_slice(&chain);
+        let mixed = load(&bytes[16 * i..16 * i + 16], &chain);
+        chain = key.encrypt_words(mixed);
+        let block = store(chain);
+        bytes[16 * i..16 * i + 16].copy_from_slice(&block);
     }
     mask_tail(key, iv, &mut bytes[16 * count..]);
 }

@@ -1,5 +1,5 @@
-// AES by four tables of columns each way: a round is four reads a column. A column is a word whose
-// lowest byte is its first row.
+// AES by four tables of columns each way, and four for the last round: a round is four reads a
+// column. A column is a word whose lowest byte is its first row.
 
 ghost use Rattle.std.specs.Prelude.{◌≡◌, ℕ, ◌+◌, ◌*◌, ◌<◌, ◌≤◌, [], ◌∷◌, length, take, drop};
 ghost use Rattle.std.specs.Int.{byte_at, to_le_bytes, w32};
@@ -7,65 +7,78 @@ ghost use Rattle.aes_core.specs.Field.{sub_byte, inv_sub_byte};
 ghost use Rattle.aes_core.specs.Cipher.{bytes_of, circulant_times, decrypted_by, encrypted_by, mix_columns, round_key, shift_rows, state_of, sub_bytes, inv_mix_columns, inv_shift_rows, inv_sub_bytes, xored};
 
 use crate::plain::inv_sub_byte;
-use crate::tables::{INV_ROUNDS, ROUNDS};
+use crate::tables::{INV_ROUNDS, LAST, ROUNDS};
 
-// A column of the next state, from the columns that its bytes come from.
-#[inline(always)]
-fn column(a: u32, b: u32, c: u32, d: u32, key: u32) -> u32
-    ensures { to_le_bytes w32 result
-        ≡ xored (circulant_times 2 3 1 1 (sub_byte (byte_at 0 a)) (sub_byte (byte_at 1 b)) (sub_byte (byte_at 2 c)) (sub_byte (byte_at 3 d))) (to_le_bytes w32 key) }
-{
-    ROUNDS[0][(a & 0xff) as usize]
-        ^ ROUNDS[1][((b >> 8) & 0xff) as usize]
-        ^ ROUNDS[2][((c >> 16) & 0xff) as usize]
-        ^ ROUNDS[3][(d >> 24) as usize]
-        ^ key
-}
-
+// A round. The four bytes of a word are looked up before those of the next, and added to four columns
+// that begin with the key, so that all of it fits in the registers.
 #[inline(always)]
 fn round(w: [u32; 4], k: &[u32]) -> [u32; 4]
     requires { length k.now ≡ 4 }
     ensures { state_of result ≡ xored (mix_columns (shift_rows (sub_bytes (state_of w)))) (state_of k.now) }
 {
     let [a, b, c, d] = w;
-    [
-        column(a, b, c, d, k[0]),
-        column(b, c, d, a, k[1]),
-        column(c, d, a, b, k[2]),
-        column(d, a, b, c, k[3]),
-    ]
+    let p = ROUNDS[0][(a & 0xff) as usize] ^ k[0];
+    let s = ROUNDS[1][((a >> 8) & 0xff) as usize] ^ k[3];
+    let r = ROUNDS[2][((a >> 16) & 0xff) as usize] ^ k[2];
+    let q = ROUNDS[3][(a >> 24) as usize] ^ k[1];
+    let q = ROUNDS[0][(b & 0xff) as usize] ^ q;
+    let p = ROUNDS[1][((b >> 8) & 0xff) as usize] ^ p;
+    let s = ROUNDS[2][((b >> 16) & 0xff) as usize] ^ s;
+    let r = ROUNDS[3][(b >> 24) as usize] ^ r;
+    let r = ROUNDS[0][(c & 0xff) as usize] ^ r;
+    let q = ROUNDS[1][((c >> 8) & 0xff) as usize] ^ q;
+    let p = ROUNDS[2][((c >> 16) & 0xff) as usize] ^ p;
+    let s = ROUNDS[3][(c >> 24) as usize] ^ s;
+    let s = ROUNDS[0][(d & 0xff) as usize] ^ s;
+    let r = ROUNDS[1][((d >> 8) & 0xff) as usize] ^ r;
+    let q = ROUNDS[2][((d >> 16) & 0xff) as usize] ^ q;
+    let p = ROUNDS[3][(d >> 24) as usize] ^ p;
+    [p, q, r, s]
 }
 
-// A column of the last round, which has no MixColumns: each byte is taken from a table whose column
-// has 1 in its row.
-#[inline(always)]
-fn last_column(a: u32, b: u32, c: u32, d: u32, key: u32) -> u32
-    ensures { to_le_bytes w32 result
-        ≡ xored (sub_bytes (byte_at 0 a ∷ byte_at 1 b ∷ byte_at 2 c ∷ byte_at 3 d ∷ [])) (to_le_bytes w32 key) }
-{
-    (ROUNDS[2][(a & 0xff) as usize] & 0x0000_00ff)
-        ^ (ROUNDS[3][((b >> 8) & 0xff) as usize] & 0x0000_ff00)
-        ^ (ROUNDS[0][((c >> 16) & 0xff) as usize] & 0x00ff_0000)
-        ^ (ROUNDS[1][(d >> 24) as usize] & 0xff00_0000)
-        ^ key
-}
-
+// The last round, which has no MixColumns, in the same order.
 #[inline(always)]
 fn last_round(w: [u32; 4], k: &[u32]) -> [u32; 4]
     requires { length k.now ≡ 4 }
     ensures { state_of result ≡ xored (shift_rows (sub_bytes (state_of w))) (state_of k.now) }
 {
     let [a, b, c, d] = w;
+    let p = LAST[0][(a & 0xff) as usize] ^ k[0];
+    let s = LAST[1][((a >> 8) & 0xff) as usize] ^ k[3];
+    let r = LAST[2][((a >> 16) & 0xff) as usize] ^ k[2];
+    let q = LAST[3][(a >> 24) as usize] ^ k[1];
+    let q = LAST[0][(b & 0xff) as usize] ^ q;
+    let p = LAST[1][((b >> 8) & 0xff) as usize] ^ p;
+    let s = LAST[2][((b >> 16) & 0xff) as usize] ^ s;
+    let r = LAST[3][(b >> 24) as usize] ^ r;
+    let r = LAST[0][(c & 0xff) as usize] ^ r;
+    let q = LAST[1][((c >> 8) & 0xff) as usize] ^ q;
+    let p = LAST[2][((c >> 16) & 0xff) as usize] ^ p;
+    let s = LAST[3][(c >> 24) as usize] ^ s;
+    let s = LAST[0][(d & 0xff) as usize] ^ s;
+    let r = LAST[1][((d >> 8) & 0xff) as usize] ^ r;
+    let q = LAST[2][((d >> 16) & 0xff) as usize] ^ q;
+    let p = LAST[3][(d >> 24) as usize] ^ p;
+    [p, q, r, s]
+}
+
+// A block as four words.
+#[inline(always)]
+pub(crate) fn four_words(s: &[u8]) -> [u32; 4]
+    requires { length s.now ≡ 16 }
+    ensures { state_of result ≡ s.now }
+{
     [
-        last_column(a, b, c, d, k[0]),
-        last_column(b, c, d, a, k[1]),
-        last_column(c, d, a, b, k[2]),
-        last_column(d, a, b, c, k[3]),
+        u32::from_le_bytes([s[0], s[1], s[2], s[3]]),
+        u32::from_le_bytes([s[4], s[5], s[6], s[7]]),
+        u32::from_le_bytes([s[8], s[9], s[10], s[11]]),
+        u32::from_le_bytes([s[12], s[13], s[14], s[15]]),
     ]
 }
 
+// A block as four words, with four words added.
 #[inline(always)]
-fn load(s: &[u8], k: &[u32]) -> [u32; 4]
+pub(crate) fn load(s: &[u8], k: &[u32]) -> [u32; 4]
     requires whole { length s.now ≡ 16 }
     requires key { length k.now ≡ 4 }
     ensures { state_of result ≡ xored s.now (state_of k.now) }
@@ -92,18 +105,38 @@ pub(crate) fn store(w: [u32; 4]) -> [u8; 16]
     ]
 }
 
+#[inline(always)]
+fn add_key(w: [u32; 4], k: &[u32]) -> [u32; 4]
+    requires { length k.now ≡ 4 }
+    ensures { state_of result ≡ xored (state_of w) (state_of k.now) }
+{
+    let [a, b, c, d] = w;
+    [a ^ k[0], b ^ k[1], c ^ k[2], d ^ k[3]]
+}
+
+// Inlined, so that the words stay in registers from block to block.
+#[inline(always)]
+pub(crate) fn encrypt_words(keys: &[u32], rounds: usize, first: [u32; 4]) -> [u32; 4]
+    requires some { 1 ≤ rounds }
+    requires room { 4 * (rounds + 1) ≤ length keys.now }
+    ensures { state_of result ≡ encrypted_by (bytes_of keys.now) rounds (state_of first) }
+{
+    let mut w = add_key(first, &keys[0..4]);
+    for r in 1..rounds {
+        let next = round(w, &keys[4 * r..4 * r + 4]);
+        w = next;
+    }
+    last_round(w, &keys[4 * rounds..4 * rounds + 4])
+}
+
 #[inline(never)]
 pub(crate) fn encrypt(keys: &[u32], rounds: usize, s: &mut [u8; 16])
     requires some { 1 ≤ rounds }
     requires room { 4 * (rounds + 1) ≤ length keys.now }
     ensures { s.new ≡ encrypted_by (bytes_of keys.now) rounds s.old }
 {
-    let mut w = load(&s[0..16], &keys[0..4]);
-    for r in 1..rounds {
-        let next = round(w, &keys[4 * r..4 * r + 4]);
-        w = next;
-    }
-    let end = last_round(w, &keys[4 * rounds..4 * rounds + 4]);
+    let first = four_words(&s[0..16]);
+    let end = encrypt_words(keys, rounds, first);
     let block = store(end);
     *s = block;
 }

@@ -1,7 +1,6 @@
 use Rattle.std.proofs.Common.{◌≡◌, ℕ, suc, List, length, ◌+◌, ◌-◌, ◌*◌, ◌/◌, ◌++◌, refl, sym, ap, ap₂, ◌∙◌, arith, add-one}
-use Rattle.aes_core.specs.Cipher.{encrypted, xored}
+use Rattle.aes_core.specs.Cipher.{encrypted, state_of, xored}
 use Rattle.aes_core.specs.Modes.{block_at, chain, joined}
-use Rattle.aes_core.proofs.Loops.{xored_swap}
 use Rattle.aes_core.proofs.BlockLoop.{Written, written_all, written_more, written_none, written_read, written_rest}
 use Rattle.aes_core.proofs.modes.cbc_tail_encrypt.Goals as goal
 
@@ -15,8 +14,10 @@ first key iv text = refl
 
 pub loop-i-init : goal.loop-i-init
 loop-i-init c =
-    let f = λ (j : ℕ). chain c.args.key.now c.args.iv.now c.args.bytes.now (suc j) in
-    (first c.args.key.now c.args.iv.now c.args.bytes.now, written_none f c.args.bytes.now)
+    let f = λ (j : ℕ). chain c.args.key.now c.args.iv.now c.args.bytes.now (suc j) in (
+      c.four_words-chain.ensures ∙ first c.args.key.now c.args.iv.now c.args.bytes.now,
+      written_none f c.args.bytes.now,
+    )
 
 pub loop-i-preserved : goal.loop-i-preserved
 loop-i-preserved c =
@@ -27,11 +28,12 @@ loop-i-preserved c =
     let f = λ (j : ℕ). chain key iv xs (suc j) in
     let w = c.loop-i.invariant.1 in
     let width : 16 * i + 16 - 16 * i ≡ 16 = omega arith in
-    let mixed : c.xor_sixteen.new.to ≡ xored (block_at xs i) (chain key iv xs i) =
-    c.xor_sixteen.ensures ∙ ap₂ (λ (a b : List ℕ). xored a b) c.loop-i.invariant.0 (written_read f xs c.loop-i.bytes i _ w width) ∙ xored_swap (chain key iv xs i) (block_at xs i) in
-    let made : c.encrypt_block.new.block ≡ f i = c.encrypt_block.ensures ∙ ap (encrypted key) mixed ∙ next key iv xs i in (
+    let mixed : state_of c.load-mixed.result ≡ xored (block_at xs i) (chain key iv xs i) =
+    c.load-mixed.ensures ∙ ap₂ (λ (a b : List ℕ). xored a b) (written_read f xs c.loop-i.bytes i _ w width) c.loop-i.invariant.0 in
+    let made : state_of c.encrypt_words-chain.result ≡ f i = c.encrypt_words-chain.ensures ∙ ap (encrypted key) mixed ∙ next key iv xs i in
+    let stored : c.copy_from_slice.new.self ≡ f i = c.copy_from_slice.ensures.after ∙ c.store-block.ensures ∙ made in (
       made ∙ ap (chain key iv xs) (sym (add-one i)),
-      written_more f xs c.loop-i.bytes c.copy_from_slice.new.self i _ w (omega arith) width (c.copy_from_slice.ensures.after ∙ made) (ap length c.copy_from_slice.ensures.after ∙ c.encrypt_block.array_long),
+      written_more f xs c.loop-i.bytes c.copy_from_slice.new.self i _ w (omega arith) width stored (ap length (c.copy_from_slice.ensures.after ∙ c.store-block.ensures)),
     )
 
 pub returns : goal.returns

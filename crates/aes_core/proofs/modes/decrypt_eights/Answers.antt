@@ -1,7 +1,6 @@
-use Rattle.std.proofs.Common.{◌≡◌, ℕ, zero, suc, List, [], ◌∷◌, ◌+◌, ◌-◌, ◌*◌, ◌/◌, ◌<◌, ◌≤◌, ◌++◌, length, get_or, drop, bit_xor, refl, sym, ap, ap₂, ◌∙◌, arith}
-use Rattle.std.proofs.lemmas.Simd.{length-zip2}
+use Rattle.std.proofs.Common.{◌≡◌, ℕ, zero, suc, List, [], ◌∷◌, ◌+◌, ◌-◌, ◌*◌, ◌/◌, ◌<◌, ◌≤◌, ◌++◌, length, get_or, drop, refl, sym, ap, ap₂, ◌∙◌, arith}
 use borrow.Rule.Slice.PartMut.{put_mid}
-use Rattle.aes_core.specs.Cipher.{AreBytes, IsBlock, decrypted, xored}
+use Rattle.aes_core.specs.Cipher.{decrypted, xored}
 use Rattle.aes_core.specs.Modes.{block_at, block_before, joined}
 use Rattle.aes_core.specs.Planes.{ArePlanes}
 use Rattle.aes_core.proofs.BlockLoop.{Written, written_ahead, written_many, written_none}

@@ -1,5 +1,4 @@
-use Rattle.std.proofs.Common.{◌≡◌, ℕ, List, [], ◌∷◌, ◌+◌, ◌*◌, ◌<◌, ◌≤◌, length, get_or, take, drop, refl, ap, ◌∙◌, arith}
-use Rattle.std.proofs.lemmas.List.{get_or-drop, get_or-take, get_or_past, length-take-le}
+use Rattle.std.proofs.Common.{◌≡◌, ℕ, List, [], ◌∷◌, ◌+◌, ◌*◌, ◌≤◌, length, get_or, refl, ap, ◌∙◌, arith}
 use Rattle.aes_core.specs.Cipher.{AreBytes, IsBlock}
 use Rattle.aes_core.specs.Modes.{block_at}
 use Rattle.aes_core.proofs.ModeLaws.{block_of_text}

@@ -1,5 +1,5 @@
 use Rattle.std.proofs.Common.{◌≡◌, ℕ, List, [], ◌∷◌, ◌<◌, get_or, refl, ap, ◌∙◌, arith}
-use Rattle.aes_core.specs.Cipher.{IsBlock, decrypted, xored}
+use Rattle.aes_core.specs.Cipher.{IsBlock, xored}
 use Rattle.aes_core.proofs.Inverse.{block_xored}
 use Rattle.aes_core.proofs.PlaneLists.{all_eight, are_planes, each_of_eight, plane_is}
 use Rattle.aes_core.proofs.modes.plain_eight.Goals as goal

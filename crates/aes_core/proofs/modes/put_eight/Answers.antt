@@ -1,8 +1,8 @@
-use Rattle.std.proofs.Common.{◌≡◌, ℕ, List, [], ◌+◌, ◌-◌, ◌*◌, ◌++◌, length, get_or, take, drop, refl, sym, ap, ◌∙◌, length-drop, arith}
+use Rattle.std.proofs.Common.{◌≡◌, ℕ, List, [], ◌+◌, ◌-◌, ◌*◌, ◌++◌, length, get_or, take, drop, sym, ap, ◌∙◌, length-drop, arith}
 use Rattle.std.proofs.lemmas.List.{append-nil, drop_all, length-take-le}
 use Rattle.std.proofs.lemmas.Simd.{put_chunk_whole}
 use Rattle.aes_core.specs.Modes.{joined}
-use Rattle.aes_core.proofs.BlockLoop.{Written, written_more, written_none}
+use Rattle.aes_core.proofs.BlockLoop.{written_more, written_none}
 use Rattle.aes_core.proofs.modes.put_eight.Goals as goal
 
 pub loop-k-init : goal.loop-k-init

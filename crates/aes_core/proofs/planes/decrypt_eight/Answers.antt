@@ -1,4 +1,4 @@
-use Rattle.std.proofs.Common.{◌≡◌, ℕ, suc, List, [], ◌<◌, ◌≤◌, ◌+◌, ◌-◌, get_or, ap, ap₂, ◌∙◌, arith}
+use Rattle.std.proofs.Common.{◌≡◌, ℕ, suc, List, [], ◌+◌, ◌-◌, get_or, ap, ap₂, ◌∙◌, arith}
 use Rattle.aes_core.specs.Cipher.{before_rounds, inv_mix_columns, inv_shift_rows, inv_sub_bytes, xored}
 use Rattle.aes_core.proofs.PlaneLists.{held, keyed}
 use Rattle.aes_core.proofs.RoundSteps.{before_more, before_none}

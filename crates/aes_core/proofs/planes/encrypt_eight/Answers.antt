@@ -1,6 +1,5 @@
-use Rattle.std.proofs.Common.{◌≡◌, ℕ, suc, List, [], ◌<◌, ◌≤◌, ◌+◌, ◌-◌, get_or, refl, ap, ap₂, ◌∙◌, arith}
-use Rattle.aes_core.specs.Cipher.{after_rounds, mix_columns, round_key, shift_rows, sub_bytes, xored}
-use Rattle.aes_core.specs.Planes.{AreKeyPlanes, ArePlanes, block_in, round_planes}
+use Rattle.std.proofs.Common.{◌≡◌, ℕ, suc, List, [], ◌+◌, ◌-◌, get_or, ap, ap₂, ◌∙◌, arith}
+use Rattle.aes_core.specs.Cipher.{after_rounds, mix_columns, shift_rows, sub_bytes, xored}
 use Rattle.aes_core.proofs.PlaneLists.{held, keyed}
 use Rattle.aes_core.proofs.RoundSteps.{after_more, after_none}
 use Rattle.aes_core.proofs.planes.encrypt_eight.Goals as goal

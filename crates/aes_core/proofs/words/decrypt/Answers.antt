@@ -1,13 +1,9 @@
 use Rattle.std.proofs.Common.{◌≡◌, ℕ, suc, List, ◌+◌, ◌-◌, ◌*◌, ◌≤◌, length, take, drop, refl, sym, ap, ap₂, ◌∙◌, arith}
 use Rattle.std.proofs.lemmas.List.{take_all}
 use Rattle.aes_core.specs.Cipher.{before_rounds, bytes_of, round_key, state_of, inv_mix_columns, inv_shift_rows, inv_sub_bytes, xored}
-use Rattle.aes_core.proofs.WordsAt.{key_words, inv_mix_xored}
+use Rattle.aes_core.proofs.WordsAt.{inv_mix_xored, key_at, key_words}
+use Rattle.aes_core.proofs.RoundSteps.{before_more, before_none}
 use Rattle.aes_core.proofs.words.decrypt.Goals as goal
-
-key_at : (w : List ℕ) (r : ℕ) → 4 * r + 4 ≤ length w → state_of (take (4 * r + 4 - 4 * r) (drop (4 * r) w)) ≡ round_key (bytes_of w) r
-key_at w r h =
-    let e : 4 * r + 4 - 4 * r ≡ 4 = omega arith in
-    ap (λ (n : ℕ). state_of (take n (drop (4 * r) w))) e ∙ key_words w r h
 
 -- a round with its key unmixed
 turned : (w v : List ℕ) (r : ℕ) → 4 * r + 4 ≤ length w
@@ -17,20 +13,12 @@ turned w v r h =
     let long : length (round_key (bytes_of w) r) ≡ 16 = sym (ap length (key_words w r h)) in
     sym (inv_mix_xored (inv_sub_bytes (inv_shift_rows (state_of v))) (round_key (bytes_of w) r) refl long)
 
-step : (w s : List ℕ) (m n k : ℕ) → k ≡ suc n → inv_mix_columns (xored (inv_sub_bytes (inv_shift_rows (before_rounds w m s n))) (round_key w (m - k))) ≡ before_rounds w m s k
-unfolding before_rounds
-step w s m n k e = rw e refl
-
-none : (w s : List ℕ) (m : ℕ) → xored s (round_key w m) ≡ before_rounds w m s 0
-unfolding before_rounds
-none w s m = refl
-
 pub loop-n-init : goal.loop-n-init
 loop-n-init c =
     let w : List ℕ = c.args.keys.now in
     c.load-w.ensures
     ∙ ap₂ (λ (s k : List ℕ). xored s k) (take_all 16 c.args.s.now (omega arith)) (key_at w c.args.rounds (omega arith))
-    ∙ none (bytes_of w) c.args.s.now c.args.rounds
+    ∙ before_none (bytes_of w) c.args.s.now c.args.rounds
 
 pub loop-n-preserved : goal.loop-n-preserved
 loop-n-preserved c =
@@ -45,7 +33,7 @@ loop-n-preserved c =
     (ap (λ (i : ℕ). state_of (take i (drop (4 * r) c.args.back.now))) width ∙ c.requires.unmixed r (omega arith))
     ∙ turned w c.loop-n.w r (omega arith)
     ∙ ap (λ (s : List ℕ). inv_mix_columns (xored (inv_sub_bytes (inv_shift_rows s)) (round_key (bytes_of w) r))) c.loop-n.invariant
-    ∙ step (bytes_of w) c.args.s.now c.args.rounds (n - 1) n e ∙ ap (before_rounds (bytes_of w) c.args.rounds c.args.s.now) f
+    ∙ before_more (bytes_of w) c.args.s.now c.args.rounds (n - 1) n e ∙ ap (before_rounds (bytes_of w) c.args.rounds c.args.s.now) f
 
 pub returns : goal.returns
 returns c =
