@@ -1,8 +1,9 @@
--- A number of 16 bytes, highest first, as four words whose bytes are turned round.
-use Rattle.std.proofs.Common.{◌≡◌, ℕ, ◌*◌, ◌/◌, ◌%◌, [], ◌∷◌, ◌++◌, refl, ap, ◌∙◌, arith}
+-- A number of 16 bytes as four words: highest first, with the words' bytes turned round, and lowest first.
+use Rattle.std.proofs.Common.{◌≡◌, ℕ, ◌+◌, ◌*◌, ◌/◌, ◌%◌, ◌^◌, ◌<◌, [], ◌∷◌, ◌++◌, bit_xor, refl, sym, ap, ◌∙◌, arith}
 use Rattle.std.specs.Int.{byte_at, from_be_bytes, from_le_bytes, swap_bytes, to_be_bytes, to_le_bytes, w32, w128}
 use Rattle.std.proofs.Math.Nat.{div-div-eq-div-mul}
-use Rattle.std.proofs.lemmas.Nat.{le_bytes_4}
+use Rattle.std.proofs.lemmas.Nat.{le_bytes_4, xor_mod, xor_shr}
+use Rattle.aes_core.specs.Cipher.{xored}
 use Rattle.aes_core.proofs.Inverse.{byte_at-lt, bytes_four}
 
 turned : (a b c d : ℕ) → from_be_bytes w32 (a ∷ b ∷ c ∷ d ∷ []) ≡ from_le_bytes w32 (d ∷ c ∷ b ∷ a ∷ [])
@@ -47,3 +48,61 @@ four_words n =
     let e12 = within n 4294967296 65536 in
     let e11 = within n 4294967296 256 in
     (λ i. e33 i ∷ e32 i ∷ e31 i ∷ n / 79228162514264337593543950336 % 256 ∷ e23 i ∷ e22 i ∷ e21 i ∷ n / 18446744073709551616 % 256 ∷ e13 i ∷ e12 i ∷ e11 i ∷ n / 4294967296 % 256 ∷ n / 16777216 % 256 ∷ n / 65536 % 256 ∷ n / 256 % 256 ∷ n % 256 ∷ [])
+
+-- ---- lowest first
+
+pub le_low_word : (m : ℕ) → to_le_bytes w32 (m % 4294967296) ≡ to_le_bytes w32 m
+le_low_word m = (λ i. low_0 m i ∷ low_1 m i ∷ low_2 m i ∷ low_3 m i ∷ [])
+
+pub le_four_words : (n : ℕ)
+    → to_le_bytes w32 n ++ to_le_bytes w32 (n / 4294967296) ++ to_le_bytes w32 (n / 18446744073709551616) ++ to_le_bytes w32 (n / 79228162514264337593543950336) ≡ to_le_bytes w128 n
+le_four_words n =
+    let e33 = within n 79228162514264337593543950336 16777216 in
+    let e32 = within n 79228162514264337593543950336 65536 in
+    let e31 = within n 79228162514264337593543950336 256 in
+    let e23 = within n 18446744073709551616 16777216 in
+    let e22 = within n 18446744073709551616 65536 in
+    let e21 = within n 18446744073709551616 256 in
+    let e13 = within n 4294967296 16777216 in
+    let e12 = within n 4294967296 65536 in
+    let e11 = within n 4294967296 256 in
+    (λ i. n % 256 ∷ n / 256 % 256 ∷ n / 65536 % 256 ∷ n / 16777216 % 256 ∷ n / 4294967296 % 256 ∷ e11 i ∷ e12 i ∷ e13 i ∷ n / 18446744073709551616 % 256 ∷ e21 i ∷ e22 i ∷ e23 i ∷ n / 79228162514264337593543950336 % 256 ∷ e31 i ∷ e32 i ∷ e33 i ∷ [])
+
+-- what four words are joined to
+abbrev pub sum_four : ℕ → ℕ → ℕ → ℕ → ℕ
+sum_four a b c d = a + 4294967296 * b + 18446744073709551616 * c + 79228162514264337593543950336 * d
+
+pub le_joined : (a b c d n : ℕ) → a < 4294967296 → b < 4294967296 → c < 4294967296 → d < 4294967296 → n ≡ sum_four a b c d
+    → to_le_bytes w128 n ≡ to_le_bytes w32 a ++ to_le_bytes w32 b ++ to_le_bytes w32 c ++ to_le_bytes w32 d
+le_joined a b c d n ha hb hc hd e =
+    let ea : n % 4294967296 ≡ a = omega arith in
+    let eb : n / 4294967296 % 4294967296 ≡ b = omega arith in
+    let ec : n / 18446744073709551616 % 4294967296 ≡ c = omega arith in
+    let ed : n / 79228162514264337593543950336 ≡ d = omega arith in
+    let wa = sym (le_low_word n) ∙ ap (to_le_bytes w32) ea in
+    let wb = sym (le_low_word (n / 4294967296)) ∙ ap (to_le_bytes w32) eb in
+    let wc = sym (le_low_word (n / 18446744073709551616)) ∙ ap (to_le_bytes w32) ec in
+    sym (le_four_words n) ∙ (λ i. wa i ++ wb i ++ wc i ++ ap (to_le_bytes w32) ed i)
+
+byte_of_xor : (m n k : ℕ) → bit_xor m n / 2 ^ k % 256 ≡ bit_xor (m / 2 ^ k % 256) (n / 2 ^ k % 256)
+byte_of_xor m n k = ap (λ (x : ℕ). x % 256) (xor_shr m n k) ∙ xor_mod (m / 2 ^ k) (n / 2 ^ k) 8
+
+pub le_xored : (m n : ℕ) → to_le_bytes w128 (bit_xor m n) ≡ xored (to_le_bytes w128 m) (to_le_bytes w128 n)
+le_xored m n =
+    let b0 = xor_mod m n 8 in
+    let b1 = byte_of_xor m n 8 in
+    let b2 = byte_of_xor m n 16 in
+    let b3 = byte_of_xor m n 24 in
+    let b4 = byte_of_xor m n 32 in
+    let b5 = byte_of_xor m n 40 in
+    let b6 = byte_of_xor m n 48 in
+    let b7 = byte_of_xor m n 56 in
+    let b8 = byte_of_xor m n 64 in
+    let b9 = byte_of_xor m n 72 in
+    let b10 = byte_of_xor m n 80 in
+    let b11 = byte_of_xor m n 88 in
+    let b12 = byte_of_xor m n 96 in
+    let b13 = byte_of_xor m n 104 in
+    let b14 = byte_of_xor m n 112 in
+    let b15 = byte_of_xor m n 120 in
+    (λ i. b0 i ∷ b1 i ∷ b2 i ∷ b3 i ∷ b4 i ∷ b5 i ∷ b6 i ∷ b7 i ∷ b8 i ∷ b9 i ∷ b10 i ∷ b11 i ∷ b12 i ∷ b13 i ∷ b14 i ∷ b15 i ∷ [])

@@ -1,6 +1,7 @@
 // A key for the bodies by tables: the keys of the rounds as words, for both directions.
 
 ghost use Rattle.std.specs.Prelude.{◌≡◌, ℕ, ◌+◌, ◌*◌, ◌/◌, ◌<◌, ◌≤◌, List, [], length, take, drop, get_or, MatchOption};
+ghost use Rattle.std.specs.Int.{to_le_bytes, w128};
 ghost use Rattle.aes_core.specs.Cipher.{IsBlock, IsKey, IsKeyLength, IsWordReady, bytes_of, decrypted, encrypted, round_count, round_key, schedule, state_of, inv_mix_columns};
 ghost use Rattle.aes_core.specs.Planes.{AreKeyPlanes, ArePlanes};
 ghost use Rattle.aes_core.specs.Modes.{joined};
@@ -98,13 +99,13 @@ impl BlockKey {
         words::encrypt(&self.words[0..4 * (rounds + 1)], rounds, block);
     }
 
-    // Enciphers a block of four words.
+    // Enciphers a block that is one number, its first byte the lowest.
     #[inline(always)]
-    pub(crate) fn encrypt_words(&self, first: [u32; 4]) -> [u32; 4]
-        ensures { state_of result ≡ encrypted self.now (state_of first) }
+    pub(crate) fn encrypt_number(&self, n: u128) -> u128
+        ensures { to_le_bytes w128 result ≡ encrypted self.now (to_le_bytes w128 n) }
     {
         let rounds = self.key_len / 4 + 6;
-        words::encrypt_words(&self.words[0..4 * (rounds + 1)], rounds, first)
+        words::encrypt_number(&self.words[0..4 * (rounds + 1)], rounds, n)
     }
 
     // The keys of the rounds as planes of bits, for `encrypt_eight` and `decrypt_eight`.

@@ -9,7 +9,7 @@ ghost use Rattle.aes_core.specs.Planes.{AreKeyPlanes, ArePlanes};
 
 use crate::key::BlockKey;
 use crate::planes::KeyPlanes;
-use crate::words::{four_words, load, store};
+use crate::words::{number_of, store};
 use crate::xor::{xor_lanes, xor_sixteen, xor_with};
 use std::simd::prelude::*;
 
@@ -21,12 +21,12 @@ use std::simd::prelude::*;
 pub fn cbc_tail_encrypt(key: &BlockKey, iv: &[u8; 16], bytes: &mut [u8])
     ensures { bytes.new ≡ cbc_tail key.now iv.now bytes.old }
 {
-    let mut chain = four_words(iv);
+    let mut chain = number_of(iv);
     let count = bytes.len() / 16;
     for i in 0..count {
-        let mixed = load(&bytes[16 * i..16 * i + 16], &chain);
-        chain = key.encrypt_words(mixed);
-        let block = store(chain);
+        let mixed = number_of(&bytes[16 * i..16 * i + 16]) ^ chain;
+        chain = key.encrypt_number(mixed);
+        let block = chain.to_le_bytes();
         bytes[16 * i..16 * i + 16].copy_from_slice(&block);
     }
     mask_tail(key, iv, &mut bytes[16 * count..]);
@@ -229,7 +229,7 @@ fn xor_eight(to: &mut [u8], with: &[u8x16; 8])
 fn counter_lanes(start: u128, i: usize) -> u8x16
     ensures { result ≡ to_be_bytes w128 ((start + i) % 2 ^ 128) }
 {
-    u8x16::from_array(start.wrapping_add(i as u128).to_be_bytes())
+    u8x16::from_array(big_endian(start.wrapping_add(i as u128)))
 }
 
 // Eight blocks of the key stream, from block i on.

@@ -2,7 +2,7 @@
 // column. A column is a word whose lowest byte is its first row.
 
 ghost use Rattle.std.specs.Prelude.{◌≡◌, ℕ, ◌+◌, ◌*◌, ◌<◌, ◌≤◌, [], ◌∷◌, length, take, drop};
-ghost use Rattle.std.specs.Int.{byte_at, to_le_bytes, w32};
+ghost use Rattle.std.specs.Int.{byte_at, to_le_bytes, w32, w128};
 ghost use Rattle.aes_core.specs.Field.{sub_byte, inv_sub_byte};
 ghost use Rattle.aes_core.specs.Cipher.{bytes_of, circulant_times, decrypted_by, encrypted_by, mix_columns, round_key, shift_rows, state_of, sub_bytes, inv_mix_columns, inv_shift_rows, inv_sub_bytes, xored};
 
@@ -78,7 +78,7 @@ pub(crate) fn four_words(s: &[u8]) -> [u32; 4]
 
 // A block as four words, with four words added.
 #[inline(always)]
-pub(crate) fn load(s: &[u8], k: &[u32]) -> [u32; 4]
+fn load(s: &[u8], k: &[u32]) -> [u32; 4]
     requires whole { length s.now ≡ 16 }
     requires key { length k.now ≡ 4 }
     ensures { state_of result ≡ xored s.now (state_of k.now) }
@@ -114,9 +114,8 @@ fn add_key(w: [u32; 4], k: &[u32]) -> [u32; 4]
     [a ^ k[0], b ^ k[1], c ^ k[2], d ^ k[3]]
 }
 
-// Inlined, so that the words stay in registers from block to block.
 #[inline(always)]
-pub(crate) fn encrypt_words(keys: &[u32], rounds: usize, first: [u32; 4]) -> [u32; 4]
+fn encrypt_words(keys: &[u32], rounds: usize, first: [u32; 4]) -> [u32; 4]
     requires some { 1 ≤ rounds }
     requires room { 4 * (rounds + 1) ≤ length keys.now }
     ensures { state_of result ≡ encrypted_by (bytes_of keys.now) rounds (state_of first) }
@@ -127,6 +126,49 @@ pub(crate) fn encrypt_words(keys: &[u32], rounds: usize, first: [u32; 4]) -> [u3
         w = next;
     }
     last_round(w, &keys[4 * rounds..4 * rounds + 4])
+}
+
+// A number of sixteen bytes into four words, the lowest first.
+#[inline(always)]
+fn split(n: u128) -> [u32; 4]
+    ensures { state_of result ≡ to_le_bytes w128 n }
+{
+    [
+        (n & 0xffff_ffff) as u32,
+        ((n >> 32) & 0xffff_ffff) as u32,
+        ((n >> 64) & 0xffff_ffff) as u32,
+        (n >> 96) as u32,
+    ]
+}
+
+// And back.
+#[inline(always)]
+fn join(w: [u32; 4]) -> u128
+    ensures { to_le_bytes w128 result ≡ state_of w }
+{
+    let [a, b, c, d] = w;
+    (a as u128) | ((b as u128) << 32) | ((c as u128) << 64) | ((d as u128) << 96)
+}
+
+// A block as one number, its first byte the lowest.
+#[inline(always)]
+pub(crate) fn number_of(s: &[u8]) -> u128
+    requires { length s.now ≡ 16 }
+    ensures { to_le_bytes w128 result ≡ s.now }
+{
+    join(four_words(s))
+}
+
+// Enciphers a block that is one number. Inlined, so that nothing goes through memory from block to
+// block; and a number, since four words that go round a loop are put into a vector, out of which the
+// tables' places have to be taken again.
+#[inline(always)]
+pub(crate) fn encrypt_number(keys: &[u32], rounds: usize, n: u128) -> u128
+    requires some { 1 ≤ rounds }
+    requires room { 4 * (rounds + 1) ≤ length keys.now }
+    ensures { to_le_bytes w128 result ≡ encrypted_by (bytes_of keys.now) rounds (to_le_bytes w128 n) }
+{
+    join(encrypt_words(keys, rounds, split(n)))
 }
 
 #[inline(never)]

@@ -1,6 +1,8 @@
-use Rattle.std.proofs.Common.{◌≡◌, ℕ, suc, List, length, ◌+◌, ◌-◌, ◌*◌, ◌/◌, ◌++◌, refl, sym, ap, ap₂, ◌∙◌, arith, add-one}
-use Rattle.aes_core.specs.Cipher.{encrypted, state_of, xored}
+use Rattle.std.proofs.Common.{◌≡◌, ℕ, suc, List, length, ◌+◌, ◌-◌, ◌*◌, ◌/◌, ◌++◌, bit_xor, refl, sym, ap, ap₂, ◌∙◌, arith, add-one}
+use Rattle.std.specs.Int.{to_le_bytes, w128}
+use Rattle.aes_core.specs.Cipher.{encrypted, xored}
 use Rattle.aes_core.specs.Modes.{block_at, chain, joined}
+use Rattle.aes_core.proofs.BigEndian.{le_xored}
 use Rattle.aes_core.proofs.BlockLoop.{Written, written_all, written_more, written_none, written_read, written_rest}
 use Rattle.aes_core.proofs.modes.cbc_tail_encrypt.Goals as goal
 
@@ -15,7 +17,7 @@ first key iv text = refl
 pub loop-i-init : goal.loop-i-init
 loop-i-init c =
     let f = λ (j : ℕ). chain c.args.key.now c.args.iv.now c.args.bytes.now (suc j) in (
-      c.four_words-chain.ensures ∙ first c.args.key.now c.args.iv.now c.args.bytes.now,
+      c.number_of-chain.ensures ∙ first c.args.key.now c.args.iv.now c.args.bytes.now,
       written_none f c.args.bytes.now,
     )
 
@@ -28,12 +30,13 @@ loop-i-preserved c =
     let f = λ (j : ℕ). chain key iv xs (suc j) in
     let w = c.loop-i.invariant.1 in
     let width : 16 * i + 16 - 16 * i ≡ 16 = omega arith in
-    let mixed : state_of c.load-mixed.result ≡ xored (block_at xs i) (chain key iv xs i) =
-    c.load-mixed.ensures ∙ ap₂ (λ (a b : List ℕ). xored a b) (written_read f xs c.loop-i.bytes i _ w width) c.loop-i.invariant.0 in
-    let made : state_of c.encrypt_words-chain.result ≡ f i = c.encrypt_words-chain.ensures ∙ ap (encrypted key) mixed ∙ next key iv xs i in
-    let stored : c.copy_from_slice.new.self ≡ f i = c.copy_from_slice.ensures.after ∙ c.store-block.ensures ∙ made in (
+    let mixed : to_le_bytes w128 (bit_xor c.number_of.result c.loop-i.chain) ≡ xored (block_at xs i) (chain key iv xs i) =
+    le_xored c.number_of.result c.loop-i.chain
+    ∙ ap₂ (λ (a b : List ℕ). xored a b) (c.number_of.ensures ∙ written_read f xs c.loop-i.bytes i _ w width) c.loop-i.invariant.0 in
+    let made : to_le_bytes w128 c.encrypt_number-chain.result ≡ f i = c.encrypt_number-chain.ensures ∙ ap (encrypted key) mixed ∙ next key iv xs i in
+    let stored : c.copy_from_slice.new.self ≡ f i = c.copy_from_slice.ensures.after ∙ c.to_le_bytes-block.ensures ∙ made in (
       made ∙ ap (chain key iv xs) (sym (add-one i)),
-      written_more f xs c.loop-i.bytes c.copy_from_slice.new.self i _ w (omega arith) width stored (ap length (c.copy_from_slice.ensures.after ∙ c.store-block.ensures)),
+      written_more f xs c.loop-i.bytes c.copy_from_slice.new.self i _ w (omega arith) width stored (ap length (c.copy_from_slice.ensures.after ∙ c.to_le_bytes-block.ensures)),
     )
 
 pub returns : goal.returns
