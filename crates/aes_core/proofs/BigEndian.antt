@@ -1,5 +1,5 @@
 -- A number of 16 bytes as four words: highest first, with the words' bytes turned round, and lowest first.
-use Rattle.std.proofs.Common.{◌≡◌, ℕ, ◌+◌, ◌*◌, ◌/◌, ◌%◌, ◌^◌, ◌<◌, [], ◌∷◌, ◌++◌, bit_xor, refl, sym, ap, ◌∙◌, arith}
+use Rattle.std.proofs.Common.{◌≡◌, ℕ, ◌+◌, ◌*◌, ◌/◌, ◌%◌, ◌^◌, ◌<◌, [], ◌∷◌, ◌++◌, bit_xor, List, refl, sym, ap, ◌∙◌, arith}
 use Rattle.std.specs.Int.{byte_at, from_be_bytes, from_le_bytes, swap_bytes, to_be_bytes, to_le_bytes, w32, w128}
 use Rattle.std.proofs.Math.Nat.{div-div-eq-div-mul}
 use Rattle.std.proofs.lemmas.Nat.{le_bytes_4, xor_mod, xor_shr}
@@ -106,3 +106,42 @@ le_xored m n =
     let b14 = byte_of_xor m n 112 in
     let b15 = byte_of_xor m n 120 in
     (λ i. b0 i ∷ b1 i ∷ b2 i ∷ b3 i ∷ b4 i ∷ b5 i ∷ b6 i ∷ b7 i ∷ b8 i ∷ b9 i ∷ b10 i ∷ b11 i ∷ b12 i ∷ b13 i ∷ b14 i ∷ b15 i ∷ [])
+
+-- ---- highest first, digit by digit
+
+abbrev pub digits_back : ℕ → List ℕ
+digits_back n =
+    let d1 = n / 256 in
+    let d2 = d1 / 256 in
+    let d3 = d2 / 256 in
+    let d4 = d3 / 256 in
+    let d5 = d4 / 256 in
+    let d6 = d5 / 256 in
+    let d7 = d6 / 256 in
+    let d8 = d7 / 256 in
+    let d9 = d8 / 256 in
+    let d10 = d9 / 256 in
+    let d11 = d10 / 256 in
+    let d12 = d11 / 256 in
+    let d13 = d12 / 256 in
+    let d14 = d13 / 256 in
+    let d15 = d14 / 256 in
+    d15 % 256 ∷ d14 % 256 ∷ d13 % 256 ∷ d12 % 256 ∷ d11 % 256 ∷ d10 % 256 ∷ d9 % 256 ∷ d8 % 256 ∷ d7 % 256 ∷ d6 % 256 ∷ d5 % 256 ∷ d4 % 256 ∷ d3 % 256 ∷ d2 % 256 ∷ d1 % 256 ∷ n % 256 ∷ []
+
+pub digits_back_are : (n : ℕ) → digits_back n ≡ to_be_bytes w128 n
+digits_back_are n =
+    let e2 = div-div-eq-div-mul n 256 256 in
+    let e3 = ap (λ (m : ℕ). m / 256) e2 ∙ div-div-eq-div-mul n 65536 256 in
+    let e4 = ap (λ (m : ℕ). m / 256) e3 ∙ div-div-eq-div-mul n 16777216 256 in
+    let e5 = ap (λ (m : ℕ). m / 256) e4 ∙ div-div-eq-div-mul n 4294967296 256 in
+    let e6 = ap (λ (m : ℕ). m / 256) e5 ∙ div-div-eq-div-mul n 1099511627776 256 in
+    let e7 = ap (λ (m : ℕ). m / 256) e6 ∙ div-div-eq-div-mul n 281474976710656 256 in
+    let e8 = ap (λ (m : ℕ). m / 256) e7 ∙ div-div-eq-div-mul n 72057594037927936 256 in
+    let e9 = ap (λ (m : ℕ). m / 256) e8 ∙ div-div-eq-div-mul n 18446744073709551616 256 in
+    let e10 = ap (λ (m : ℕ). m / 256) e9 ∙ div-div-eq-div-mul n 4722366482869645213696 256 in
+    let e11 = ap (λ (m : ℕ). m / 256) e10 ∙ div-div-eq-div-mul n 1208925819614629174706176 256 in
+    let e12 = ap (λ (m : ℕ). m / 256) e11 ∙ div-div-eq-div-mul n 309485009821345068724781056 256 in
+    let e13 = ap (λ (m : ℕ). m / 256) e12 ∙ div-div-eq-div-mul n 79228162514264337593543950336 256 in
+    let e14 = ap (λ (m : ℕ). m / 256) e13 ∙ div-div-eq-div-mul n 20282409603651670423947251286016 256 in
+    let e15 = ap (λ (m : ℕ). m / 256) e14 ∙ div-div-eq-div-mul n 5192296858534827628530496329220096 256 in
+    (λ i. e15 i % 256 ∷ e14 i % 256 ∷ e13 i % 256 ∷ e12 i % 256 ∷ e11 i % 256 ∷ e10 i % 256 ∷ e9 i % 256 ∷ e8 i % 256 ∷ e7 i % 256 ∷ e6 i % 256 ∷ e5 i % 256 ∷ e4 i % 256 ∷ e3 i % 256 ∷ e2 i % 256 ∷ n / 256 % 256 ∷ n % 256 ∷ [])

@@ -224,12 +224,22 @@ fn xor_eight(to: &mut [u8], with: &[u8x16; 8])
     }
 }
 
+// A number of sixteen bytes in a vector, the highest first: its halves as lanes, with their bytes
+// turned round. Made of an array the vector is put together byte by byte.
+#[inline(always)]
+fn big_endian_lanes(n: u128) -> u8x16
+    ensures { result ≡ to_be_bytes w128 n }
+{
+    let halves = u64x2::from_array([(n & 0xffff_ffff_ffff_ffff) as u64, (n >> 64) as u64]);
+    halves.to_le_bytes().reverse()
+}
+
 // Counter block i, in a vector.
 #[inline(always)]
 fn counter_lanes(start: u128, i: usize) -> u8x16
     ensures { result ≡ to_be_bytes w128 ((start + i) % 2 ^ 128) }
 {
-    u8x16::from_array(big_endian(start.wrapping_add(i as u128)))
+    big_endian_lanes(start.wrapping_add(i as u128))
 }
 
 // Eight blocks of the key stream, from block i on.
