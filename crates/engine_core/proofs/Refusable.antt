@@ -85,8 +85,11 @@ are_refusable f size is (w ∷ ws) are =
     let b = are.0 in (
       λ same.
           let log : f ≡ Log = same_file-≡ f w.file same ∙ b.file in
-          (omega (arith, is log, b.at, b.size, b.within), subst (λ (g : FileName). passes g (torn_bytes w.bytes) ≡ false) (sym log) (torn_refused w.bytes b.size b.sum)),
-      are_apart f w ws b are.1,
+          (
+            omega (arith, is log, b.at, b.size, b.within),
+            subst (λ (g : FileName). passes g (torn_bytes w.bytes) ≡ false) (sym log) (torn_refused w.bytes b.size b.sum),
+            are_apart f w ws b are.1,
+          ),
       are_refusable f size is ws are.1,
     )
 
