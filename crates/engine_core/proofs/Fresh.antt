@@ -9,7 +9,7 @@ use Rattle.disk_model.specs.declared.names.FileName.TheVariants.{Log}
 use Rattle.disk_model.specs.Past.{Past, At, grow}
 use Rattle.disk_model.proofs.Moments.{at_grow, at_is}
 use Rattle.disk_model.proofs.Blocks.{length-put, range-put_same, range-put_before, range-put_after}
-use Rattle.store_model.specs.declared.contents.SpaceInfo.{SpaceInfo}
+use Rattle.space_head.specs.declared.space.SpaceInfo.{SpaceInfo}
 use Rattle.engine_core.specs.Block.{checkpoint_head, header_head, space_word, space_words, IsBlock, IsCheckpoint, IsHeader}
 use Rattle.engine_core.specs.Log.{block_at, ring_place, IsFramed}
 use Rattle.engine_core.specs.Layer.{entry_at, HasNone, NoBlock, Spaced, IsFilled, IsEmpty, Ready}

@@ -2,7 +2,7 @@
 use Rattle.std.specs.Prelude.{◌≡◌, ℕ, ◌+◌, ◌^◌, ◌<◌, ◌≤◌, Bool, true, false, nat_eq, ◌&&◌, List, [], ◌∷◌, ◌++◌, length, take, drop, replicate, codes}
 use Rattle.std.specs.Int.{to_be_bytes, w16, w32, w64}
 use Rattle.bytes_core.specs.Crc.{crc32c}
-use Rattle.store_model.specs.declared.contents.SpaceInfo.{SpaceInfo}
+use Rattle.space_head.specs.declared.space.SpaceInfo.{SpaceInfo}
 
 -- the text with its checksum behind it
 unfoldable pub sealed : List ℕ → List ℕ

@@ -3,7 +3,7 @@ use Rattle.std.specs.Prelude.{◌≡◌, ℕ, true, List, []}
 use Rattle.disk_model.specs.Event.{Event, put, zeros, is_there, reads, marks}
 use Rattle.disk_model.specs.Image.{Leaves}
 use Rattle.disk_model.specs.declared.names.FileName.TheVariants.{Log}
-use Rattle.store_model.specs.declared.contents.SpaceInfo.{SpaceInfo}
+use Rattle.space_head.specs.declared.space.SpaceInfo.{SpaceInfo}
 use Rattle.engine_core.specs.Block.{IsCheckpoint, IsHeader}
 use Rattle.engine_core.specs.Log.{block_at}
 use Rattle.disk_model.specs.Crash.{unsynced_writes, synced_bytes}

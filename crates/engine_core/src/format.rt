@@ -10,8 +10,8 @@ ghost use Rattle.engine_core.specs.Made.{IsNow, IsHeaded, HasCheckpoint};
 use crate::StartFault;
 use crate::block::{Block, seal, zero_bytes};
 use disk_model::{Disk, DiskError, FileName};
+use space_head::SpaceInfo;
 use std::alloc::{AllocError, Global};
-use store_model::SpaceInfo;
 
 // Log bytes: a header, two checkpoints and 256 ring blocks of 4096 bytes.
 const LOG_BYTES: u64 = 1_060_864;

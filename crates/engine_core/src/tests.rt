@@ -3,9 +3,10 @@ ghost use Rattle.engine_core.specs.Text.{IsSmall};
 
 use crate::{Author, Engine, EngineFault, StartFault, State, create, scan};
 use disk_model::{Choice, Disk, FileName, MemDisk};
+use space_head::SpaceInfo;
 use std::alloc::{AllocError, Global};
 use std::test::Fail;
-use store_model::{Change, Mtr, Piece, SpaceInfo};
+use store_model::{Change, Mtr, Piece};
 
 const SPACE: SpaceInfo = SpaceInfo {
     space: 5,

@@ -11,7 +11,7 @@ use Rattle.disk_model.specs.Marks.{acked as acked_of}
 use Rattle.disk_model.specs.declared.contents.Contents.{Contents}
 use Rattle.disk_model.specs.declared.calls.Choice.{Choice}
 use Rattle.disk_model.specs.declared.calls.Choice.TheVariants.{Lost}
-use Rattle.store_model.specs.declared.contents.SpaceInfo.{SpaceInfo}
+use Rattle.space_head.specs.declared.space.SpaceInfo.{SpaceInfo}
 use Rattle.engine_core.specs.Layer.{Ready}
 use Rattle.engine_core.specs.Made.{IsHeaded}
 use Rattle.engine_core.specs.Stands.{Keeps, passes}

@@ -25,8 +25,9 @@ use crate::words::SpaceWords;
 use cause_core::OutOfMemory;
 use disk_model::{Choice, MemDisk};
 use engine_core::{Engine, Entry, Halted, Journal, create, scan};
+use space_head::SpaceInfo;
 use std::alloc::Global;
-use store_model::{Contents, Mtr, SpaceInfo, fold, report};
+use store_model::{Contents, Mtr, fold, report};
 
 /// How a drill ended.
 #[derive(Drop)]

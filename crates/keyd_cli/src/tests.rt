@@ -3,9 +3,10 @@ use crate::{Status, keyd_now};
 use disk_model::MemDisk;
 use io_core::{ByteSink, ByteSource, Shelf};
 use rand_pcg::Pcg32;
+use space_head::SpaceInfo;
 use std::alloc::{AllocError, Global};
 use std::test::Fail;
-use store_model::{Change, Contents, Mtr, Piece, SpaceInfo, fold, report};
+use store_model::{Change, Contents, Mtr, Piece, fold, report};
 
 const WORDS: &str = "drill --key-file keys1 --space 5:4:1:plain";
 
