@@ -1,0 +1,5 @@
+pub mod StoreTheory
+pub mod Recovers
+pub mod Stands
+pub mod Writes
+pub mod Rest

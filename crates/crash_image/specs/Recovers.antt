@@ -1,0 +1,73 @@
+-- What an image of a store recovers to under keys: contents, and the number of the run's last block.
+use Rattle.std.specs.Prelude.{◌≡◌, ◌≢◌, ℕ, ◌+◌, ◌*◌, true, List, [], ◌∷◌, length, Some}
+use Rattle.disk_model.specs.Image.{Image}
+use Rattle.disk_model.specs.declared.names.FileName.TheVariants.{Log, Double, Space}
+use Rattle.key_ring.specs.Ring.{Entry}
+use Rattle.places.specs.Places.{place}
+use Rattle.page_places.specs.Placed.{IsPlaced}
+use Rattle.page_places.specs.Views.{view}
+use Rattle.store_image.specs.Places.{LogView}
+use Rattle.store_image.specs.Recovers as pages
+use Rattle.store_image.specs.View.{Logged}
+use Rattle.store_model.specs.declared.change.Change.{Change}
+use Rattle.store_model.specs.declared.change.Change.TheVariants.{Put, Kind, Touch, Floor, Encrypt}
+use Rattle.store_model.specs.declared.contents.SpaceContents.{SpaceContents}
+use Rattle.store_files.specs.Header.{Header, HeaderSpace, header_in}
+use Rattle.store_files.specs.Pages.{has_page, pages_of, salts_of, HaveSpaces}
+use Rattle.store_files.specs.Run.{IsLogOf, IsClear}
+use Rattle.crash_image.specs.StoreTheory.{store_theory}
+
+-- The header is block 0 of the log's file, where that is valid. A copy of it elsewhere would be looked for here alone.
+abbrev pub HasHeader : Image → Header → Type 0
+HasHeader image header = header_in (place 4096 0 (image.bytes Log)) ≡ Some header
+
+-- each space has as many bytes as its pages
+abbrev pub SpacesLong : Image → List HeaderSpace → Type 0
+SpacesLong image [] = Unit {0}
+SpacesLong image (s ∷ ss) = (length (image.bytes (Space s.space)) ≡ s.pages * 16384) × SpacesLong image ss
+
+-- each file is as long as the header says
+pub record AreLong (image : Image) (header : Header) : Type 0 where
+  pub log : length (image.bytes Log) ≡ (3 + header.blocks) * 4096
+  pub double : length (image.bytes Double) ≡ 64 * 16896
+  pub spaces : SpacesLong image header.spaces
+
+-- the change is one of the store's pages
+abbrev pub IsOfStore : List HeaderSpace → Change → Type 0
+IsOfStore spaces (Put s page at bytes) = has_page spaces s page ≡ true
+IsOfStore spaces (Kind s page kind) = has_page spaces s page ≡ true
+IsOfStore spaces (Touch s page) = has_page spaces s page ≡ true
+IsOfStore spaces (Floor s version) = has_page spaces s 0 ≡ true
+IsOfStore spaces (Encrypt s) = has_page spaces s 0 ≡ true
+
+abbrev pub AreOfStore : List HeaderSpace → List Change → Type 0
+AreOfStore spaces [] = Unit {0}
+AreOfStore spaces (c ∷ cs) = IsOfStore spaces c × AreOfStore spaces cs
+
+-- each change of the run is one of the store's pages
+abbrev pub RunIsOfStore : List HeaderSpace → List (Logged (List Change)) → Type 0
+RunIsOfStore spaces [] = Unit {0}
+RunIsOfStore spaces (e ∷ es) = AreOfStore spaces e.mtr × RunIsOfStore spaces es
+
+-- Reads says which changes a text of the log says.
+module _ (Reads : List ℕ → List Change → Type 0) (image : Image) (keys : List Entry) where
+  -- Under this header and with this run the image recovers to these contents.
+  pub record RecoversBy (header : Header) (log : LogView (List Change)) (c : List SpaceContents) : Type 0 where
+    pub long : AreLong image header
+    pub run : IsLogOf Reads header keys (image.bytes Log) log
+    pub of_store : RunIsOfStore header.spaces log.run
+    -- no home has the text of another page
+    pub placed : (s p : ℕ) → has_page header.spaces s p ≡ true → IsPlaced p (place 16384 p (image.bytes (Space s)))
+    pub spaces : HaveSpaces header.spaces c
+    -- each page is its chosen text's with the run's later changes, and so is what any live slot gives
+    pub pages : pages.Recovers (store_theory header keys (salts_of c)) (view log image) (pages_of c)
+    -- no ring block has a number that the blocks behind the run could meet
+    pub clear : IsClear header.blocks (image.bytes Log) (log.end + header.blocks)
+
+  -- The image recovers to these contents; last is the number of the run's last block, or that before the run where it is empty.
+  pub record Recovers (c : List SpaceContents) (last : ℕ) : Type 0 where
+    pub header : Header
+    pub is_header : HasHeader image header
+    pub log : LogView (List Change)
+    pub is_last : last + 1 ≡ log.end
+    pub by : RecoversBy header log c

@@ -1,0 +1,164 @@
+-- A page 0 is that of one head.
+use Rattle.std.proofs.Common.{◌≡◌, ℕ, zero, suc, ◌+◌, ◌-◌, ◌^◌, ◌<◌, ◌≤◌, Bool, true, false, List, [], ◌∷◌, ◌++◌, length, take, drop, Option, Some, None, Ok, Result, IfSome, if◌then◌else◌, refl, sym, ap, ap₂, ◌∙◌, arith, inl, inr, length-append, length-drop}
+use Rattle.std.proofs.lemmas.List.{length-replicate}
+use Rattle.std.specs.Int.{to_be_bytes, w32}
+use Rattle.byte_list.specs.Bytes.{zeros}
+use Rattle.page_text.specs.Parts.{body, part_of}
+use Rattle.page_text.proofs.PartLaws.{cut_at}
+use Rattle.space_head.specs.Fields.{part, overwritten}
+use Rattle.space_head.specs.Head.{IsAccepted, IsTyped, head_of, with_head}
+use Rattle.space_head.specs.Record.{IsTypedRecord, crypt_bytes, record_end}
+use Rattle.space_head.specs.Sizes.{IsPageSize, page_size, record_place, pages_per_extent, size_of_code}
+use Rattle.space_head.specs.declared.fault.HeadFault.{HeadFault}
+use Rattle.space_head.specs.declared.head.SpaceHead.{SpaceHead}
+use Rattle.space_head.specs.declared.record.CryptRecord.{CryptRecord}
+use Rattle.space_head.specs.declared.space.SpaceInfo.{SpaceInfo}
+use Rattle.space_head.proofs.Heads.{head_back}
+use Rattle.space_head.proofs.Parts.{length-overwritten, part-overwritten_above, part-overwritten_below}
+use Rattle.space_head.proofs.Places.{place_inside}
+use Rattle.store_files.specs.Pages.{IsTypedInfo, head_of_space, head_page}
+
+crypt_long : (crypt : Option CryptRecord) → IfSome crypt IsTypedRecord → length (crypt_bytes crypt) ≡ 33
+crypt_long None fits = refl
+crypt_long (Some r) fits = omega (arith, fits.salt_long, length-append r.salt (record_end r))
+
+-- a page with a head is as before it in the first 38 bytes and behind the record
+module _ (head : SpaceHead) (page : List ℕ) (sized : IsPageSize (length page)) (fits : IsTyped head) where
+  abbrev place : ℕ
+  place = record_place (length page)
+
+  abbrev crypt : List ℕ
+  crypt = crypt_bytes head.crypt
+
+  abbrev p1 : List ℕ
+  p1 = overwritten page 38 (to_be_bytes w32 head.space)
+
+  abbrev p2 : List ℕ
+  p2 = overwritten p1 46 (to_be_bytes w32 head.pages)
+
+  abbrev p3 : List ℕ
+  p3 = overwritten p2 54 (to_be_bytes w32 head.flags)
+
+  record Facts : Type 0 where
+    inside : (58 ≤ place) × (place + 33 ≤ length page)
+    record_long : length crypt ≡ 33
+    l1 : length p1 ≡ length page
+    l2 : length p2 ≡ length page
+    l3 : length p3 ≡ length page
+
+  facts : Facts
+  facts =
+      let inside = place_inside (length page) sized in
+      let l1 : length p1 ≡ length page = length-overwritten page (to_be_bytes w32 head.space) 38 (omega arith) in
+      let l2 : length p2 ≡ length page = length-overwritten p1 (to_be_bytes w32 head.pages) 46 (omega arith) ∙ l1 in
+      record {
+        inside = inside;
+        record_long = crypt_long head.crypt fits.crypt_fits;
+        l1 = l1;
+        l2 = l2;
+        l3 = length-overwritten p2 (to_be_bytes w32 head.flags) 54 (omega arith) ∙ l2;
+      }
+
+  pub long : length (with_head head page) ≡ length page
+  long = let f = facts in length-overwritten p3 crypt place (omega arith) ∙ f.l3
+
+  pub first_part : part (with_head head page) 0 38 ≡ part page 0 38
+  first_part =
+      let f = facts in
+      part-overwritten_below p3 crypt place (omega arith) 0 38 (omega arith)
+      ∙ part-overwritten_below p2 (to_be_bytes w32 head.flags) 54 (omega arith) 0 38 (omega arith)
+      ∙ part-overwritten_below p1 (to_be_bytes w32 head.pages) 46 (omega arith) 0 38 (omega arith)
+      ∙ part-overwritten_below page (to_be_bytes w32 head.space) 38 (omega arith) 0 38 (omega arith)
+
+  pub last_part : (at n : ℕ) → place + 33 ≤ at → part (with_head head page) at n ≡ part page at n
+  last_part at n behind =
+      let f = facts in
+      part-overwritten_above p3 crypt place (omega arith) at n (omega arith)
+      ∙ part-overwritten_above p2 (to_be_bytes w32 head.flags) 54 (omega arith) at n (omega arith)
+      ∙ part-overwritten_above p1 (to_be_bytes w32 head.pages) 46 (omega arith) at n (omega arith)
+      ∙ part-overwritten_above page (to_be_bytes w32 head.space) 38 (omega arith) at n (omega arith)
+
+-- the page, of its first bytes, its body and its last bytes
+joined : (page : List ℕ) → 46 ≤ length page → take 38 page ++ (body page ++ drop (length page - 8) page) ≡ page
+joined page room = cut_at page 38 (length page - 8) (omega arith)
+
+end_whole : (xs : List ℕ) (n : ℕ) → length xs ≤ n → take n xs ≡ xs
+end_whole [] n le = by n
+  where
+    by : (n : ℕ) → ◌≡◌ {A = List ℕ} (take n []) []
+    by zero = refl
+    by (suc n) = refl
+end_whole (x ∷ xs) zero le = absurd (omega arith)
+end_whole (x ∷ xs) (suc n) le = ap (λ (l : List ℕ). x ∷ l) (end_whole xs n (omega arith))
+
+module _ (a b : SpaceHead) (page : List ℕ) (sized : IsPageSize (length page)) (fa : IsTyped a) (fb : IsTyped b) (oa : IsAccepted a (length page)) (ob : IsAccepted b (length page)) where
+  end_same : (inside : record_place (length page) + 41 ≤ length page) → drop (length (with_head a page) - 8) (with_head a page) ≡ drop (length (with_head b page) - 8) (with_head b page)
+  end_same inside =
+      let la = long a page sized fa in
+      let lb = long b page sized fb in
+      let n : ℕ = length page - 8 in
+      ap (λ (k : ℕ). drop (k - 8) (with_head a page)) la
+      ∙ sym (end_whole (drop n (with_head a page)) 8 (omega (arith, length-drop n (with_head a page), la)))
+      ∙ last_part a page sized fa n 8 (omega arith)
+      ∙ sym (last_part b page sized fb n 8 (omega arith))
+      ∙ end_whole (drop n (with_head b page)) 8 (omega (arith, length-drop n (with_head b page), lb))
+      ∙ sym (ap (λ (k : ℕ). drop (k - 8) (with_head b page)) lb)
+
+  pub heads_same : record_place (length page) + 41 ≤ length page → body (with_head a page) ≡ body (with_head b page) → a ≡ b
+  heads_same inside same =
+      let la = long a page sized fa in
+      let lb = long b page sized fb in
+      let first : take 38 (with_head a page) ≡ take 38 (with_head b page) = first_part a page sized fa ∙ sym (first_part b page sized fb) in
+      let whole : with_head a page ≡ with_head b page =
+      sym (joined (with_head a page) (omega arith))
+      ∙ (λ i. first i ++ (same i ++ end_same inside i))
+      ∙ joined (with_head b page) (omega arith) in
+      one_ok a b (sym (head_back a page sized fa oa) ∙ ap head_of whole ∙ head_back b page sized fb ob)
+    where
+      one_ok : (x y : SpaceHead) → ◌≡◌ {A = Result SpaceHead HeadFault} (Ok x) (Ok y) → x ≡ y
+      one_ok x y e = cc
+
+-- ---- spaces
+
+accepted : (info : SpaceInfo) → IsAccepted (head_of_space info) 16384
+unfolding page_size size_of_code
+accepted info = record { flags_name = refl; mode_known = by info.ciphered }
+  where
+    by : (b : Bool) → (if b then 1 else 2) ≤ 2
+    by true = omega arith
+    by false = omega arith
+
+typed : (info : SpaceInfo) → IsTypedInfo info → IsTyped (head_of_space info)
+typed info t = record {
+  space_fits = t.space_fits;
+  pages_fits = t.pages_fit;
+  flags_fits = omega arith;
+  crypt_fits = record { salt_long = t.salt_long; minimum_fits = t.floor_fits; key_id_fits = t.key_id_fits };
+}
+
+long_zeros : (n : ℕ) → length (zeros n) ≡ n
+unfolding zeros
+long_zeros n = length-replicate n 0
+
+place_16384 : record_place 16384 ≡ 10428
+unfolding record_place pages_per_extent
+place_16384 = refl
+
+info_one : (a b : SpaceInfo) → head_of_space a ≡ head_of_space b → a ≡ b
+info_one a b same =
+    let crypts : record { ciphered = a.ciphered; salt = a.salt; minimum = a.floor; key_id = a.key_id; mode = if a.ciphered then 1 else 2 } ≡ record { ciphered = b.ciphered; salt = b.salt; minimum = b.floor; key_id = b.key_id; mode = if b.ciphered then 1 else 2 } =
+    one_some _ _ (ap (λ (h : SpaceHead). h.crypt) same) in
+    (λ i. record { space = (same i).space; pages = (same i).pages; key_id = (crypts i).key_id; salt = (crypts i).salt; ciphered = (crypts i).ciphered; floor = (crypts i).minimum })
+  where
+    one_some : (x y : CryptRecord) → Some x ≡ Some y → x ≡ y
+    one_some x y e = cc
+
+-- the zero page stands behind a name, so that its bytes are never counted
+by_page : (a b : SpaceInfo) (page : List ℕ) → length page ≡ 16384 → IsTypedInfo a → IsTypedInfo b → body (with_head (head_of_space a) page) ≡ body (with_head (head_of_space b) page) → a ≡ b
+by_page a b page long ta tb same =
+    let sized : IsPageSize (length page) = inr (inr (inl long)) in
+    let place : record_place (length page) ≡ 10428 = ap record_place long ∙ place_16384 in
+    info_one a b (heads_same (head_of_space a) (head_of_space b) page sized (typed a ta) (typed b tb) (rw long (accepted a)) (rw long (accepted b)) (omega arith) same)
+
+pub head_one : (a b : SpaceInfo) → IsTypedInfo a → IsTypedInfo b → head_page a ≡ head_page b → a ≡ b
+head_one a b ta tb same = by_page a b (zeros 16384) (long_zeros 16384) ta tb (λ i. (same i).bytes)

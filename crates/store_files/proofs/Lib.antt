@@ -1,0 +1,6 @@
+pub mod TextsOnce
+pub mod HeadsOnce
+pub mod PageLaws
+pub mod HeadersWritten
+pub mod CheckpointsWritten
+pub mod RunsOnce

@@ -1,0 +1,5 @@
+pub mod Header
+pub mod Checkpoint
+pub mod RingBlock
+pub mod Run
+pub mod Pages

@@ -1,0 +1,16 @@
+//! The files of a store as bytes: what each place says, and what is written there.
+//!
+//! Definitions and laws alone:
+//!
+//! 1. `header_in`, `checkpoint_in` and `is_ring_block` are what a block of the log's file says, by
+//!    its bytes alone; `held` and `slot_held` of page_places are what a home and a slot hold. What
+//!    a valid header is stands in one place (`is_header`). A header and a checkpoint that are
+//!    written are read back, and refused once their last byte is inverted.
+//! 2. `IsRun` is where the run of a log begins and ends, by its blocks alone: from the newest
+//!    checkpoint on the longest list of whole mini-transactions. `IsLogOf` is what the run says
+//!    under the keys, and that is one thing (`log_one`).
+//! 3. `Page` is what a page holds, `mtr_acts` what a mini-transaction does to one page, `pages_of`
+//!    the pages of contents. `MeansPage` says which bytes are the text of a page under the keys;
+//!    a text is that of one page (`means_one`), and a page has one text at an LSN and a version
+//!    (`means_text`).
+#![tactic(auto)]
