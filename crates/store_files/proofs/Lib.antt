@@ -4,3 +4,4 @@ pub mod PageLaws
 pub mod HeadersWritten
 pub mod CheckpointsWritten
 pub mod RunsOnce
+pub mod ContentsOnce
