@@ -1,5 +1,5 @@
 // Named files that are read.
-ghost use Rattle.std.specs.Prelude.{◌≡◌, ◌≤◌, ℕ, length, Option, IfOk};
+ghost use Rattle.std.specs.Prelude.{◌≡◌, ◌≤◌, ℕ, List, length, Option, IfOk, IsErrOf};
 ghost use Rattle.std.specs.Option.{option_map};
 ghost use Rattle.io_core.specs.Told.{Told};
 ghost use Rattle.io_core.specs.Files.{Files, bytes_from, IsFilled};
@@ -21,6 +21,10 @@ pub trait Library {
     /// How often a file was asked for that wasn't there. The count never falls.
     ghost absences: { Self → ℕ };
 
+    /// Whether the call that failed last was for the file of this name. A library that doesn't keep
+    /// the name lets it be any; code over every library can show it only of a file that it called for.
+    ghost failed_last: { Self → List ℕ → Type 0 };
+
     /// The length of a file in bytes, and `None` where there is none of that name.
     ///
     /// # Errors
@@ -30,7 +34,8 @@ pub trait Library {
         ensures same { files self.new ≡ files self.old }
         ensures absence { HasAbsence (absences self.old) (absences self.new) result }
         ensures cause { HasCause (faults self.old) (faults self.new) result }
-        ensures want { HasWant (wants self.old) (wants self.new) result };
+        ensures want { HasWant (wants self.old) (wants self.new) result }
+        ensures failed_last { IsErrOf result IoError.Failed → failed_last self.new name.now };
 
     /// Fills the front of `into` with as many bytes as the file has from byte `at` on, at most
     /// `into.len()`, and returns how many; a name that isn't there has none. A library that tells its
@@ -46,5 +51,6 @@ pub trait Library {
         ensures same { files self.new ≡ files self.old }
         ensures absences { absences self.old ≤ absences self.new }
         ensures cause { HasCause (faults self.old) (faults self.new) result }
-        ensures want { HasWant (wants self.old) (wants self.new) result };
+        ensures want { HasWant (wants self.old) (wants self.new) result }
+        ensures failed_last { IsErrOf result IoError.Failed → failed_last self.new name.now };
 }

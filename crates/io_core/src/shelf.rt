@@ -1,5 +1,5 @@
 // A library in memory.
-ghost use Rattle.std.specs.Prelude.{◌≡◌, ◌≢◌, ◌↔◌, ◌≤◌, ℕ, Some, None, Ok, All, [], length, IfOk, OnOk, OnErr, IsErr};
+ghost use Rattle.std.specs.Prelude.{◌≡◌, ◌≢◌, ◌↔◌, ◌≤◌, ℕ, Some, None, Ok, All, [], length, IfOk, OnOk, OnErr, IsErr, IsErrOf};
 ghost use Rattle.std.specs.Option.{option_map, option_copied};
 ghost use Rattle.io_core.specs.Told.{Told};
 ghost use Rattle.io_core.specs.Files.{bytes_from, IsFilled};
@@ -67,6 +67,8 @@ impl Library for Shelf {
 
     ghost absences = { λ s. s.absences };
 
+    ghost failed_last = { λ _ _. Unit {0} };
+
     /// It answers `Failed` exactly at the listed calls, and never `NoMemory`.
     fn length(&mut self, name: &str) -> Result<Option<u64>, IoError>
         ensures length { IfOk result (λ n. Told (λ fs. n ≡ option_map length (fs name.now)) (Some (files_of self.old.files))) }
@@ -74,6 +76,7 @@ impl Library for Shelf {
         ensures absence { HasAbsence self.old.absences self.new.absences result }
         ensures cause { HasCause self.old.calls.faults self.new.calls.faults result }
         ensures want { HasWant 0 0 result }
+        ensures failed_last { IsErrOf result IoError.Failed → Unit {0} }
         ensures failed { IsErr result ↔ IsToFail self.old.calls }
         ensures only { result ≢ Err IoError.NoMemory }
         ensures kept { self.new.files ≡ self.old.files }
@@ -98,6 +101,7 @@ impl Library for Shelf {
         ensures absences { self.old.absences ≤ self.new.absences }
         ensures cause { HasCause self.old.calls.faults self.new.calls.faults result }
         ensures want { HasWant 0 0 result }
+        ensures failed_last { IsErrOf result IoError.Failed → Unit {0} }
         ensures failed { IsErr result ↔ IsToFail self.old.calls }
         ensures only { result ≢ Err IoError.NoMemory }
         ensures unread { OnErr result (into.new ≡ into.old) }

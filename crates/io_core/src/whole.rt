@@ -1,5 +1,5 @@
 // Reading a whole source or file, up to a limit of bytes.
-ghost use Rattle.std.specs.Prelude.{◌≡◌, ◌≤◌, IfOk, Ok};
+ghost use Rattle.std.specs.Prelude.{◌≡◌, ◌≤◌, IfOk, Ok, IsErrOf};
 ghost use Rattle.cause_core.specs.Counts.{Rose};
 ghost use Rattle.io_core.specs.Told.{Told};
 ghost use Rattle.io_core.specs.Cause.{HasCause};
@@ -79,6 +79,7 @@ pub fn read_file<L: Library>(
     ensures absences { L.absences files.old ≤ L.absences files.new }
     ensures cause { HasCause (L.faults files.old) (L.faults files.new) result }
     ensures wants { L.wants files.old ≤ L.wants files.new }
+    ensures failed_last { IsErrOf result IoError.Failed → L.failed_last files.new name.now }
 {
     let Some(length) = files.length(name)? else {
         return Ok(FileContents::Missing);
