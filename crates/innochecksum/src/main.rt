@@ -17,7 +17,7 @@ fn main(rt: HostRuntime) -> ExitCode {
         }
         Err(_) => return end(&rt, CheckStatus::Usage, ""),
     };
-    let mut files = Folder::new(&rt);
+    let mut files = Folder::new(rt.alloc(), &rt);
     let mut out = StdSink::new(io::writer(&rt));
     let status = innochecksum(rt.alloc(), &words, &mut files, &mut out);
     match read_words(rt.alloc(), &words) {

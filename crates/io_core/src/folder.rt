@@ -3,50 +3,132 @@ ghost use Rattle.std.specs.Prelude.{◌≡◌, ◌≤◌, None, length, IfOk};
 
 use crate::counts::{Counts, read_full};
 use crate::{IoError, Library};
-use std::io::{ErrorKind, Seek, SeekFrom};
+use std::alloc::Global;
+use std::fs::OpenFile;
+use std::io::{ErrorKind, Read, Seek, SeekFrom};
 use std::rt::Files;
 use std::{fs, io};
 
 /// A library over the files of the current folder: a name is a path from there. It tells nothing of
-/// its files. Each call opens the file anew. What is there but is no regular file, as a folder, is
-/// answered `Failed`; so is a read of a file that isn't there. An error of kind `OutOfMemory` is
-/// answered `NoMemory`, every other one `Failed`.
+/// its files. A file is opened at its first call, and stays open up to the next call for another
+/// name or an error. What is there but is no regular file, as a folder, is answered `Failed`; so is a
+/// read of a file that isn't there. An error of kind `OutOfMemory` is answered `NoMemory`, every
+/// other one `Failed`.
 #[derive(Drop)]
-pub struct Folder<'a, R> {
+pub struct Folder<'a, R: Files> {
+    alloc: Global,
     rt: &'a R,
     counts: Counts,
     absences: u64,
+    opened: Option<Opened<R::File>>,
+}
+
+// A file that is open.
+#[derive(Drop)]
+struct Opened<F> {
+    name: String,
+    file: F,
+    // Where its next read begins, where that is known.
+    place: Option<u64>,
 }
 
 impl<'a, R: Files> Folder<'a, R> {
     /// The files that this runtime reaches. None is opened yet.
-    pub fn new(rt: &'a R) -> Folder<'a, R>
+    pub fn new(alloc: Global, rt: &'a R) -> Folder<'a, R>
         ensures faults { ⟦<Folder<'a, R> as Library>⟧.faults result ≡ 0 }
         ensures wants { ⟦<Folder<'a, R> as Library>⟧.wants result ≡ 0 }
         ensures absences { ⟦<Folder<'a, R> as Library>⟧.absences result ≡ 0 }
     {
         Folder {
+            alloc,
             rt,
             counts: Counts::zero(),
             absences: 0,
+            opened: None,
         }
     }
 }
 
-// Reads from a place of a regular file on.
-fn read_at<R: Files>(rt: &R, name: &str, at: u64, into: &mut [u8]) -> io::Result<usize>
-    ensures { IfOk result (λ n. n ≤ length into.old) }
-{
-    let metadata = fs::metadata(rt, name)?;
-    if !metadata.is_file() {
+// Opens a regular file. Nothing else is opened, since that may wait or have effects.
+fn open<R: Files>(alloc: Global, rt: &R, name: &str) -> io::Result<Opened<R::File>> {
+    if !fs::metadata(rt, name)?.is_file() {
         return Err(io::Error::from(ErrorKind::InvalidInput));
     }
-    if at >= metadata.len() {
-        return Ok(0);
+    let copy = String::from_str(alloc, name)?;
+    let file = fs::open(rt, name)?;
+    if !file.metadata()?.is_file() {
+        return Err(io::Error::from(ErrorKind::InvalidInput));
     }
-    let mut file = fs::open(rt, name)?;
-    file.seek(SeekFrom::Start(at))?;
-    read_full(&mut file, into)
+    Ok(Opened {
+        name: copy,
+        file,
+        place: Some(0),
+    })
+}
+
+// The file of a name: the one that is open, or opened now.
+fn file_of<R: Files>(
+    alloc: Global,
+    rt: &R,
+    held: Option<Opened<R::File>>,
+    name: &str,
+) -> io::Result<Opened<R::File>> {
+    if let Some(opened) = held {
+        if opened.name.as_str() == name {
+            return Ok(opened);
+        }
+    }
+    open(alloc, rt, name)
+}
+
+// Reads from a place of a file on.
+fn read_at<F: Read + Seek + OpenFile>(
+    opened: &mut Opened<F>,
+    at: u64,
+    into: &mut [u8],
+) -> io::Result<usize>
+    ensures { IfOk result (λ n. n ≤ length into.old) }
+{
+    if opened.place.take() != Some(at) {
+        // Some systems refuse to go far past the end.
+        if at >= opened.file.metadata()?.len() {
+            return Ok(0);
+        }
+        opened.file.seek(SeekFrom::Start(at))?;
+    }
+    let count = read_full(&mut opened.file, into)?;
+    opened.place = at.checked_add(count as u64);
+    Ok(count)
+}
+
+// The length of the file of a name.
+fn measure<R: Files>(
+    alloc: Global,
+    rt: &R,
+    held: &mut Option<Opened<R::File>>,
+    name: &str,
+) -> io::Result<u64> {
+    let opened = file_of(alloc, rt, held.take(), name)?;
+    let length = opened.file.metadata()?.len();
+    *held = Some(opened);
+    Ok(length)
+}
+
+// Reads from a place of the file of a name on.
+fn fill<R: Files>(
+    alloc: Global,
+    rt: &R,
+    held: &mut Option<Opened<R::File>>,
+    name: &str,
+    at: u64,
+    into: &mut [u8],
+) -> io::Result<usize>
+    ensures { IfOk result (λ n. n ≤ length into.old) }
+{
+    let mut opened = file_of(alloc, rt, held.take(), name)?;
+    let count = read_at(&mut opened, at, into)?;
+    *held = Some(opened);
+    Ok(count)
 }
 
 impl<'a, R: Files> Library for Folder<'a, R> {
@@ -61,22 +143,17 @@ impl<'a, R: Files> Library for Folder<'a, R> {
     ghost failed_last = { λ _ _. Unit {0} };
 
     fn length(&mut self, name: &str) -> Result<Option<u64>, IoError> {
-        let outcome = match fs::metadata(self.rt, name) {
+        match measure(self.alloc, self.rt, &mut self.opened, name) {
             Err(e) if e.kind() == ErrorKind::NotFound => {
                 self.absences = self.absences.saturating_add(1);
-                return Ok(None);
+                Ok(None)
             }
-            outcome => outcome,
-        };
-        let metadata = self.counts.answer(outcome)?;
-        if !metadata.is_file() {
-            return Err(self.counts.failed());
+            outcome => Ok(Some(self.counts.answer(outcome)?)),
         }
-        Ok(Some(metadata.len()))
     }
 
     fn read(&mut self, name: &str, at: u64, into: &mut [u8]) -> Result<usize, IoError> {
-        let outcome = read_at(self.rt, name, at, into);
+        let outcome = fill(self.alloc, self.rt, &mut self.opened, name, at, into);
         self.counts.answer(outcome)
     }
 }

@@ -28,6 +28,8 @@ mod counts;
 mod error;
 mod folder;
 mod library;
+#[cfg(test)]
+mod opens;
 mod shelf;
 mod sink;
 mod source;

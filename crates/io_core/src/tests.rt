@@ -1,3 +1,4 @@
+use crate::opens::Opens;
 use crate::{
     ByteSink, ByteSource, FileContents, Folder, IoError, Library, Shelf, Sink, Source,
     SourceContents, StdSink, StdSource, read_all, read_file,
@@ -110,7 +111,7 @@ fn the_forms_over_std_write_read_and_look_up_a_file(rt: HostRuntime) -> Result<(
     assert_eq!(rt; source.take(&mut into), Ok(7));
     assert_eq!(rt; into.as_slice(), b"one two--".as_slice());
     assert_eq!(rt; source.take(&mut into), Ok(0));
-    let mut folder = Folder::new(&rt);
+    let mut folder = Folder::new(rt.alloc(), &rt);
     assert_eq!(rt; folder.length("io_core_test.txt"), Ok(Some(7)));
     assert_eq!(rt; folder.length("io_core_none.txt"), Ok(None));
     assert_eq!(rt; folder.length("."), Err(IoError::Failed));
@@ -123,6 +124,32 @@ fn the_forms_over_std_write_read_and_look_up_a_file(rt: HostRuntime) -> Result<(
     );
     assert_eq!(rt; folder.read(".", 0, &mut into), Err(IoError::Failed));
     fs::remove_file(&rt, "io_core_test.txt")?;
+    Ok(())
+}
+
+#[test]
+fn a_folder_opens_a_file_once(rt: HostRuntime) -> Result<(), Fail> {
+    fs::write(&rt, "io_core_once.txt", "abcdefghi")?;
+    let opens = Opens::new(&rt);
+    let mut folder = Folder::new(rt.alloc(), &opens);
+    assert_eq!(rt; folder.length("io_core_once.txt"), Ok(Some(9)));
+    let reads = [
+        (0, 4, b"abcd"),
+        (4, 4, b"efgh"),
+        (8, 1, b"i---"),
+        (2, 4, b"cdef"),
+        (9, 0, b"----"),
+        (u64::MAX, 0, b"----"),
+        (6, 3, b"ghi-"),
+    ];
+    for (at, count, bytes) in reads {
+        let mut into = [b'-'; 4];
+        assert_eq!(rt; folder.read("io_core_once.txt", at, &mut into), Ok(count));
+        assert_eq!(rt; into.as_slice(), bytes.as_slice(), "at {at}");
+    }
+    assert_eq!(rt; folder.length("io_core_once.txt"), Ok(Some(9)));
+    assert_eq!(rt; opens.count(), 1);
+    fs::remove_file(&rt, "io_core_once.txt")?;
     Ok(())
 }
 

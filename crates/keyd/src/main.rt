@@ -101,7 +101,7 @@ fn run(rt: &HostRuntime, words: &[String]) -> Status {
         Err(error) => return status_of(&error, Status::InputFault),
     };
     let disk = FileDisk::new(rt.alloc(), rt);
-    let mut files = Folder::new(rt);
+    let mut files = Folder::new(rt.alloc(), rt);
     let mut input = StdSource::new(rt.stdin());
     let mut out = StdSink::new(io::writer(rt));
     let ended = keyd_now(
