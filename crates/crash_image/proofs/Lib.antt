@@ -1,1 +1,3 @@
 pub mod RecoversOnce
+pub mod StandsBy
+pub mod LuckyCrashes

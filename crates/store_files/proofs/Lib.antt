@@ -5,3 +5,4 @@ pub mod HeadersWritten
 pub mod CheckpointsWritten
 pub mod RunsOnce
 pub mod ContentsOnce
+pub mod Folds
