@@ -6,3 +6,4 @@ pub mod CheckpointsWritten
 pub mod RunsOnce
 pub mod ContentsOnce
 pub mod Folds
+pub mod TextsHeld

@@ -5,7 +5,9 @@
 //! 1. `header_in`, `checkpoint_in` and `is_ring_block` are what a block of the log's file says, by
 //!    its bytes alone; `held` and `slot_held` of page_places are what a home and a slot hold. What
 //!    a valid header is stands in one place (`is_header`). A header and a checkpoint that are
-//!    written are read back, and refused once their last byte is inverted.
+//!    written are read back (`header_back`, `checkpoint_back`), and a page that was sealed is held
+//!    by its home and its slot (`sealed_held`, `sealed_slot`). Each is refused once its last byte
+//!    is inverted.
 //! 2. `IsRun` is where the run of a log begins and ends, by its blocks alone: from the newest
 //!    checkpoint on the longest list of whole mini-transactions. `IsLogOf` is what the run says
 //!    under the keys, and that is one thing (`log_one`).
