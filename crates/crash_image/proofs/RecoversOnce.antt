@@ -10,7 +10,7 @@ use Rattle.store_image.specs.Recovers as pages
 use Rattle.store_image.specs.View.{Text, View, Logged}
 use Rattle.store_image.proofs.ChosenTexts.{chosen_one}
 use Rattle.store_image.proofs.RecoversOnce.{page_one}
-use Rattle.store_model.specs.declared.change.Change.{Change}
+use Rattle.redo_text.specs.declared.change.Change.{Change}
 use Rattle.store_model.specs.declared.contents.SpaceContents.{SpaceContents}
 use Rattle.store_files.specs.Header.{Header, header_in, are_in_order}
 use Rattle.store_files.specs.Pages.{Page, Head, Unused, Used, MeansPage, has_page, pages_of, salts_of}

@@ -12,7 +12,7 @@ use Rattle.store_image.specs.Places.{LogView}
 use Rattle.store_image.specs.Recovers as pages
 use Rattle.store_image.specs.View.{Text, View, Logged, IsLive}
 use Rattle.store_model.specs.Fold.{fold}
-use Rattle.store_model.specs.declared.change.Change.{Change}
+use Rattle.redo_text.specs.declared.change.Change.{Change}
 use Rattle.store_model.specs.declared.contents.SpaceContents.{SpaceContents}
 use Rattle.store_files.specs.Header.{Header}
 use Rattle.store_files.specs.Pages.{Page, has_page, pages_of, salts_of, is_used, floor_of, is_ciphered, HaveSpaces}

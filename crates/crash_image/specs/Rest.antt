@@ -7,7 +7,7 @@ use Rattle.disk_model.specs.declared.names.FileName.TheVariants.{Log}
 use Rattle.key_ring.specs.Ring.{Entry}
 use Rattle.page_places.specs.Views.{view}
 use Rattle.store_image.specs.View.{Text, IsLive}
-use Rattle.store_model.specs.declared.change.Change.{Change}
+use Rattle.redo_text.specs.declared.change.Change.{Change}
 use Rattle.store_model.specs.declared.contents.SpaceContents.{SpaceContents}
 use Rattle.store_files.specs.Pages.{has_page}
 use Rattle.store_files.specs.Run.{IsClear}

@@ -11,7 +11,7 @@ use Rattle.store_image.specs.Places.{LogView}
 use Rattle.store_image.specs.Recovers.{IsRotated}
 use Rattle.store_image.specs.View.{Text, Logged, IsChosen, IsLive}
 use Rattle.store_model.specs.Fold.{fold}
-use Rattle.store_model.specs.declared.change.Change.{Change}
+use Rattle.redo_text.specs.declared.change.Change.{Change}
 use Rattle.store_model.specs.declared.contents.SpaceContents.{SpaceContents}
 use Rattle.store_files.specs.Header.{Header, HeaderSpace}
 use Rattle.store_files.specs.Pages.{has_page, key_id_of, pages_of, salts_of}

@@ -2,7 +2,7 @@
 use Rattle.std.specs.Prelude.{ℕ, List}
 use Rattle.key_ring.specs.Ring.{Entry}
 use Rattle.store_image.specs.Recovers.{Theory}
-use Rattle.store_model.specs.declared.change.Change.{Change}
+use Rattle.redo_text.specs.declared.change.Change.{Change}
 use Rattle.store_files.specs.Header.{Header}
 use Rattle.store_files.specs.Pages.{Page, Unused, has_page, is_used, mtr_names, mtr_acts, MeansPage, floor_of, is_ciphered}
 use Rattle.store_files.proofs.PageLaws.{has_head_page, unused_blank, mtr_idle, mtr_uses, means_one, means_used, means_text}

@@ -11,7 +11,7 @@ use Rattle.store_image.specs.Places.{LogView}
 use Rattle.store_image.specs.Record as items
 use Rattle.store_image.specs.Record.{Item, PageText, RingBlock}
 use Rattle.store_image.specs.View.{Slot}
-use Rattle.store_model.specs.declared.change.Change.{Change}
+use Rattle.redo_text.specs.declared.change.Change.{Change}
 use Rattle.store_model.specs.declared.contents.SpaceContents.{SpaceContents}
 use Rattle.store_files.specs.Header.{Header}
 use Rattle.store_files.specs.Pages.{pages_of, salts_of}

@@ -1,7 +1,7 @@
 -- The journal and its blocks.
 use Rattle.std.proofs.Common.{◌≡◌, ℕ, zero, suc, ◌+◌, ◌*◌, ◌<◌, ◌≤◌, List, [], ◌∷◌, ◌++◌, length, map, take, get_or, refl, sym, ◌∙◌, ap, subst, arith, length-append, ⊎_elim}
 use Rattle.std.proofs.lemmas.Bool.{cases_lt}
-use Rattle.store_model.specs.declared.change.Change.{Change}
+use Rattle.redo_text.specs.declared.change.Change.{Change}
 use Rattle.disk_model.specs.Event.{Event}
 use Rattle.disk_model.specs.declared.names.FileName.TheVariants.{Log}
 use Rattle.disk_model.specs.Image.{Image}

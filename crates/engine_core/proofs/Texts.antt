@@ -1,7 +1,7 @@
 -- The text of a change, joined.
 use Rattle.std.proofs.Common.{◌≡◌, ℕ, List, ◌∷◌, ◌++◌, length, append_assoc}
 use Rattle.std.specs.Int.{to_be_bytes, w32}
-use Rattle.store_model.specs.declared.change.Change.TheVariants.{Put}
+use Rattle.redo_text.specs.declared.change.Change.TheVariants.{Put}
 use Rattle.engine_core.specs.Text.{change_text}
 
 pub put_joined : (text : List ℕ) (space page at : ℕ) (bytes : List ℕ)

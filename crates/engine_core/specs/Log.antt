@@ -1,7 +1,7 @@
 -- The log's file, and what it recovers to.
 use Rattle.std.specs.Prelude.{◌≡◌, ℕ, ◌+◌, ◌*◌, ◌%◌, List, [], ◌∷◌, length, map}
 use Rattle.disk_model.specs.Event.{range}
-use Rattle.store_model.specs.declared.change.Change.{Change}
+use Rattle.redo_text.specs.declared.change.Change.{Change}
 use Rattle.space_head.specs.declared.space.SpaceInfo.{SpaceInfo}
 use Rattle.engine_core.specs.Text.{text_of, AreSmall}
 use Rattle.engine_core.specs.Block.{IsBlock, IsCheckpoint, IsHeader}

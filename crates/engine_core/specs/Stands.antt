@@ -8,7 +8,7 @@ pub use Rattle.disk_model.specs.Marks.{acked as acked_of}
 use Rattle.disk_model.specs.declared.names.FileName.{FileName}
 use Rattle.disk_model.specs.declared.names.FileName.TheVariants.{Log}
 use Rattle.bytes_core.specs.LastByte.{EndsInCrc32c}
-use Rattle.store_model.specs.declared.change.Change.{Change}
+use Rattle.redo_text.specs.declared.change.Change.{Change}
 use Rattle.store_model.specs.declared.contents.SpaceContents.{SpaceContents}
 use Rattle.store_model.specs.Fold.{fold}
 use Rattle.engine_core.specs.declared.journal.Entry.{Entry}

@@ -1,7 +1,7 @@
 -- The statements of a schedule can be run, and the log has room for them.
 use Rattle.std.proofs.Common.{◌≡◌, ℕ, ◌+◌, ◌<◌, ◌≤◌, ◌^◌, ◌++◌, length, arith, ap, List, [], ◌∷◌, refl, if◌then◌else◌}
 use Rattle.std.proofs.lemmas.List.{append-nil}
-use Rattle.store_model.specs.declared.change.Change.TheVariants.{Put}
+use Rattle.redo_text.specs.declared.change.Change.TheVariants.{Put}
 use Rattle.engine_core.specs.Text.{text_of}
 use Rattle.keyd_cli.specs.declared.act.Act.{Act}
 use Rattle.keyd_cli.specs.declared.act.Act.TheVariants.{Mtr, Sync}

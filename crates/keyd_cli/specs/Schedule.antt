@@ -2,7 +2,7 @@
 use Rattle.std.specs.Prelude.{◌≡◌, ◌⊎◌, ℕ, ◌+◌, ◌≤◌, ◌<◌, List, [], ◌∷◌, length, codes, Ok}
 use Rattle.std.specs.Fmt.{decimal}
 use Rattle.hex.specs.Hex.{decode_of}
-use Rattle.store_model.specs.declared.change.Change.TheVariants.{Put}
+use Rattle.redo_text.specs.declared.change.Change.TheVariants.{Put}
 use Rattle.keyd_cli.specs.declared.act.Act.{Act}
 use Rattle.keyd_cli.specs.declared.act.Act.TheVariants.{Mtr, Sync}
 use Rattle.keyd_cli.specs.Parts.{parts_of}

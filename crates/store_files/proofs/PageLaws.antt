@@ -5,8 +5,8 @@ use Rattle.page_text.specs.Text.{Plain, IsText, text}
 use Rattle.key_ring.specs.Ring.{Entry}
 use Rattle.store_image.specs.View.{Text}
 use Rattle.store_model.specs.Fold.{floor_set, made_ciphered}
-use Rattle.store_model.specs.declared.change.Change.{Change}
-use Rattle.store_model.specs.declared.change.Change.TheVariants.{Put, Kind, Touch, Floor, Encrypt}
+use Rattle.redo_text.specs.declared.change.Change.{Change}
+use Rattle.redo_text.specs.declared.change.Change.TheVariants.{Put, Kind, Touch, Floor, Encrypt}
 use Rattle.store_model.specs.declared.contents.PlainPage.{PlainPage}
 use Rattle.space_head.specs.declared.space.SpaceInfo.{SpaceInfo}
 use Rattle.store_files.specs.Header.{Header, HeaderSpace}

@@ -12,8 +12,8 @@ use Rattle.space_head.specs.Head.{with_head}
 use Rattle.space_head.specs.declared.head.SpaceHead.{SpaceHead}
 use Rattle.store_image.specs.View.{Text}
 use Rattle.store_model.specs.Fold.{used, written, floor_set, made_ciphered}
-use Rattle.store_model.specs.declared.change.Change.{Change}
-use Rattle.store_model.specs.declared.change.Change.TheVariants.{Put, Kind, Touch, Floor, Encrypt}
+use Rattle.redo_text.specs.declared.change.Change.{Change}
+use Rattle.redo_text.specs.declared.change.Change.TheVariants.{Put, Kind, Touch, Floor, Encrypt}
 use Rattle.store_model.specs.declared.contents.PlainPage.{PlainPage}
 use Rattle.space_head.specs.declared.space.SpaceInfo.{SpaceInfo}
 use Rattle.store_model.specs.declared.contents.SpaceContents.{SpaceContents}

@@ -1,6 +1,6 @@
 use Rattle.std.proofs.Common.{◌≡◌, List, [], ◌∷◌, map, take, IfOk, sym, ◌∙◌, ap, subst}
 use Rattle.std.proofs.lemmas.List.{take-map}
-use Rattle.store_model.specs.declared.change.Change.{Change}
+use Rattle.redo_text.specs.declared.change.Change.{Change}
 use Rattle.store_model.specs.declared.contents.SpaceContents.{SpaceContents}
 use Rattle.store_model.specs.Fold.{fold, empty}
 use Rattle.store_model.specs.Report.{report_text}

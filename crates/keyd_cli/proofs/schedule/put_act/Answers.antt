@@ -1,5 +1,5 @@
 use Rattle.std.proofs.Common.{rules, ◌≡◌, length, ◌∙◌, ap, arith, [], ◌∷◌}
-use Rattle.store_model.specs.declared.change.Change.TheVariants.{Put}
+use Rattle.redo_text.specs.declared.change.Change.TheVariants.{Put}
 use Rattle.keyd_cli.proofs.Schedules.{put_fits, put_is}
 use Rattle.keyd_cli.proofs.schedule.put_act.Goals as goal
 
