@@ -1,3 +1,4 @@
 pub mod RecoversOnce
 pub mod StandsBy
 pub mod LuckyCrashes
+pub mod LogForms

@@ -3,3 +3,4 @@ pub mod Recovers
 pub mod Stands
 pub mod Writes
 pub mod Rest
+pub mod LogForm
