@@ -1,5 +1,5 @@
 -- The keys of a file, from its bytes and its text.
-use Rattle.std.proofs.Common.{◌≡◌, ℕ, List, Option, Result, Ok, Err, MatchResult, refl, sym, subst, inl, inr, ◌⊎◌}
+use Rattle.std.proofs.Common.{◌≡◌, ℕ, List, Option, Result, Ok, Err, MatchResult, IsErrOf, refl, sym, ap, subst, inl, inr, ◌∙◌, ◌⊎◌}
 use Rattle.io_core.specs.Files.{Files}
 use Rattle.key_file.specs.declared.fault.KeyFault.{KeyFault}
 use Rattle.key_file.specs.declared.fault.KeyFault.TheVariants as key
@@ -38,3 +38,10 @@ module _ (files : Files) (index : ℕ) (filekey : Option (List ℕ)) (digest : K
   keys_refused text key.OutOfMemory t h = inl tt
   keys_refused text fault t (inl memory) = cc
   keys_refused text fault t (inr reads) = inr (named text fault t reads)
+
+-- a fault that was handed on is the one that it was
+pub fault_handed : {T U : Type 0} (r : Result T LoadFault) (x f e : LoadFault) → r ≡ Err x → x ≡ f → r ≡ Err e → IsErrOf {T = U} (Err f) e
+fault_handed r x f e at same is =
+    let both : Err x ≡ Err e = sym at ∙ is in
+    let same_fault : x ≡ e = cc in
+    ap Err (sym same ∙ same_fault)

@@ -1,12 +1,14 @@
 -- The ring that key files give, file by file.
-use Rattle.std.specs.Prelude.{◌≡◌, ℕ, ◌+◌, ◌==◌, if◌then◌else◌, ◌⊎◌, List, [], ◌∷◌, Option, Result, Ok, Err}
+use Rattle.std.specs.Prelude.{◌≡◌, ℕ, ◌+◌, ◌==◌, nat_eq, if◌then◌else◌, ◌⊎◌, List, [], ◌∷◌, drop, true, codes, Option, Some, None, Result, Ok, Err}
+use Rattle.std.specs.List.{starts_with}
 use Rattle.io_core.specs.Files.{Files}
 use Rattle.key_ring.specs.Ring.{Entry, key_of}
+use Rattle.key_file.specs.declared.fault.KeyFault.TheVariants as key
 use Rattle.key_file.specs.declared.load_fault.LoadFault.{LoadFault}
 use Rattle.key_file.specs.declared.derivation.KeyDigest.{KeyDigest}
 use Rattle.key_file.specs.declared.keys.KeyItem.{KeyItem}
 use Rattle.key_file.specs.Plain.{key_in}
-use Rattle.key_file.specs.Load.{KeysOf}
+use Rattle.key_file.specs.Load.{KeysOf, contents, is_salted}
 
 -- the new ring has the keys of a file as this version, and of other versions what the old one has
 pub record HasKeys (old : List Entry) (keys : List KeyItem) (version : ℕ) (new : List Entry) : Type 0 where
@@ -27,3 +29,33 @@ LoadsFrom files filekey digest n (name ∷ names) ring (Err fault) =
     ⊎ ((keys : List KeyItem) × KeysOf files n filekey digest name (Ok keys) × NextRing ring keys (n + 1) (λ next. LoadsFrom files filekey digest (n + 1) names next (Err fault)))
 LoadsFrom files filekey digest n (name ∷ names) ring (Ok last) =
     (keys : List KeyItem) × KeysOf files n filekey digest name (Ok keys) × NextRing ring keys (n + 1) (λ next. LoadsFrom files filekey digest (n + 1) names next (Ok last))
+
+-- two answers say the same: rings with the same keys, or one fault
+abbrev pub IsSameAnswer : Result (List Entry) LoadFault → Result (List Entry) LoadFault → Type 0
+IsSameAnswer (Ok ring) (Ok other) = (id v : ℕ) → key_of ring id v ≡ key_of other id v
+IsSameAnswer (Err fault) (Err other) = fault ≡ other
+IsSameAnswer _ _ = ⊥
+
+-- whatever these files give says the same
+abbrev pub IsTheAnswer : Files → Option (List ℕ) → KeyDigest → List (List ℕ) → Result (List Entry) LoadFault → Type 0
+IsTheAnswer files filekey digest names r = (other : Result (List Entry) LoadFault) → LoadsFrom files filekey digest 0 names [] other → IsSameAnswer r other
+
+-- ---- the files that are called for
+
+-- the filekey names this file, with the password
+abbrev pub NamesSecret : Option (List ℕ) → List ℕ → Type 0
+NamesSecret None due = ⊥
+NamesSecret (Some filekey) due = (starts_with nat_eq filekey (codes "FILE:") ≡ true) × (due ≡ drop 5 filekey)
+
+-- the key file of a name calls for this file: for itself, or, where it is enciphered, for that with the password
+abbrev pub CallsFor : Files → ℕ → Option (List ℕ) → List ℕ → List ℕ → Type 0
+CallsFor files n filekey name due =
+    (due ≡ name)
+    ⊎ ((bytes : List ℕ) × (contents n key.TooLarge name (files name) ≡ Ok bytes) × (is_salted bytes ≡ true) × NamesSecret filekey due)
+
+-- the key files of these names, the first of index n, call for this file: one of them does, and those before it gave keys
+abbrev pub IsDue : Files → Option (List ℕ) → KeyDigest → ℕ → List (List ℕ) → List ℕ → Type 0
+IsDue files filekey digest n [] due = ⊥
+IsDue files filekey digest n (name ∷ names) due =
+    CallsFor files n filekey name due
+    ⊎ ((keys : List KeyItem) × KeysOf files n filekey digest name (Ok keys) × IsDue files filekey digest (n + 1) names due)

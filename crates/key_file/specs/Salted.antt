@@ -26,9 +26,9 @@ IsTextOf digest password bytes text =
 abbrev pub IsWholeBlocks : ℕ → Type 0
 IsWholeBlocks n = (1 ≤ n) × (n % 16 ≡ 0)
 
--- what an enciphered file gives: its text, or the first of three faults; want of memory is free
+-- what an enciphered file gives: its text, a list of bytes, or the first of three faults; want of memory is free
 abbrev pub Deciphers : KeyDigest → List ℕ → List ℕ → Result (List ℕ) KeyFault → Type 0
-Deciphers digest password bytes (Ok text) = (16 ≤ length bytes) × IsTextOf digest password bytes text
+Deciphers digest password bytes (Ok text) = (16 ≤ length bytes) × AreBytes text × IsTextOf digest password bytes text
 Deciphers digest password bytes (Err (ShortSalted n)) = (n ≡ length bytes) × (n < 16)
 Deciphers digest password bytes (Err (CipherLength n)) = (16 ≤ length bytes) × (n ≡ length (cipher_text bytes)) × ((n ≡ 0) ⊎ (0 < n % 16))
 Deciphers digest password bytes (Err Padding) =

@@ -11,8 +11,10 @@
 //!    or 32 bytes, and no id is outside 1 to 4294967295.
 //! 2. [`derive`] is the key derivation of `openssl enc` with SHA-1 or SHA-256, and [`read_salted`]
 //!    gives the text that was enciphered, or says why there is none.
-//! 3. [`load`] answers for the first file that does not read; every fault has its cause in that
-//!    file, in the secret or in a count of the library that rose.
+//! 3. [`load`] answers for the first file that does not read, and there is no second answer: an
+//!    enciphered file has at most one text under a password. Every fault has its cause in that file,
+//!    in the secret or in a count of the library that rose, and a fault of the library is that of a
+//!    file that was due.
 //!
 //! No message of a fault shows a key or a password.
 #![tactic(auto)]

@@ -1,11 +1,12 @@
 // Key files read from a library.
 
-ghost use Rattle.std.specs.Prelude.{◌≡◌, ◌⊎◌, Ok, Err, length, IfOk, MatchResult, ◌≤◌};
-ghost use Rattle.std.specs.List.{suffix_len};
+ghost use Rattle.std.specs.Prelude.{◌≡◌, ◌≢◌, ◌⊎◌, ℕ, List, Ok, Err, true, nat_eq, codes, drop, length, IfOk, IsErrOf, MatchResult, ◌≤◌};
+ghost use Rattle.std.specs.List.{starts_with, suffix_len};
 ghost use Rattle.std.specs.Option.{option_copied};
 ghost use Rattle.io_core.specs.Told.{Told};
 ghost use Rattle.key_file.specs.Cause.{HasCauses};
-ghost use Rattle.key_file.specs.Load.{IsOutside, KeysOf, TextOf, contents, is_line_end, load_fault_of, password_of, secret_of};
+ghost use Rattle.key_file.specs.Load.{IsOutside, KeysOf, TextOf, contents, is_line_end, is_salted, load_fault_of, password_of, secret_of};
+ghost use Rattle.key_file.specs.Loaded.{CallsFor, NamesSecret};
 
 use crate::derivation::KeyDigest;
 use crate::fault::KeyFault;
@@ -32,7 +33,8 @@ fn missing(alloc: Global, name: &str) -> LoadFault
 
 // The answer for a fault of the key file of an index.
 fn of_file(index: usize, fault: KeyFault) -> LoadFault
-    ensures { result ≡ load_fault_of index fault }
+    ensures value { result ≡ load_fault_of index fault }
+    ensures inside { result ≢ LoadFault.FileFault }
 {
     match fault {
         KeyFault::OutOfMemory => LoadFault::OutOfMemory,
@@ -51,6 +53,7 @@ fn read_named<L: Library>(
     ensures contents { Told (λ fs. MatchResult result (λ v. contents index too_large name.now (fs name.now) ≡ Ok v.items) (λ fault. IsOutside fault ⊎ (contents index too_large name.now (fs name.now) ≡ Err fault))) (L.files files.old) }
     ensures same { L.files files.new ≡ L.files files.old }
     ensures causes { HasCauses (L.faults files.old) (L.faults files.new) (L.absences files.old) (L.absences files.new) result }
+    ensures failed { IsErrOf result LoadFault.FileFault → L.failed_last files.new name.now }
 {
     match read_file(alloc, files, name, LIMIT) {
         Ok(FileContents::Whole(bytes)) => Ok(bytes),
@@ -77,7 +80,8 @@ fn count_line_ends(text: &[u8]) -> usize
 
 // A copy of a password.
 fn password(alloc: Global, text: &[u8], index: usize) -> Result<Vec<u8>, LoadFault>
-    ensures { MatchResult result (λ v. password_of index text.now ≡ Ok v.items) (λ fault. (fault ≡ LoadFault.OutOfMemory) ⊎ (password_of index text.now ≡ Err fault)) }
+    ensures inside { result ≢ Err LoadFault.FileFault }
+    ensures value { MatchResult result (λ v. password_of index text.now ≡ Ok v.items) (λ fault. (fault ≡ LoadFault.OutOfMemory) ⊎ (password_of index text.now ≡ Err fault)) }
 {
     let count = text.len();
     if count == 0 || count > 256 {
@@ -102,6 +106,7 @@ fn read_secret<L: Library>(
     ensures secret { Told (λ fs. MatchResult result (λ v. secret_of fs index filekey.now ≡ Ok v.items) (λ fault. IsOutside fault ⊎ (secret_of fs index filekey.now ≡ Err fault))) (L.files files.old) }
     ensures same { L.files files.new ≡ L.files files.old }
     ensures causes { HasCauses (L.faults files.old) (L.faults files.new) (L.absences files.old) (L.absences files.new) result }
+    ensures failed { IsErrOf result LoadFault.FileFault → (starts_with nat_eq filekey.now (codes "FILE:") ≡ true) × L.failed_last files.new (drop 5 filekey.now) }
 {
     let Some(name) = filekey.strip_prefix("FILE:") else {
         return password(alloc, filekey.as_bytes(), index);
@@ -123,6 +128,7 @@ fn read_text<L: Library>(
     ensures text { Told (λ fs. MatchResult result (λ v. TextOf fs index (option_copied filekey.entry) digest bytes.items (Ok v.items)) (λ fault. IsOutside fault ⊎ TextOf fs index (option_copied filekey.entry) digest bytes.items (Err fault))) (L.files files.old) }
     ensures same { L.files files.new ≡ L.files files.old }
     ensures causes { HasCauses (L.faults files.old) (L.faults files.new) (L.absences files.old) (L.absences files.new) result }
+    ensures failed { IsErrOf result LoadFault.FileFault → (is_salted bytes.items ≡ true) × ((due : List ℕ) × NamesSecret (option_copied filekey.entry) due × L.failed_last files.new due) }
 {
     if !bytes.starts_with(b"Salted__") {
         return Ok(bytes);
@@ -149,6 +155,7 @@ pub(crate) fn read_keys<L: Library>(
     ensures keys { Told (λ fs. MatchResult result (λ keys. KeysOf fs index (option_copied filekey.entry) digest name.now (Ok keys)) (λ fault. IsOutside fault ⊎ KeysOf fs index (option_copied filekey.entry) digest name.now (Err fault))) (L.files files.old) }
     ensures same { L.files files.new ≡ L.files files.old }
     ensures causes { HasCauses (L.faults files.old) (L.faults files.new) (L.absences files.old) (L.absences files.new) result }
+    ensures failed { IsErrOf result LoadFault.FileFault → Told (λ fs. (due : List ℕ) × CallsFor fs index (option_copied filekey.entry) name.now due × L.failed_last files.new due) (L.files files.old) }
 {
     let bytes = read_named(alloc, files, name, index, KeyFault::TooLarge)?;
     let text = read_text(alloc, files, bytes, filekey, digest, index)?;

@@ -1,12 +1,12 @@
 // The ring of the keys of some key files.
 
-ghost use Rattle.std.specs.Prelude.{◌≡◌, ◌<◌, ◌≤◌, ◌+◌, ◌⊎◌, ℕ, List, [], Ok, Err, Some, length, map, string_bytes, slice_get, Contains, IfOk, IfErr, OnOk, IsNone, MatchResult};
+ghost use Rattle.std.specs.Prelude.{◌≡◌, ◌<◌, ◌≤◌, ◌+◌, ◌⊎◌, ℕ, List, [], Ok, Err, Some, length, map, string_bytes, slice_get, Contains, IfOk, IfErr, IsErrOf, OnOk, IsNone, MatchResult};
 ghost use Rattle.std.specs.Option.{option_copied};
 ghost use Rattle.io_core.specs.Told.{Told};
 ghost use Rattle.key_ring.specs.Ring.{HasAdded, key_of};
 ghost use Rattle.key_file.specs.Cause.{HasCauses};
 ghost use Rattle.key_file.specs.Load.{IsOutside};
-ghost use Rattle.key_file.specs.Loaded.{HasKeys, LoadsFrom};
+ghost use Rattle.key_file.specs.Loaded.{HasKeys, IsDue, IsTheAnswer, LoadsFrom};
 
 use crate::derivation::KeyDigest;
 use crate::keys::{KeyItem, KeyList};
@@ -45,6 +45,29 @@ fn add_keys(ring: &mut Ring, keys: &KeyList, version: u32) -> Result<(), LoadFau
     Ok(())
 }
 
+// As `load`.
+fn load_in_order<L: Library>(
+    alloc: Global,
+    files: &mut L,
+    names: &[String],
+    filekey: Option<&str>,
+    digest: KeyDigest,
+) -> Result<Ring, LoadFault>
+    requires { length names.now ≤ 64 }
+    ensures loads { Told (λ fs. MatchResult result (λ ring. LoadsFrom fs (option_copied filekey.entry) digest 0 (map string_bytes names.now) [] (Ok ring)) (λ fault. IsOutside fault ⊎ LoadsFrom fs (option_copied filekey.entry) digest 0 (map string_bytes names.now) [] (Err fault))) (L.files files.old) }
+    ensures versions { IfOk result (λ ring. (id version : ℕ) → length names.now < version → IsNone (key_of ring id version)) }
+    ensures same { L.files files.new ≡ L.files files.old }
+    ensures causes { HasCauses (L.faults files.old) (L.faults files.new) (L.absences files.old) (L.absences files.new) result }
+    ensures failed { IsErrOf result LoadFault.FileFault → Told (λ fs. (due : List ℕ) × IsDue fs (option_copied filekey.entry) digest 0 (map string_bytes names.now) due × L.failed_last files.new due) (L.files files.old) }
+{
+    let mut ring = Ring::new(alloc);
+    for (index, name) in names.iter().enumerate() {
+        let keys = read_keys(alloc, files, name, filekey, digest, index)?;
+        add_keys(&mut ring, &keys, index as u32 + 1)?;
+    }
+    Ok(ring)
+}
+
 /// Reads key files in order. The k-th file, counted from 1, gives version k of its keys. A file that
 /// begins with `Salted__` is enciphered, and read with the filekey; a filekey that begins with `FILE:`
 /// names a file with the password, and any other is the password. A filekey is otherwise not used.
@@ -66,14 +89,16 @@ pub fn load<L: Library>(
 
     // Where the library tells its files: the ring that they give, or the first fault.
     ensures loads { Told (λ fs. MatchResult result (λ ring. LoadsFrom fs (option_copied filekey.entry) digest 0 (map string_bytes names.now) [] (Ok ring)) (λ fault. IsOutside fault ⊎ LoadsFrom fs (option_copied filekey.entry) digest 0 (map string_bytes names.now) [] (Err fault))) (L.files files.old) }
+
+    // There is no second answer: whatever the files give says the same.
+    ensures only { Told (λ fs. MatchResult result (λ ring. IsTheAnswer fs (option_copied filekey.entry) digest (map string_bytes names.now) (Ok ring)) (λ fault. IsOutside fault ⊎ IsTheAnswer fs (option_copied filekey.entry) digest (map string_bytes names.now) (Err fault))) (L.files files.old) }
     ensures versions { IfOk result (λ ring. (id version : ℕ) → length names.now < version → IsNone (key_of ring id version)) }
     ensures same { L.files files.new ≡ L.files files.old }
     ensures causes { HasCauses (L.faults files.old) (L.faults files.new) (L.absences files.old) (L.absences files.new) result }
+
+    // A fault of the library is that of a file that was due: the key files before it gave keys, and it is
+    // the next, or that one is enciphered and this is the file of the password.
+    ensures failed { IsErrOf result LoadFault.FileFault → Told (λ fs. (due : List ℕ) × IsDue fs (option_copied filekey.entry) digest 0 (map string_bytes names.now) due × L.failed_last files.new due) (L.files files.old) }
 {
-    let mut ring = Ring::new(alloc);
-    for (index, name) in names.iter().enumerate() {
-        let keys = read_keys(alloc, files, name, filekey, digest, index)?;
-        add_keys(&mut ring, &keys, index as u32 + 1)?;
-    }
-    Ok(ring)
+    load_in_order(alloc, files, names, filekey, digest)
 }

@@ -1,12 +1,20 @@
 // An enciphered key file.
 
 ghost use Rattle.std.specs.Prelude.{◌≡◌, Ok, Err, MatchResult};
+ghost use Rattle.aes_core.specs.Cipher.{AreBytes};
 ghost use Rattle.key_file.specs.Salted.{Deciphers, IsSalted};
 
 use crate::derivation::{KeyDigest, derive};
 use crate::fault::KeyFault;
 use aes_core::{BlockKey, PadFault, cbc_pad_decrypt};
 use std::alloc::Global;
+
+// A text in memory is a list of bytes.
+fn known_bytes(text: &[u8])
+    ensures { AreBytes text.now }
+{
+    let _ = text.len();
+}
 
 /// The text of an enciphered file, as `openssl enc -aes-256-cbc` writes it with `-md sha1` or
 /// `-md sha256` and without `-pbkdf2`: `Salted__`, 8 bytes of salt, and the padded text in CBC.
@@ -34,7 +42,10 @@ pub fn read_salted(
         unreachable!()
     };
     match cbc_pad_decrypt(alloc, &key, &iv, &bytes[16..]) {
-        Ok(text) => Ok(text),
+        Ok(text) => {
+            known_bytes(&text);
+            Ok(text)
+        }
         Err(PadFault::Length(n)) => Err(KeyFault::CipherLength(n)),
         Err(PadFault::Padding) => Err(KeyFault::Padding),
         Err(PadFault::OutOfMemory) => Err(KeyFault::OutOfMemory),

@@ -1,4 +1,5 @@
-use Rattle.std.proofs.Common.{length, sym, ap, ◌∙◌, Err, arith}
+use Rattle.std.proofs.Common.{length, sym, ap, subst, ◌∙◌, Err, arith}
+use Rattle.aes_core.specs.Cipher.{AreBytes}
 use Rattle.key_file.specs.Derivation.{iv_of, key_of}
 use Rattle.key_file.proofs.CipherText.{other_fault, rest_is, text_back, text_under}
 use Rattle.key_file.proofs.salted.read_salted.Goals as goal
@@ -7,6 +8,7 @@ pub returns-in-Ok : goal.returns-in-Ok
 returns-in-Ok c =
     let salt = c.copy_from_slice.ensures.after in (
       c.if-bytes-lt16.false,
+      subst AreBytes c.deref.ensures.value c.known_bytes.ensures,
       text_under c.args.bytes.now c.in-Some.key c.derive.result.1 _ _ c.in-Ok.text.items c.in-Ok.ensures.accepted
           (c.in-Some.ensures.0 ∙ c.derive.ensures.key ∙ ap (key_of c.args.digest c.args.password.now) salt) (c.derive.ensures.iv ∙ ap (iv_of c.args.digest c.args.password.now) salt),
     )
