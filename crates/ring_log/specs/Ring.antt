@@ -5,7 +5,7 @@ use Rattle.disk_model.specs.Image.{Image, IsImage, IsLucky}
 use Rattle.disk_model.specs.declared.names.FileName.{FileName}
 use Rattle.disk_model.specs.declared.names.FileName.TheVariants.{Log}
 use Rattle.places.specs.Places.{place, May, Layout, HasPlaces}
-use Rattle.places.specs.Batches.{IsSettled}
+use Rattle.places.specs.Batches.{IsFileSettled}
 use Rattle.store_image.specs.View.{Logged}
 use Rattle.store_image.specs.Places.{LogView}
 
@@ -112,7 +112,7 @@ module _ {M : Type 0} (N : ℕ) (F : Form M) where
   -- Between two calls that were answered Ok nothing is pending on the disk.
   pub record Ready (r : Ring) (es : List Event) : Type 0 where
     pub ringed : Ringed r es
-    pub settled : IsSettled Log 4096 es
+    pub settled : IsFileSettled Log 4096 es
     pub all : r.written ≡ r.settled
     pub none : r.newer ≡ None
 
