@@ -24,7 +24,7 @@ use Rattle.crash_image.specs.Stands.{Named, Rotated, Stands, entries_to, mtrs_of
 
 -- ---- contents that are equal on the store's pages
 
-module _ (T : pages.Theory) (v : View T.M) (c d : pages.Contents T) (same : (s p : ℕ) → T.has s p ≡ true → c s p ≡ d s p) where
+module _ (T : pages.Theory) (v : View T.M) (c d : pages.PageContents T) (same : (s p : ℕ) → T.has s p ≡ true → c s p ≡ d s p) where
   gives_same : (s p : ℕ) (chosen : Option Text) → T.has s p ≡ true → pages.Gives T v c s p chosen → pages.Gives T v d s p chosen
   gives_same s p (Some t) there (x, m, l, e) = (x, m, l, sym (same s p there) ∙ e)
   gives_same s p None there (z, e) = (z, sym (same s p there) ∙ e)
@@ -55,7 +55,7 @@ module _ (header : Header) (keys : List Entry) (salts : ℕ → List ℕ) where
 
   -- the fold of a journal over contents is its fold of each page
   pub folded : (es : List (Logged (List Change))) (base : List SpaceContents) → HaveSpaces header.spaces base → (c : ℕ → ℕ → Page) → ((s p : ℕ) → has_page header.spaces s p ≡ true → c s p ≡ pages_of base s p)
-      → (s p : ℕ) → has_page header.spaces s p ≡ true → pages.fold T es c s p ≡ pages_of (fold (mtrs_of es) base) s p
+      → (s p : ℕ) → has_page header.spaces s p ≡ true → pages.fold_pages T es c s p ≡ pages_of (fold (mtrs_of es) base) s p
   folded [] base have c same s p there = same s p there
   folded (e ∷ es) base have c same s p there =
       ap (λ (x : Page). pages.fold_page T es s p (T.acts e.mtr s p x)) (same s p there)
@@ -83,8 +83,8 @@ module _ (Reads : List ℕ → List Change → Type 0) (image : Image) (keys : L
       let front : List (Logged (List Change)) = take k journal in
       let count : pages.count_to T (log.end * 4096) journal ≡ k = count_is header keys (salts_of base) (log.end * 4096) journal ∙ ap (λ (n : ℕ). entries_to (n * 4096) journal) (sym ends) in
       let contents : List SpaceContents = fold (mtrs_of front) base in
-      let same : (s p : ℕ) → has_page header.spaces s p ≡ true → pages.fold T (take (pages.count_to T (log.end * 4096) journal) journal) (pages_of base) s p ≡ pages_of contents s p =
-      λ s p there. ap (λ (n : ℕ). pages.fold T (take n journal) (pages_of base) s p) count ∙ folded header keys (salts_of base) front base reading.spaces (pages_of base) (λ r q is. refl) s p there in
+      let same : (s p : ℕ) → has_page header.spaces s p ≡ true → pages.fold_pages T (take (pages.count_to T (log.end * 4096) journal) journal) (pages_of base) s p ≡ pages_of contents s p =
+      λ s p there. ap (λ (n : ℕ). pages.fold_pages T (take n journal) (pages_of base) s p) count ∙ folded header keys (salts_of base) front base reading.spaces (pages_of base) (λ r q is. refl) s p there in
       let salts : salts_of base ≡ salts_of contents = λ i s. sym (salts_folded (mtrs_of front) base s) i in
       let recovers : pages.Recovers T (view log image) (pages_of contents) = recovers_same T (view log image) _ (pages_of contents) same stands.recovers in
       let rotated : pages.IsRotated T (view log image) (pages_of contents) = rotated_same T (view log image) _ (pages_of contents) same stands.rotated in
