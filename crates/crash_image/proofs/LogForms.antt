@@ -12,7 +12,7 @@ use Rattle.space_head.specs.Fields.{be64_at, part}
 use Rattle.page_places.specs.Texts.{ends_in_sum}
 use Rattle.page_places.proofs.Sums.{and_left, and_right}
 use Rattle.ring_log.specs.Ring as ring
-use Rattle.ring_log.specs.Ring.{Check, Form, IsForm, listed, side}
+use Rattle.ring_log.specs.Ring.{Check, Form, IsForm, listed_blocks, side}
 use Rattle.store_image.specs.Places.{LogView}
 use Rattle.store_image.specs.View.{Logged}
 use Rattle.redo_text.specs.declared.change.Change.{Change}
@@ -101,7 +101,7 @@ module _ (Reads : List ℕ → List Change → Type 0) (header : Header) (keys :
 
   -- ---- whole mini-transactions, both ways
 
-  whole_here : (n k : ℕ) → ring.IsWhole N F read n (n + k) → IsWhole N file n k
+  whole_here : (n k : ℕ) → ring.IsWholeMtr N F read n (n + k) → IsWhole N file n k
   whole_here n k w =
       record {
         some = let s = w.some in omega (arith, s);
@@ -127,7 +127,7 @@ module _ (Reads : List ℕ → List Change → Type 0) (header : Header) (keys :
           by true is = let e : i + 1 ≡ k = grind (arith, nat_tests) in ap is_last (sym (at (n + i))) ∙ w.last (n + i) (omega (arith, e))
           by false isnt = let e : i + 1 < k = grind (arith, nat_tests) in ap is_last (sym (at (n + i))) ∙ w.before (n + i) (omega arith) (omega (arith, e))
 
-  whole_there : (n k : ℕ) → IsWhole N file n k → ring.IsWhole N F read n (n + k)
+  whole_there : (n k : ℕ) → IsWhole N file n k → ring.IsWholeMtr N F read n (n + k)
   whole_there n k w =
       record {
         some = let s = w.some in omega (arith, s);
@@ -160,17 +160,17 @@ module _ (Reads : List ℕ → List Change → Type 0) (header : Header) (keys :
 
   -- ---- texts and entries
 
-  texts_here : (n k : ℕ) (text : List ℕ) → AreTexts Reads header keys (listed N F read n k) text → HasText Reads header keys file n k text
+  texts_here : (n k : ℕ) (text : List ℕ) → AreTexts Reads header keys (listed_blocks N F read n k) text → HasText Reads header keys file n k text
   texts_here n zero text is = is
   texts_here n (suc k) text (local, rest, key, more, e) =
       (local, rest, ap (λ (b : List ℕ). local_key keys 1 (block_version b) header.salt) (sym (at n)) ∙ key, texts_here (n + 1) k rest more, e ∙ ap (λ (b : List ℕ). block_text header.algorithm local b ++ rest) (at n))
 
-  entries_here : (n : ℕ) (es : List (Logged (List Change))) (end : ℕ) → ring.AreEntries N F read n es end → AreEntries Reads header keys file n es end
+  entries_here : (n : ℕ) (es : List (Logged (List Change))) (end : ℕ) → ring.AreWholeEntries N F read n es end → AreEntries Reads header keys file n es end
   entries_here n [] end is = is
   entries_here n (e ∷ es) end (k, w, (text, texts, reads), first, lsn, rest) = (k, text, whole_here n k w, texts_here n k text texts, reads, first, lsn, entries_here (n + k) es end rest)
 
   -- how many blocks each entry has
-  sizes_here : (n : ℕ) (es : List (Logged (List Change))) (end : ℕ) → ring.AreEntries N F read n es end → (sizes : List ℕ) × AreWhole N file n sizes end
+  sizes_here : (n : ℕ) (es : List (Logged (List Change))) (end : ℕ) → ring.AreWholeEntries N F read n es end → (sizes : List ℕ) × AreWhole N file n sizes end
   sizes_here n [] end is = ([], is)
   sizes_here n (e ∷ es) end (k, w, mtr, first, lsn, rest) = let more = sizes_here (n + k) es end rest in (k ∷ more.0, (whole_here n k w, more.1))
 
@@ -187,7 +187,7 @@ module _ (Reads : List ℕ → List Change → Type 0) (header : Header) (keys :
       omega (arith, same, some)
 
   -- a whole mini-transaction behind the run stays within the ring, since a place has one number
-  within_ring : 16 ≤ N → (from : ℕ) (es : List (Logged (List Change))) (end k : ℕ) → ring.AreEntries N F read from es end → end ≤ from + N → IsWhole N file end k → end + k ≤ from + N
+  within_ring : 16 ≤ N → (from : ℕ) (es : List (Logged (List Change))) (end k : ℕ) → ring.AreWholeEntries N F read from es end → end ≤ from + N → IsWhole N file end k → end + k ≤ from + N
   within_ring big from [] end k is few w = let f = w.few in omega (arith, is, f, big)
   within_ring big from (e ∷ es) end k (j, v, mtr, first, lsn, rest) few w = by (cases_lt (from + N) (end + k))
     where
@@ -204,7 +204,7 @@ module _ (Reads : List ℕ → List Change → Type 0) (header : Header) (keys :
           absurd (two_numbers from (omega (arith, big)) own (subst (λ (m : ℕ). is_ring_block m (block_at N file m) ≡ true) e here))
 
   -- What the ring's law says of the file, the file says under the keys.
-  pub log_is : 16 ≤ N → (l : LogView (List Change)) → ring.IsLog N F file l → IsLogOf Reads header keys file l
+  pub log_is : 16 ≤ N → (l : LogView (List Change)) → ring.IsRingLog N F file l → IsLogOf Reads header keys file l
   log_is big l is =
       let sizes = sizes_here l.from l.run l.end is.run in
       record {

@@ -4,8 +4,8 @@ use Rattle.std.proofs.lemmas.Bool.{cases_lt, cases_eq}
 use Rattle.std.proofs.lemmas.Bool.Decides.{nat_tests}
 use Rattle.store_image.specs.View.{Logged}
 use Rattle.store_image.specs.Places.{LogView}
-use Rattle.ring_log.specs.Ring.{Form, IsWhole, AreEntries, read_in, IsLog}
-use Rattle.ring_log.specs.Scans.{AreWhole, IsRun, IsRead, Goes, Stops}
+use Rattle.ring_log.specs.Ring.{Form, IsWholeMtr, AreWholeEntries, read_in, IsRingLog}
+use Rattle.ring_log.specs.Scans.{AreWholeMtrs, IsRun, IsScanned, Goes, Stops}
 use Rattle.ring_log.proofs.Entries.{same_end, number_up}
 
 eq_true : (a b : ℕ) → a ≡ b → nat_eq a b ≡ true
@@ -17,7 +17,7 @@ eq_false a b is = grind (arith, nat_tests)
 module _ {M : Type 0} (N : ℕ) (F : Form M) (read : ℕ → List ℕ) (from : ℕ) where
   open F use {is_block, starts, ends}
 
-  pub read_none : IsRead N F read from from from
+  pub read_none : IsScanned N F read from from from
   read_none = record {
     parts = [];
     whole = refl;
@@ -29,12 +29,12 @@ module _ {M : Type 0} (N : ℕ) (F : Form M) (read : ℕ → List ℕ) (from : �
     before = λ m low high. absurd (omega (arith, low, high));
   }
 
-  whole_more : (n end z : ℕ) (parts : List ℕ) → AreWhole N F read n parts end → IsWhole N F read end z → AreWhole N F read n (parts ++ z ∷ []) z
-  whole_more n end z [] is w = (subst (λ (i : ℕ). IsWhole N F read i z) (sym is) w, refl)
+  whole_more : (n end z : ℕ) (parts : List ℕ) → AreWholeMtrs N F read n parts end → IsWholeMtr N F read end z → AreWholeMtrs N F read n (parts ++ z ∷ []) z
+  whole_more n end z [] is w = (subst (λ (i : ℕ). IsWholeMtr N F read i z) (sym is) w, refl)
   whole_more n end z (y ∷ parts) is w = (is.0, whole_more y end z parts is.1 w)
 
   -- one block more
-  pub read_more : (end n next : ℕ) → IsRead N F read from end n → Goes N F n end (read n) next → IsRead N F read from next (n + 1)
+  pub read_more : (end n next : ℕ) → IsScanned N F read from end n → Goes N F n end (read n) next → IsScanned N F read from next (n + 1)
   read_more end n next r (few, valid, starts_is, next_is) = by (ends (read n)) refl next_is
     where
       valid_up : (m : ℕ) → end ≤ m → m < n + 1 → is_block m (read m) ≡ true
@@ -47,8 +47,8 @@ module _ {M : Type 0} (N : ℕ) (F : Form M) (read : ℕ → List ℕ) (from : �
       others_up m gt high = ⊎_elim (λ (lt : m < n). r.others m gt lt)
           (λ (ge : n ≤ m). let e : m ≡ n = omega (arith, high, ge) in ap (λ (i : ℕ). starts (read i)) e ∙ starts_is ∙ eq_false end n (λ same. omega (arith, same, e, gt))) (cases_lt m n)
 
-      by : (b : Bool) → ends (read n) ≡ b → next ≡ (if b then n + 1 else end) → IsRead N F read from next (n + 1)
-      by true last is = subst (λ (i : ℕ). IsRead N F read from i (n + 1)) (sym is) (record {
+      by : (b : Bool) → ends (read n) ≡ b → next ≡ (if b then n + 1 else end) → IsScanned N F read from next (n + 1)
+      by true last is = subst (λ (i : ℕ). IsScanned N F read from i (n + 1)) (sym is) (record {
         parts = r.parts ++ (n + 1) ∷ [];
         whole = whole_more from end (n + 1) r.parts r.whole (record {
           some = let order = r.order in omega arith;
@@ -66,7 +66,7 @@ module _ {M : Type 0} (N : ℕ) (F : Form M) (read : ℕ → List ℕ) (from : �
         others = λ m low high. absurd (omega (arith, low, high));
         before = λ m low high. absurd (omega (arith, low, high));
       })
-      by false goes_on is = subst (λ (i : ℕ). IsRead N F read from i (n + 1)) (sym is) (record {
+      by false goes_on is = subst (λ (i : ℕ). IsScanned N F read from i (n + 1)) (sym is) (record {
         parts = r.parts;
         whole = r.whole;
         low = r.low;
@@ -78,12 +78,12 @@ module _ {M : Type 0} (N : ℕ) (F : Form M) (read : ℕ → List ℕ) (from : �
       })
 
   -- what ends among the blocks that were read has ended
-  inner : (end n z : ℕ) → IsRead N F read from end n → IsWhole N F read end z → z ≤ n → ⊥
+  inner : (end n z : ℕ) → IsScanned N F read from end n → IsWholeMtr N F read end z → z ≤ n → ⊥
   inner end n zero r w le = let some = w.some in omega arith
   inner end n (suc m) r w le = let some = w.some in true≢false (sym (w.last m (omega arith)) ∙ r.before m (omega (arith, some)) (omega (arith, le)))
 
   -- the run ends at a block that doesn't go on
-  pub read_stops : (end n : ℕ) → n ≤ from + N → IsRead N F read from end n → Stops N F n end (read n) → IsRun N F read from end
+  pub read_stops : (end n : ℕ) → n ≤ from + N → IsScanned N F read from end n → Stops N F n end (read n) → IsRun N F read from end
   read_stops end n le r stops = record {
     parts = r.parts;
     whole = r.whole;
@@ -91,12 +91,12 @@ module _ {M : Type 0} (N : ℕ) (F : Form M) (read : ℕ → List ℕ) (from : �
     longest = λ z w high. ⊎_elim (λ (lt : n < z). stops (let most = w.most in omega (arith, most, lt)) (w.valid n r.order lt) (start z w lt)) (λ (ge : z ≤ n). inner end n z r w ge) (cases_lt n z);
   }
     where
-      start : (z : ℕ) → IsWhole N F read end z → n < z → starts (read n) ≡ nat_eq end n
+      start : (z : ℕ) → IsWholeMtr N F read end z → n < z → starts (read n) ≡ nat_eq end n
       start z w lt = ⊎_elim (λ (e : end ≡ n). ap (λ (i : ℕ). starts (read i)) (sym e) ∙ w.first ∙ sym (eq_true end n e))
           (λ (ne : end ≢ n). let order = r.order in w.others n (omega (arith, ne)) lt ∙ sym (eq_false end n ne)) (cases_eq end n)
 
   -- or where all blocks were read
-  pub read_all : (end n : ℕ) → n ≡ from + N → IsRead N F read from end n → IsRun N F read from end
+  pub read_all : (end n : ℕ) → n ≡ from + N → IsScanned N F read from end n → IsRun N F read from end
   read_all end n is r = record {
     parts = r.parts;
     whole = r.whole;
@@ -104,20 +104,20 @@ module _ {M : Type 0} (N : ℕ) (F : Form M) (read : ℕ → List ℕ) (from : �
     longest = λ z w high. inner end n z r w (omega (arith, is, high));
   }
 
-  whole_up : (n end : ℕ) (parts : List ℕ) → AreWhole N F read n parts end → n ≤ end
+  whole_up : (n end : ℕ) (parts : List ℕ) → AreWholeMtrs N F read n parts end → n ≤ end
   whole_up n end [] is = omega arith
   whole_up n end (z ∷ parts) is = let up = whole_up z end parts is.1 in let some = (is.0).some in omega arith
 
   -- there is one longest run
-  one_end_of : (n x y : ℕ) (parts : List ℕ) (es : List (Logged M)) → AreWhole N F read n parts x → AreEntries N F read n es y → x ≤ from + N → y ≤ from + N
-      → ((z : ℕ) → IsWhole N F read x z → z ≤ from + N → ⊥) → ((z : ℕ) → IsWhole N F read y z → z ≤ from + N → ⊥) → x ≡ y
+  one_end_of : (n x y : ℕ) (parts : List ℕ) (es : List (Logged M)) → AreWholeMtrs N F read n parts x → AreWholeEntries N F read n es y → x ≤ from + N → y ≤ from + N
+      → ((z : ℕ) → IsWholeMtr N F read x z → z ≤ from + N → ⊥) → ((z : ℕ) → IsWholeMtr N F read y z → z ≤ from + N → ⊥) → x ≡ y
   one_end_of n x y [] [] is it lx ly nx ny = sym is ∙ it
-  one_end_of n x y [] (e ∷ es) is (k, w, mtr, first, lsn, rest) lx ly nx ny = let up = number_up N F read (n + k) y es rest in absurd (nx (n + k) (subst (λ (i : ℕ). IsWhole N F read i (n + k)) is w) (omega (arith, up, ly)))
-  one_end_of n x y (z ∷ parts) [] (v, more) it lx ly nx ny = let up = whole_up z x parts more in absurd (ny z (subst (λ (i : ℕ). IsWhole N F read i z) it v) (omega (arith, up, lx)))
+  one_end_of n x y [] (e ∷ es) is (k, w, mtr, first, lsn, rest) lx ly nx ny = let up = number_up N F read (n + k) y es rest in absurd (nx (n + k) (subst (λ (i : ℕ). IsWholeMtr N F read i (n + k)) is w) (omega (arith, up, ly)))
+  one_end_of n x y (z ∷ parts) [] (v, more) it lx ly nx ny = let up = whole_up z x parts more in absurd (ny z (subst (λ (i : ℕ). IsWholeMtr N F read i z) it v) (omega (arith, up, lx)))
   one_end_of n x y (z ∷ parts) (e ∷ es) (v, more) (k, w, mtr, first, lsn, rest) lx ly nx ny =
       let same : n + k ≡ z = same_end N F read n (n + k) z w v in
-      one_end_of z x y parts es more (subst (λ (i : ℕ). AreEntries N F read i es y) same rest) lx ly nx ny
+      one_end_of z x y parts es more (subst (λ (i : ℕ). AreWholeEntries N F read i es y) same rest) lx ly nx ny
 
 -- The run that is read from the newest checkpoint on ends where what the file says ends.
-pub run_of_log : {M : Type 0} (N : ℕ) (F : Form M) (file : List ℕ) (l : LogView M) (end : ℕ) → IsLog N F file l → IsRun N F (read_in N F file) l.from end → end ≡ l.end
+pub run_of_log : {M : Type 0} (N : ℕ) (F : Form M) (file : List ℕ) (l : LogView M) (end : ℕ) → IsRingLog N F file l → IsRun N F (read_in N F file) l.from end → end ≡ l.end
 run_of_log N F file l end is run = one_end_of N F (read_in N F file) l.from l.from end l.end run.parts l.run run.whole is.run run.few is.few run.longest is.longest

@@ -40,7 +40,7 @@ pub record IsForm {M : Type 0} (F : Form M) : Type 0 where
   pub mtr_one : (n : ℕ) (bs : List (List ℕ)) (x y : M) → F.IsMtr n bs x → F.IsMtr n bs y → x ≡ y
 
 -- What a session knows of its log. Sequence and from are those of the last synced checkpoint, newer is the `from` of the next one where that is being written.
-pub record Ring : Type 0 where
+pub record RingState : Type 0 where
   pub header : List ℕ
   pub sequence : ℕ
   pub from : ℕ
@@ -52,9 +52,9 @@ pub record Ring : Type 0 where
   pub block : ℕ → List ℕ
 
 -- the numbers of a journal, of 1 to 16 blocks a mini-transaction
-abbrev pub AreNumbered : {M : Type 0} → ℕ → List (Logged M) → ℕ → Type 0
-AreNumbered number [] next = number ≡ next
-AreNumbered number (e ∷ es) next = (blocks : ℕ) × (0 < blocks) × (blocks ≤ 16) × (e.first ≡ number) × (e.lsn ≡ (number + blocks) * 4096) × AreNumbered (number + blocks) es next
+abbrev pub AreNumberedMtrs : {M : Type 0} → ℕ → List (Logged M) → ℕ → Type 0
+AreNumberedMtrs number [] next = number ≡ next
+AreNumberedMtrs number (e ∷ es) next = (blocks : ℕ) × (0 < blocks) × (blocks ≤ 16) × (e.first ≡ number) × (e.lsn ≡ (number + blocks) * 4096) × AreNumberedMtrs (number + blocks) es next
 
 module _ {M : Type 0} (N : ℕ) (F : Form M) where
   open F use {is_block, starts, ends, IsMtr, checkpoint, passes}
@@ -63,31 +63,31 @@ module _ {M : Type 0} (N : ℕ) (F : Form M) where
   abbrev pub layout : Layout
   layout = record { size = 4096; count = 3 + N; passes = passes }
 
-  abbrev pub ring_place : ℕ → ℕ
-  ring_place n = 3 + n % N
+  abbrev pub place_in_ring : ℕ → ℕ
+  place_in_ring n = 3 + n % N
 
   -- no valid block of this number or a later one
-  abbrev pub HasNone : ℕ → List ℕ → Type 0
-  HasNone n b = (m : ℕ) → n ≤ m → is_block m b ≡ true → ⊥
+  abbrev pub HasNoBlockFrom : ℕ → List ℕ → Type 0
+  HasNoBlockFrom n b = (m : ℕ) → n ≤ m → is_block m b ≡ true → ⊥
 
   -- behind the settled blocks: the block of this number, or none of it or a later one, or the place is torn
-  abbrev pub IsBehind : Ring → ℕ → Option (List ℕ) → Type 0
+  abbrev pub IsBehind : RingState → ℕ → Option (List ℕ) → Type 0
   IsBehind r n None = Unit {0}
-  IsBehind r n (Some b) = ((n < r.written) × (b ≡ r.block n)) ⊎ HasNone n b
+  IsBehind r n (Some b) = ((n < r.written) × (b ≡ r.block n)) ⊎ HasNoBlockFrom n b
 
   -- the last synced checkpoint
-  abbrev pub IsSynced : Ring → Option (List ℕ) → Type 0
+  abbrev pub IsSynced : RingState → Option (List ℕ) → Type 0
   IsSynced r None = ⊥
   IsSynced r (Some b) = checkpoint (side r.sequence) b ≡ Some (record { sequence = r.sequence; from = r.from })
 
   -- the other checkpoint: an older one or none, or the next, or torn
-  abbrev pub IsOther : Ring → Option (List ℕ) → Type 0
+  abbrev pub IsOther : RingState → Option (List ℕ) → Type 0
   IsOther r None = Unit {0}
   IsOther r (Some b) = ((c : Check) → checkpoint (side (r.sequence + 1)) b ≡ Some c → c.sequence < r.sequence)
       ⊎ ((f : ℕ) × (r.newer ≡ Some f) × (checkpoint (side (r.sequence + 1)) b ≡ Some (record { sequence = r.sequence + 1; from = f })))
 
   -- the numbers of a ring, and that its blocks are valid
-  pub record IsRing (r : Ring) : Type 0 where
+  pub record IsRingState (r : RingState) : Type 0 where
     pub some : 0 < N
     pub began : r.from ≤ r.settled
     pub order : r.settled ≤ r.written
@@ -96,21 +96,21 @@ module _ {M : Type 0} (N : ℕ) (F : Form M) where
     pub valid : (n : ℕ) → r.from ≤ n → n < r.written → is_block n (r.block n) ≡ true
 
   -- what each place may hold
-  pub record RingAt (r : Ring) (may : ℕ → Option (List ℕ) → Type 0) : Type 0 where
-    pub is : IsRing r
+  pub record RingAt (r : RingState) (may : ℕ → Option (List ℕ) → Type 0) : Type 0 where
+    pub is : IsRingState r
     pub header : (x : Option (List ℕ)) → may 0 x → x ≡ Some r.header
     pub check : (x : Option (List ℕ)) → may (side r.sequence) x → IsSynced r x
     pub other : (x : Option (List ℕ)) → may (side (r.sequence + 1)) x → IsOther r x
-    pub front : (n : ℕ) (x : Option (List ℕ)) → r.from ≤ n → n < r.settled → may (ring_place n) x → x ≡ Some (r.block n)
-    pub rest : (n : ℕ) (x : Option (List ℕ)) → r.settled ≤ n → n < r.from + N → may (ring_place n) x → IsBehind r n x
+    pub front : (n : ℕ) (x : Option (List ℕ)) → r.from ≤ n → n < r.settled → may (place_in_ring n) x → x ≡ Some (r.block n)
+    pub rest : (n : ℕ) (x : Option (List ℕ)) → r.settled ≤ n → n < r.from + N → may (place_in_ring n) x → IsBehind r n x
 
   -- What holds at each moment, also after a call that failed.
-  pub record Ringed (r : Ring) (es : List Event) : Type 0 where
+  pub record Ringed (r : RingState) (es : List Event) : Type 0 where
     pub places : HasPlaces Log layout es
     pub at : RingAt r (λ i x. May Log 4096 i es x)
 
   -- Between two calls that were answered Ok nothing is pending on the disk.
-  pub record Ready (r : Ring) (es : List Event) : Type 0 where
+  pub record RingReady (r : RingState) (es : List Event) : Type 0 where
     pub ringed : Ringed r es
     pub settled : IsFileSettled Log 4096 es
     pub all : r.written ≡ r.settled
@@ -119,7 +119,7 @@ module _ {M : Type 0} (N : ℕ) (F : Form M) where
   -- ---- mini-transactions
 
   -- The blocks from n up to end are those of one mini-transaction: 1 to 16 of them, valid, only the first begins one, and only the last ends one.
-  pub record IsWhole (read : ℕ → List ℕ) (n end : ℕ) : Type 0 where
+  pub record IsWholeMtr (read : ℕ → List ℕ) (n end : ℕ) : Type 0 where
     pub some : n < end
     pub most : end ≤ n + 16
     pub valid : (m : ℕ) → n ≤ m → m < end → is_block m (read m) ≡ true
@@ -129,28 +129,28 @@ module _ {M : Type 0} (N : ℕ) (F : Form M) where
     pub last : (m : ℕ) → m + 1 ≡ end → ends (read m) ≡ true
 
   -- k blocks from n on
-  abbrev pub listed : (ℕ → List ℕ) → ℕ → ℕ → List (List ℕ)
-  listed read n zero = []
-  listed read n (suc k) = read n ∷ listed read (n + 1) k
+  abbrev pub listed_blocks : (ℕ → List ℕ) → ℕ → ℕ → List (List ℕ)
+  listed_blocks read n zero = []
+  listed_blocks read n (suc k) = read n ∷ listed_blocks read (n + 1) k
 
   -- The blocks from n up to end are those of these mini-transactions.
-  abbrev pub AreEntries : (ℕ → List ℕ) → ℕ → List (Logged M) → ℕ → Type 0
-  AreEntries read n [] end = n ≡ end
-  AreEntries read n (e ∷ es) end =
-      (k : ℕ) × IsWhole read n (n + k) × IsMtr n (listed read n k) e.mtr × (e.first ≡ n) × (e.lsn ≡ (n + k) * 4096) × AreEntries read (n + k) es end
+  abbrev pub AreWholeEntries : (ℕ → List ℕ) → ℕ → List (Logged M) → ℕ → Type 0
+  AreWholeEntries read n [] end = n ≡ end
+  AreWholeEntries read n (e ∷ es) end =
+      (k : ℕ) × IsWholeMtr read n (n + k) × IsMtr n (listed_blocks read n k) e.mtr × (e.first ≡ n) × (e.lsn ≡ (n + k) * 4096) × AreWholeEntries read (n + k) es end
 
   -- the ring block of a number in a file
   abbrev pub read_in : List ℕ → ℕ → List ℕ
-  read_in file n = place 4096 (ring_place n) file
+  read_in file n = place 4096 (place_in_ring n) file
 
   -- What a log's file says: the newest checkpoint, and from it the longest run of whole mini-transactions.
-  pub record IsLog (file : List ℕ) (l : LogView M) : Type 0 where
+  pub record IsRingLog (file : List ℕ) (l : LogView M) : Type 0 where
     pub sequence : ℕ
     pub check : checkpoint (side sequence) (place 4096 (side sequence) file) ≡ Some (record { sequence = sequence; from = l.from })
     pub newest : (i : ℕ) (c : Check) → checkpoint i (place 4096 i file) ≡ Some c → c.sequence ≤ sequence
-    pub run : AreEntries (read_in file) l.from l.run l.end
+    pub run : AreWholeEntries (read_in file) l.from l.run l.end
     pub few : l.end ≤ l.from + N
-    pub longest : (end : ℕ) → IsWhole (read_in file) l.end end → end ≤ l.from + N → ⊥
+    pub longest : (end : ℕ) → IsWholeMtr (read_in file) l.end end → end ≤ l.from + N → ⊥
 
   -- ---- the journal
 
@@ -159,44 +159,44 @@ module _ {M : Type 0} (N : ℕ) (F : Form M) where
     pub before : List (Logged M)
     pub behind : List (Logged M)
     pub parts : journal ≡ before ++ behind
-    pub left : AreEntries block start before n
+    pub left : AreWholeEntries block start before n
 
   -- the blocks from start up to next are those of the journal, whose parts the log's numbers bound
-  pub record IsJournal (r : Ring) (start : ℕ) (journal : List (Logged M)) (next : ℕ) : Type 0 where
-    pub entries : AreEntries r.block start journal next
+  pub record IsRingJournal (r : RingState) (start : ℕ) (journal : List (Logged M)) (next : ℕ) : Type 0 where
+    pub entries : AreWholeEntries r.block start journal next
     pub written : r.written ≤ next
     pub from : IsBound r.block start journal r.from
     pub newer : (f : ℕ) → r.newer ≡ Some f → IsBound r.block start journal f
     pub settled : IsBound r.block start journal r.settled
 
   -- What an image's log says: the run is a part of the journal that ends between the settled blocks and the written ones.
-  pub record IsRunOf (r : Ring) (start : ℕ) (journal : List (Logged M)) (next : ℕ) (l : LogView M) : Type 0 where
+  pub record IsRunOf (r : RingState) (start : ℕ) (journal : List (Logged M)) (next : ℕ) (l : LogView M) : Type 0 where
     pub known : (l.from ≡ r.from) ⊎ (r.newer ≡ Some l.from)
     pub settles : r.settled ≤ l.end
     pub within : l.end ≤ r.written
     pub before : List (Logged M)
     pub behind : List (Logged M)
     pub parts : journal ≡ before ++ (l.run ++ behind)
-    pub left : AreEntries r.block start before l.from
-    pub run : AreEntries r.block l.from l.run l.end
-    pub right : AreEntries r.block l.end behind next
+    pub left : AreWholeEntries r.block start before l.from
+    pub run : AreWholeEntries r.block l.from l.run l.end
+    pub right : AreWholeEntries r.block l.end behind next
 
   -- no ring block has a number that the blocks behind the run could meet
   abbrev pub IsClear : List ℕ → ℕ → Type 0
   IsClear file end = (i m : ℕ) → i < N → end + N ≤ m → is_block m (place 4096 (3 + i) file) ≡ true → ⊥
 
   -- What an image of the log stands for.
-  pub record Stands (r : Ring) (start : ℕ) (journal : List (Logged M)) (next : ℕ) (file : List ℕ) : Type 0 where
+  pub record RingStands (r : RingState) (start : ℕ) (journal : List (Logged M)) (next : ℕ) (file : List ℕ) : Type 0 where
     pub size : length file ≡ (3 + N) * 4096
     pub header : place 4096 0 file ≡ r.header
     -- it says one thing, of the journal
     pub log : LogView M
-    pub is : IsLog file log
-    pub one : (l : LogView M) → IsLog file l → l ≡ log
+    pub is : IsRingLog file log
+    pub one : (l : LogView M) → IsRingLog file l → l ≡ log
     pub run : IsRunOf r start journal next log
     pub clear : IsClear file log.end
 
   -- Each image in which no torn place of the log passes its checksum stands for a part of the journal.
-  abbrev pub AllStand : Ring → ℕ → List (Logged M) → ℕ → List Event → Type 0
-  AllStand r start journal next es =
-      (test : FileName → List ℕ → Bool) → ((bytes : List ℕ) → test Log bytes ≡ passes bytes) → (image : Image) → IsImage es image → IsLucky test image → Stands r start journal next (image.bytes Log)
+  abbrev pub AllRingStand : RingState → ℕ → List (Logged M) → ℕ → List Event → Type 0
+  AllRingStand r start journal next es =
+      (test : FileName → List ℕ → Bool) → ((bytes : List ℕ) → test Log bytes ≡ passes bytes) → (image : Image) → IsImage es image → IsLucky test image → RingStands r start journal next (image.bytes Log)

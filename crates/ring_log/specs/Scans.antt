@@ -1,26 +1,26 @@
 -- The longest run of whole mini-transactions, by its blocks alone.
 use Rattle.std.specs.Prelude.{◌≡◌, ℕ, ◌+◌, ◌<◌, ◌≤◌, true, false, nat_eq, if◌then◌else◌, List, [], ◌∷◌}
-use Rattle.ring_log.specs.Ring.{Form, IsWhole}
+use Rattle.ring_log.specs.Ring.{Form, IsWholeMtr}
 
 module _ {M : Type 0} (N : ℕ) (F : Form M) where
   open F use {is_block, starts, ends}
 
   -- whole mini-transactions in a row, each given by the number behind its last block
-  abbrev pub AreWhole : (ℕ → List ℕ) → ℕ → List ℕ → ℕ → Type 0
-  AreWhole read n [] end = n ≡ end
-  AreWhole read n (z ∷ zs) end = IsWhole N F read n z × AreWhole read z zs end
+  abbrev pub AreWholeMtrs : (ℕ → List ℕ) → ℕ → List ℕ → ℕ → Type 0
+  AreWholeMtrs read n [] end = n ≡ end
+  AreWholeMtrs read n (z ∷ zs) end = IsWholeMtr N F read n z × AreWholeMtrs read z zs end
 
   -- The longest run of whole mini-transactions from a number on ends here: N blocks are read at most, and no further mini-transaction is whole.
   pub record IsRun (read : ℕ → List ℕ) (from end : ℕ) : Type 0 where
     pub parts : List ℕ
-    pub whole : AreWhole read from parts end
+    pub whole : AreWholeMtrs read from parts end
     pub few : end ≤ from + N
-    pub longest : (z : ℕ) → IsWhole N F read end z → z ≤ from + N → ⊥
+    pub longest : (z : ℕ) → IsWholeMtr N F read end z → z ≤ from + N → ⊥
 
   -- The blocks up to n were read: whole mini-transactions up to end, and behind them the beginning of one.
-  pub record IsRead (read : ℕ → List ℕ) (from end n : ℕ) : Type 0 where
+  pub record IsScanned (read : ℕ → List ℕ) (from end n : ℕ) : Type 0 where
     pub parts : List ℕ
-    pub whole : AreWhole read from parts end
+    pub whole : AreWholeMtrs read from parts end
     pub low : from ≤ end
     pub order : end ≤ n
     pub valid : (m : ℕ) → end ≤ m → m < n → is_block m (read m) ≡ true
