@@ -1,7 +1,7 @@
 -- Mini-transactions in a row of blocks.
 use Rattle.std.proofs.Common.{◌≡◌, ℕ, zero, suc, ◌+◌, ◌*◌, ◌<◌, ◌≤◌, ⊎_elim, true≢false, List, [], ◌∷◌, ◌++◌, refl, sym, ap, subst, ◌∙◌, arith}
 use Rattle.std.proofs.lemmas.Bool.{cases_eq, cases_lt}
-use Rattle.store_image.specs.View.{Logged}
+use Rattle.store_image.specs.View.{block_bytes, Logged}
 use Rattle.ring_log.specs.Ring.{Form, IsForm, IsWholeMtr, listed_blocks, AreWholeEntries}
 
 module _ {M : Type 0} (N : ℕ) (F : Form M) where
@@ -159,7 +159,7 @@ module _ {M : Type 0} (N : ℕ) (F : Form M) where
       between a (n + k0) low high next es before behind front rest rest0 (tails e d es (before ++ behind) is) (subst (λ (i : ℕ). AreWholeEntries N F a i before low) (sym one) more)
       (tails e c es (front ++ rest) parts) (subst (λ (i : ℕ). AreWholeEntries N F a i front high) (sym two) more2) le
 
-  one_entry : IsForm F → (a : ℕ → List ℕ) (n : ℕ) (d e : Logged M) (k : ℕ) → IsMtr n (listed_blocks N F a n k) d.mtr → IsMtr n (listed_blocks N F a n k) e.mtr → d.first ≡ n → e.first ≡ n → d.lsn ≡ (n + k) * 4096 → e.lsn ≡ (n + k) * 4096 → d ≡ e
+  one_entry : IsForm F → (a : ℕ → List ℕ) (n : ℕ) (d e : Logged M) (k : ℕ) → IsMtr n (listed_blocks N F a n k) d.mtr → IsMtr n (listed_blocks N F a n k) e.mtr → d.first ≡ n → e.first ≡ n → d.lsn ≡ (n + k) * block_bytes → e.lsn ≡ (n + k) * block_bytes → d ≡ e
   one_entry L a n d e k x y first first' lsn lsn' =
       let one : d.first ≡ e.first = first ∙ sym first' in
       let two : d.lsn ≡ e.lsn = lsn ∙ sym lsn' in
@@ -177,6 +177,6 @@ module _ {M : Type 0} (N : ℕ) (F : Form M) where
   one_run L a n limit x y (d ∷ ds) (e ∷ es) (k, w, mtr, first, lsn, rest) (k', w', mtr', first', lsn', rest') le le' none none' =
       let same : n + k ≡ n + k' = same_end a n (n + k) (n + k') w w' in
       let count : k' ≡ k = omega (arith, same) in
-      let entry : d ≡ e = one_entry L a n d e k mtr (subst (λ (i : ℕ). IsMtr n (listed_blocks N F a n i) e.mtr) count mtr') first first' lsn (lsn' ∙ ap (λ (i : ℕ). (n + i) * 4096) count) in
+      let entry : d ≡ e = one_entry L a n d e k mtr (subst (λ (i : ℕ). IsMtr n (listed_blocks N F a n i) e.mtr) count mtr') first first' lsn (lsn' ∙ ap (λ (i : ℕ). (n + i) * block_bytes) count) in
       let more = one_run L a (n + k) limit x y ds es rest (subst (λ (i : ℕ). AreWholeEntries N F a (n + i) es y) count rest') le le' none none' in
       (ap (λ (h : Logged M). h ∷ ds) entry ∙ ap (λ (l : Journal). e ∷ l) more.0, more.1)

@@ -6,7 +6,7 @@ use Rattle.disk_model.specs.declared.names.FileName.{FileName}
 use Rattle.disk_model.specs.declared.names.FileName.TheVariants.{Log}
 use Rattle.places.specs.Places.{place, May, Layout, HasPlaces}
 use Rattle.places.specs.Batches.{IsFileSettled}
-use Rattle.store_image.specs.View.{Logged}
+use Rattle.store_image.specs.View.{block_bytes, Logged}
 use Rattle.store_image.specs.Places.{LogView}
 
 -- what a checkpoint says
@@ -54,14 +54,14 @@ pub record RingState : Type 0 where
 -- the numbers of a journal, of 1 to 16 blocks a mini-transaction
 abbrev pub AreNumberedMtrs : {M : Type 0} → ℕ → List (Logged M) → ℕ → Type 0
 AreNumberedMtrs number [] next = number ≡ next
-AreNumberedMtrs number (e ∷ es) next = (blocks : ℕ) × (0 < blocks) × (blocks ≤ 16) × (e.first ≡ number) × (e.lsn ≡ (number + blocks) * 4096) × AreNumberedMtrs (number + blocks) es next
+AreNumberedMtrs number (e ∷ es) next = (blocks : ℕ) × (0 < blocks) × (blocks ≤ 16) × (e.first ≡ number) × (e.lsn ≡ (number + blocks) * block_bytes) × AreNumberedMtrs (number + blocks) es next
 
 module _ {M : Type 0} (N : ℕ) (F : Form M) where
   open F use {is_block, starts, ends, IsMtr, checkpoint, passes}
 
   -- the log's file: header, two checkpoints and N ring blocks
   abbrev pub layout : Layout
-  layout = record { size = 4096; count = 3 + N; passes = passes }
+  layout = record { size = block_bytes; count = 3 + N; passes = passes }
 
   abbrev pub place_in_ring : ℕ → ℕ
   place_in_ring n = 3 + n % N
@@ -107,12 +107,12 @@ module _ {M : Type 0} (N : ℕ) (F : Form M) where
   -- What holds at each moment, also after a call that failed.
   pub record Ringed (r : RingState) (es : List Event) : Type 0 where
     pub places : HasPlaces Log layout es
-    pub at : RingAt r (λ i x. May Log 4096 i es x)
+    pub at : RingAt r (λ i x. May Log block_bytes i es x)
 
   -- Between two calls that were answered Ok nothing is pending on the disk.
   pub record RingReady (r : RingState) (es : List Event) : Type 0 where
     pub ringed : Ringed r es
-    pub settled : IsFileSettled Log 4096 es
+    pub settled : IsFileSettled Log block_bytes es
     pub all : r.written ≡ r.settled
     pub none : r.newer ≡ None
 
@@ -137,17 +137,17 @@ module _ {M : Type 0} (N : ℕ) (F : Form M) where
   abbrev pub AreWholeEntries : (ℕ → List ℕ) → ℕ → List (Logged M) → ℕ → Type 0
   AreWholeEntries read n [] end = n ≡ end
   AreWholeEntries read n (e ∷ es) end =
-      (k : ℕ) × IsWholeMtr read n (n + k) × IsMtr n (listed_blocks read n k) e.mtr × (e.first ≡ n) × (e.lsn ≡ (n + k) * 4096) × AreWholeEntries read (n + k) es end
+      (k : ℕ) × IsWholeMtr read n (n + k) × IsMtr n (listed_blocks read n k) e.mtr × (e.first ≡ n) × (e.lsn ≡ (n + k) * block_bytes) × AreWholeEntries read (n + k) es end
 
   -- the ring block of a number in a file
   abbrev pub read_in : List ℕ → ℕ → List ℕ
-  read_in file n = place 4096 (place_in_ring n) file
+  read_in file n = place block_bytes (place_in_ring n) file
 
   -- What a log's file says: the newest checkpoint, and from it the longest run of whole mini-transactions.
   pub record IsRingLog (file : List ℕ) (l : LogView M) : Type 0 where
     pub sequence : ℕ
-    pub check : checkpoint (side sequence) (place 4096 (side sequence) file) ≡ Some (record { sequence = sequence; from = l.from })
-    pub newest : (i : ℕ) (c : Check) → checkpoint i (place 4096 i file) ≡ Some c → c.sequence ≤ sequence
+    pub check : checkpoint (side sequence) (place block_bytes (side sequence) file) ≡ Some (record { sequence = sequence; from = l.from })
+    pub newest : (i : ℕ) (c : Check) → checkpoint i (place block_bytes i file) ≡ Some c → c.sequence ≤ sequence
     pub run : AreWholeEntries (read_in file) l.from l.run l.end
     pub few : l.end ≤ l.from + N
     pub longest : (end : ℕ) → IsWholeMtr (read_in file) l.end end → end ≤ l.from + N → ⊥
@@ -183,12 +183,12 @@ module _ {M : Type 0} (N : ℕ) (F : Form M) where
 
   -- no ring block has a number that the blocks behind the run could meet
   abbrev pub IsClear : List ℕ → ℕ → Type 0
-  IsClear file end = (i m : ℕ) → i < N → end + N ≤ m → is_block m (place 4096 (3 + i) file) ≡ true → ⊥
+  IsClear file end = (i m : ℕ) → i < N → end + N ≤ m → is_block m (place block_bytes (3 + i) file) ≡ true → ⊥
 
   -- What an image of the log stands for.
   pub record RingStands (r : RingState) (start : ℕ) (journal : List (Logged M)) (next : ℕ) (file : List ℕ) : Type 0 where
-    pub size : length file ≡ (3 + N) * 4096
-    pub header : place 4096 0 file ≡ r.header
+    pub size : length file ≡ (3 + N) * block_bytes
+    pub header : place block_bytes 0 file ≡ r.header
     -- it says one thing, of the journal
     pub log : LogView M
     pub is : IsRingLog file log
