@@ -1,0 +1,6 @@
+use Rattle.std.proofs.Common.{◌≡◌, ◌≤◌, ℕ, List, length, take, sym, arith}
+use Rattle.std.proofs.lemmas.List.{length-take-le}
+use Rattle.redo_text.proofs.view.check_block.Goals as goal
+
+pub slice_bounds-crc32c-end : goal.slice_bounds-crc32c-end
+slice_bounds-crc32c-end c = sym (length-take-le 4092 c.args.bytes.now (omega (arith, c.requires)))
