@@ -1,0 +1,2 @@
+pub mod CopyParts
+pub mod Choices
