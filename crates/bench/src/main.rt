@@ -5,6 +5,7 @@
 //! What a measurement computed is compared or printed, so that no call is left out as unused.
 #![tactic(auto)]
 
+mod by_eight;
 mod by_one;
 mod checksums;
 mod ciphers;
