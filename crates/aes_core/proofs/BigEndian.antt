@@ -4,7 +4,8 @@ use Rattle.std.specs.Int.{byte_at, from_be_bytes, from_le_bytes, swap_bytes, to_
 use Rattle.std.proofs.Math.Nat.{div-div-eq-div-mul}
 use Rattle.std.proofs.lemmas.Nat.{le_bytes_4, xor_mod, xor_shr}
 use Rattle.aes_core.specs.Cipher.{xored}
-use Rattle.aes_core.proofs.Inverse.{byte_at-lt, bytes_four}
+use Rattle.aes_core.proofs.Inverse.{byte_at-lt}
+use Rattle.byte_list.proofs.ByteLaws.{bytes_four}
 
 turned : (a b c d : ℕ) → from_be_bytes w32 (a ∷ b ∷ c ∷ d ∷ []) ≡ from_le_bytes w32 (d ∷ c ∷ b ∷ a ∷ [])
 turned a b c d = omega arith

@@ -6,10 +6,12 @@ use Rattle.std.proofs.lemmas.List.{length-map}
 use Rattle.std.proofs.lemmas.Nat.{xor_lt}
 use Rattle.std.proofs.lemmas.Simd.{length-zip2}
 use lib.Lanes.{zip2}
+use Rattle.byte_list.proofs.ByteLaws.{bytes_append, bytes_four, bytes_made, bytes_map, bytes_zip2}
 use Rattle.aes_core.specs.Field.{product_of, sub_byte, times, inv_sub_byte}
 use Rattle.aes_core.specs.Cipher.{AreBytes, IsBlock, after_rounds, before_rounds, circulant_times, column_times, decrypted_by, encrypted_by, mix_columns, round_key, row_times, shift_rows, sub_bytes, inv_mix_columns, inv_shift_rows, inv_sub_bytes, xored}
 use Rattle.aes_core.proofs.ByTable.{everywhere, sub-inv_sub, sub_byte-lt, inv_sub-sub, inv_sub_byte-lt}
-use Rattle.aes_core.proofs.Linear.{row_times-lt, undone, xor_twice}
+use Rattle.aes_core.proofs.Linear.{row_times-lt, undone}
+use Rattle.byte_list.proofs.XorLaws.{xored_twice}
 
 pub sixteen_of : (s : List ℕ) → length s ≡ 16
     → s ≡ slice_index s 0 ∷ slice_index s 1 ∷ slice_index s 2 ∷ slice_index s 3 ∷ slice_index s 4 ∷ slice_index s 5 ∷ slice_index s 6 ∷ slice_index s 7
@@ -18,37 +20,6 @@ sixteen_of (a ∷ b ∷ c ∷ d ∷ e ∷ f ∷ g ∷ h ∷ i ∷ j ∷ k ∷ l 
 sixteen_of _ long = absurd (omega arith)
 
 -- ---- bytes
-
-pub bytes_nil : AreBytes []
-bytes_nil i = omega arith
-
-pub bytes_cons : (x : ℕ) (xs : List ℕ) → x < 256 → AreBytes xs → AreBytes (x ∷ xs)
-bytes_cons x xs h t zero = h
-bytes_cons x xs h t (suc i) = t i
-
-pub bytes_append : (xs ys : List ℕ) → AreBytes xs → AreBytes ys → AreBytes (xs ++ ys)
-bytes_append [] ys h t i = t i
-bytes_append (x ∷ xs) ys h t zero = h 0
-bytes_append (x ∷ xs) ys h t (suc i) = bytes_append xs ys (λ j. h (suc j)) t i
-
-pub bytes_made : (f : ℕ → ℕ) → ((k : ℕ) → f k < 256) → (xs : List ℕ) → AreBytes (map f xs)
-bytes_made f h [] i = omega arith
-bytes_made f h (x ∷ xs) zero = h x
-bytes_made f h (x ∷ xs) (suc i) = bytes_made f h xs i
-
-pub bytes_map : (f : ℕ → ℕ) → ((a : ℕ) → a < 256 → f a < 256) → (xs : List ℕ) → AreBytes xs → AreBytes (map f xs)
-bytes_map f h [] t i = omega arith
-bytes_map f h (x ∷ xs) t zero = h x (t 0)
-bytes_map f h (x ∷ xs) t (suc i) = bytes_map f h xs (λ j. t (suc j)) i
-
-bytes_zip2 : (f : ℕ → ℕ → ℕ) → ((a b : ℕ) → a < 256 → b < 256 → f a b < 256) → (xs ys : List ℕ) → AreBytes xs → AreBytes ys → AreBytes (zip2 f xs ys)
-bytes_zip2 f keeps [] ys h t i = omega arith
-bytes_zip2 f keeps (x ∷ xs) [] h t i = omega arith
-bytes_zip2 f keeps (x ∷ xs) (y ∷ ys) h t zero = keeps x y (h 0) (t 0)
-bytes_zip2 f keeps (x ∷ xs) (y ∷ ys) h t (suc i) = bytes_zip2 f keeps xs ys (λ j. h (suc j)) (λ j. t (suc j)) i
-
-pub bytes_xored : (xs ys : List ℕ) → AreBytes xs → AreBytes ys → AreBytes (xored xs ys)
-bytes_xored xs ys h t = bytes_zip2 bit_xor (xor_lt 8) xs ys h t
 
 pub byte_at-lt : (k n : ℕ) → byte_at k n < 256
 byte_at-lt zero n = omega arith
@@ -60,11 +31,6 @@ byte_at-lt (suc i) n = below (n / 256 ^ suc i)
 map_back : (f g : ℕ → ℕ) → ((a : ℕ) → a < 256 → g (f a) ≡ a) → (xs : List ℕ) → AreBytes xs → map g (map f xs) ≡ xs
 map_back f g h [] t = refl
 map_back f g h (x ∷ xs) t = (λ i. h x (t 0) i ∷ map_back f g h xs (λ j. t (suc j)) i)
-
-pub xored_twice : (xs ys : List ℕ) → length xs ≤ length ys → xored (xored xs ys) ys ≡ xs
-xored_twice [] ys h = refl
-xored_twice (x ∷ xs) [] h = absurd (omega arith)
-xored_twice (x ∷ xs) (y ∷ ys) h = (λ i. xor_twice x y i ∷ xored_twice xs ys (omega arith) i)
 
 -- ---- the steps keep blocks
 
@@ -85,10 +51,6 @@ block_shift s h = record { long = refl; bytes = bytes_made (λ k. slice_index s 
 
 pub block_inv_shift : (s : List ℕ) → IsBlock s → IsBlock (inv_shift_rows s)
 block_inv_shift s h = record { long = refl; bytes = bytes_made (λ k. slice_index s (k % 4 + 4 * ((k / 4 + 4 - k % 4) % 4))) (λ k. h.bytes (k % 4 + 4 * ((k / 4 + 4 - k % 4) % 4))) (range_with_len 0 16) }
-
-pub bytes_four : (a b c d : ℕ) → a < 256 → b < 256 → c < 256 → d < 256 → AreBytes (a ∷ b ∷ c ∷ d ∷ [])
-bytes_four a b c d ha hb hc hd =
-    bytes_cons a (b ∷ c ∷ d ∷ []) ha (bytes_cons b (c ∷ d ∷ []) hb (bytes_cons c (d ∷ []) hc (bytes_cons d [] hd bytes_nil)))
 
 column_bytes : (m n o p a b c d : ℕ) → a < 256 → b < 256 → c < 256 → d < 256 → AreBytes (circulant_times m n o p a b c d)
 column_bytes m n o p a b c d ha hb hc hd =

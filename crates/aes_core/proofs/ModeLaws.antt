@@ -3,12 +3,15 @@ use Rattle.std.proofs.Common.{◌≡◌, ℕ, zero, suc, ◌+◌, ◌-◌, ◌*�
 use Rattle.std.proofs.lemmas.Bool.{cases_lt}
 use Rattle.std.proofs.lemmas.List.{append-nil, drop-drop, drop_all, drop_at, take-append-drop, take_at}
 use Rattle.std.proofs.Math.Seq.{take-add}
+use Rattle.byte_list.proofs.XorLaws.{xored_append, length-xored}
 use Rattle.aes_core.specs.Cipher.{AreBytes, IsBlock, IsKey, decrypted, encrypted, round_count, schedule, xored}
 use Rattle.std.specs.Int.{byte_at, from_be_bytes, to_be_bytes, w128}
 use Rattle.aes_core.specs.Modes.{block_at, block_before, cbc_blocks, cbc_tail, chain, counter_at, ctr, joined, key_stream, masked_tail, tail_of, uncbc_blocks, uncbc_tail, whole_blocks}
 use Rattle.aes_core.proofs.BlockLoop.{AreBlocks, length-block_at, length-joined}
-use Rattle.aes_core.proofs.Inverse.{byte_at-lt, bytes_made, block_decrypted, block_encrypted, block_xored, decrypted-encrypted, encrypted-decrypted, xored_twice}
-use Rattle.aes_core.proofs.Schedule.{bytes_drop, bytes_take, keys_of}
+use Rattle.aes_core.proofs.Inverse.{byte_at-lt, block_decrypted, block_encrypted, block_xored, decrypted-encrypted, encrypted-decrypted}
+use Rattle.aes_core.proofs.Schedule.{keys_of}
+use Rattle.byte_list.proofs.ByteLaws.{bytes_made, bytes_drop, bytes_take}
+use Rattle.byte_list.proofs.XorLaws.{xored_twice}
 
 -- ---- texts of blocks
 
@@ -41,12 +44,6 @@ block_of_joined f rest (suc n) i h lt =
 
 -- ---- CTR
 
-xored_append : (a b c d : List ℕ) → length a ≡ length c → xored (a ++ b) (c ++ d) ≡ xored a c ++ xored b d
-xored_append [] b [] d h = refl
-xored_append [] b (y ∷ c) d h = absurd (omega arith)
-xored_append (x ∷ a) b [] d h = absurd (omega arith)
-xored_append (x ∷ a) b (y ∷ c) d h = ap (λ (l : List ℕ). bit_xor x y ∷ l) (xored_append a b c d (omega arith))
-
 xored_joined : (g : ℕ → List ℕ) (xs rest : List ℕ) (n : ℕ) → AreBlocks g n → 16 * n ≤ length xs
     → xored xs (joined g n ++ rest) ≡ joined (λ i. xored (block_at xs i) (g i)) n ++ xored (drop (16 * n) xs) rest
 unfolding joined
@@ -73,11 +70,6 @@ pub ctr_is : (key counter xs : List ℕ) (n : ℕ) → n ≡ whole_blocks xs →
 ctr_is key counter xs n e h =
     let g = λ (j : ℕ). encrypted key (counter_at counter j) in
     sym (xored_joined g xs (g n) n h (omega arith)) ∙ ap (xored xs) (sym (joined_next g n)) ∙ ap (λ (k : ℕ). xored xs (joined g (k + 1))) e
-
-length-xored : (xs ys : List ℕ) → length xs ≤ length ys → length (xored xs ys) ≡ length xs
-length-xored [] ys h = refl
-length-xored (x ∷ xs) [] h = absurd (omega arith)
-length-xored (x ∷ xs) (y ∷ ys) h = ap (λ (n : ℕ). suc n) (length-xored xs ys (omega arith))
 
 pub ctr_twice : (key counter xs : List ℕ) → AreBlocks (λ j. encrypted key (counter_at counter j)) (whole_blocks xs + 1) → ctr key counter (ctr key counter xs) ≡ xs
 ctr_twice key counter xs h =

@@ -3,7 +3,7 @@ use Rattle.std.proofs.Common.{◌≡◌, ℕ, zero, suc, ◌+◌, ◌-◌, ◌%�
 use Rattle.std.proofs.lemmas.List.{append-nil, drop-drop, drop_at, get_or-drop, get_or-replicate, length-replicate, take-append-drop, take_at}
 use Rattle.aes_core.specs.Cipher.{AreBytes, IsBlock, IsKey}
 use Rattle.aes_core.specs.Modes.{EndsIn, cbc_pad, cbc_tail, padded, uncbc_tail, whole_blocks, joined, chain}
-use Rattle.aes_core.proofs.Inverse.{bytes_append, bytes_nil}
+use Rattle.byte_list.proofs.ByteLaws.{bytes_append, bytes_replicate}
 use Rattle.aes_core.proofs.ModeLaws.{cbc_redone, cbc_undone, length-done, length-undone, no_tail}
 
 -- how many bytes are put after a text
@@ -24,11 +24,6 @@ padded_whole p = omega (arith, length-padded p)
 
 pub padded_more : (p : List ℕ) → 16 ≤ length (padded p)
 padded_more p = omega (arith, length-padded p)
-
-bytes_replicate : (n a : ℕ) → a < 256 → AreBytes (replicate n a)
-bytes_replicate zero a h i = bytes_nil i
-bytes_replicate (suc n) a h zero = h
-bytes_replicate (suc n) a h (suc i) = bytes_replicate n a h i
 
 pub bytes_padded : (p : List ℕ) → AreBytes p → AreBytes (padded p)
 bytes_padded p b = bytes_append p (replicate (room p) (room p)) b (bytes_replicate (room p) (room p) (omega arith))

@@ -14,7 +14,8 @@ use lib.Lanes.{Each1, number_l, zip2}
 use Rattle.aes_core.specs.Cipher.{IsBlock, round_key, state_of}
 use Rattle.aes_core.specs.Planes.{AreKeyPlanes, ArePlanes, bits_in, block_in, byte_bits, round_planes}
 use Rattle.aes_core.proofs.ByTable.{everywhere}
-use Rattle.aes_core.proofs.Inverse.{byte_at-lt, bytes_made}
+use Rattle.aes_core.proofs.Inverse.{byte_at-lt}
+use Rattle.byte_list.proofs.ByteLaws.{bytes_made}
 
 -- ---- eight of anything
 

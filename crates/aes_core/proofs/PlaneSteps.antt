@@ -9,9 +9,10 @@ use Rattle.aes_core.specs.Field.{product_of, times}
 use Rattle.aes_core.specs.Cipher.{IsBlock, circulant_times, inv_mix_columns, inv_shift_rows, mix_columns, row_times, shift_rows, xored}
 use Rattle.aes_core.specs.Planes.{ArePlanes, bits_in, block_in, byte_bits}
 use Rattle.aes_core.proofs.ByTable.{everywhere, times_1, times_2, times_3}
-use Rattle.aes_core.proofs.Inverse.{block_inv_shift, block_shift, block_xored, bytes_made, sixteen_of}
+use Rattle.aes_core.proofs.Inverse.{block_inv_shift, block_shift, block_xored, sixteen_of}
 use Rattle.aes_core.proofs.Linear.{row_times-xor, sum_four, times-xor}
 use Rattle.aes_core.proofs.PlaneLists.{all_eight, are_planes, bit_of_xor, bits_of_xor, byte_in, byte_in-bits, byte_in-lt, eight, eight_of, eight_planes, everywhere_in, number_of_bits, plane_at, plane_is, same_on_range, zip2_at}
+use Rattle.byte_list.proofs.ByteLaws.{bytes_made}
 
 -- ---- lanes moved are bytes moved
 

@@ -8,11 +8,13 @@ use Rattle.std.proofs.lemmas.Slice.{take-put_mid}
 use borrow.Rule.Slice.PartMut.{mid_of, post_of, put_mid, same_len_mid}
 use Rattle.std.proofs.lemmas.Simd.{length-zip2}
 use lib.Bits.{xor_zero_r}
+use Rattle.byte_list.proofs.ByteLaws.{bytes_drop, bytes_take}
 use Rattle.aes_core.specs.Field.{power, sub_byte}
 use Rattle.aes_core.specs.Cipher.{AreBytes, IsKey, IsKeyLength, IsReady, changed_word, expanded, next_word, rot_word, round_count, schedule, sub_bytes, word_at, word_count, xored}
 use Rattle.aes_core.proofs.ByTable.{sub_byte-lt}
 use Rattle.aes_core.proofs.Linear.{times_x-lt}
-use Rattle.aes_core.proofs.Inverse.{AreKeys, bytes_append, bytes_cons, bytes_map, bytes_nil, bytes_xored}
+use Rattle.aes_core.proofs.Inverse.{AreKeys}
+use Rattle.byte_list.proofs.ByteLaws.{bytes_append, bytes_cons, bytes_map, bytes_nil, bytes_xored}
 
 pub four_of : (t : List ℕ) → length t ≡ 4 → t ≡ slice_index t 0 ∷ slice_index t 1 ∷ slice_index t 2 ∷ slice_index t 3 ∷ []
 four_of (a ∷ b ∷ c ∷ d ∷ []) long = refl
@@ -50,15 +52,6 @@ word_xored s t h k = record { long = length-zip2 bit_xor s t (h.long ∙ sym k.l
 
 word_sub : (t : List ℕ) → IsWord t → IsWord (sub_bytes t)
 word_sub t h = record { long = length-map t sub_byte ∙ h.long; bytes = bytes_map sub_byte sub_byte-lt t h.bytes }
-
-pub bytes_drop : (n : ℕ) (xs : List ℕ) → AreBytes xs → AreBytes (drop n xs)
-bytes_drop n xs h i = rw (get_or-drop n xs i 0) (h (n + i))
-
-pub bytes_take : (n : ℕ) (xs : List ℕ) → AreBytes xs → AreBytes (take n xs)
-bytes_take zero xs h i = omega arith
-bytes_take (suc n) [] h i = omega arith
-bytes_take (suc n) (x ∷ xs) h zero = h 0
-bytes_take (suc n) (x ∷ xs) h (suc i) = bytes_take n xs (λ j. h (suc j)) i
 
 word_rot : (t : List ℕ) → IsWord t → IsWord (rot_word t)
 word_rot t h = record {

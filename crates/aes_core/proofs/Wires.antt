@@ -15,8 +15,9 @@ use Rattle.aes_core.specs.Field.{sub_byte, inv_sub_byte}
 use Rattle.aes_core.specs.Planes.{bits_in, block_in, byte_bits, ArePlanes}
 use Rattle.aes_core.specs.declared.tables.TheConstants.{SUB, INV_SUB}
 use Rattle.aes_core.proofs.ByTable.{sub_at, inv_sub_at}
-use Rattle.aes_core.proofs.Inverse.{block_xored, block_zip2, bytes_made}
+use Rattle.aes_core.proofs.Inverse.{block_xored, block_zip2}
 use Rattle.aes_core.proofs.PlaneLists.{are_planes, byte_in, byte_in-lt, everywhere_in, plane_is, same_on_range, zip2_at}
+use Rattle.byte_list.proofs.ByteLaws.{bytes_made}
 
 -- ---- one gate
 

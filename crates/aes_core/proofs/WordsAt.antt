@@ -7,9 +7,11 @@ use lib.Bits.{xor_assoc, xor_zero_l, xor_zero_r}
 use Rattle.aes_core.specs.Field.{product_of, sub_byte, times, inv_sub_byte}
 use Rattle.aes_core.specs.Cipher.{bytes_of, circulant_times, round_key, state_of, sub_bytes, inv_mix_columns, xored}
 use Rattle.aes_core.specs.declared.tables.TheConstants.{INV_ROUNDS, INV_SUB, LAST, ROUNDS, SUB}
-use Rattle.aes_core.proofs.Inverse.{bytes_four, sixteen_of}
-use Rattle.aes_core.proofs.Linear.{row_times-xor, xor_swap}
+use Rattle.aes_core.proofs.Inverse.{sixteen_of}
+use Rattle.aes_core.proofs.Linear.{row_times-xor}
 use Rattle.aes_core.proofs.ByTable.{everywhere, sub_at, inv_sub_at}
+use Rattle.byte_list.proofs.ByteLaws.{bytes_four}
+use Rattle.byte_list.proofs.XorLaws.{xor_swap}
 
 -- the tables one by one
 abbrev pub ROUND_0 : List ℕ

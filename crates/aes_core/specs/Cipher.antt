@@ -3,12 +3,9 @@
 use Rattle.std.specs.Prelude.{◌≡◌, ℕ, zero, suc, ◌+◌, ◌-◌, ◌*◌, ◌/◌, ◌%◌, ◌<◌, ◌≤◌, ◌==◌, ◌&&◌, ◌⊎◌, List, [], ◌∷◌, ◌++◌, length, take, drop, map, bit_xor, slice_index, if◌then◌else◌}
 use Rattle.std.specs.Int.{to_le_bytes, w32}
 use Rattle.std.specs.List.{flat_map, range_with_len}
-use lib.Lanes.{zip2}
+pub use Rattle.byte_list.specs.Bytes.{AreBytes}
+pub use Rattle.byte_list.specs.Xor.{xored}
 use Rattle.aes_core.specs.Field.{times, power, sub_byte, inv_sub_byte}
-
--- the XOR of two lists, byte by byte
-abbrev pub xored : List ℕ → List ℕ → List ℕ
-xored xs ys = zip2 bit_xor xs ys
 
 -- ---- the steps of a round
 
@@ -136,17 +133,13 @@ IsKeyLength n = (n ≡ 16) ⊎ (n ≡ 24) ⊎ (n ≡ 32)
 -- sixteen bytes
 pub record IsBlock (s : List ℕ) : Type 0 where
   pub long : length s ≡ 16
-  pub bytes : (i : ℕ) → slice_index s i < 256
+  pub bytes : AreBytes s
 
 -- the first n of the bytes are a key, and the keys of its rounds begin the bytes
 pub record IsReady (keys : List ℕ) (n : ℕ) : Type 0 where
   pub key_length : IsKeyLength n
-  pub bytes : (i : ℕ) → slice_index (take n keys) i < 256
+  pub bytes : AreBytes (take n keys)
   pub rounds : take (16 * (n / 4 + 7)) keys ≡ schedule (take n keys)
-
--- numbers that are bytes
-abbrev pub AreBytes : List ℕ → Type 0
-AreBytes s = (i : ℕ) → slice_index s i < 256
 
 -- bytes of four whole words or more, as every key is
 pub record IsKey (key : List ℕ) : Type 0 where

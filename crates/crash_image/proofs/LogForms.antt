@@ -8,7 +8,8 @@ use Rattle.std.proofs.lemmas.Bool.{cases_lt}
 use Rattle.key_ring.specs.Ring.{Entry}
 use Rattle.key_ring.specs.Local.{local_key}
 use Rattle.places.specs.Places.{place}
-use Rattle.space_head.specs.Fields.{be64_at, part}
+use Rattle.byte_list.specs.Fields.{be64_at}
+use Rattle.byte_list.specs.Bytes.{range}
 use Rattle.page_places.specs.Texts.{ends_in_sum}
 use Rattle.page_places.proofs.Sums.{and_left, and_right}
 use Rattle.ring_log.specs.Ring as ring
@@ -48,7 +49,7 @@ check_is i b c is = by (is_checkpoint i b) is
 checkpoint_parts : (i : ℕ) (b : List ℕ) → is_checkpoint i b ≡ true → (ends_in_sum b ≡ true) × (i ≡ side_of (be64_at b 8))
 unfolding is_checkpoint
 checkpoint_parts i b valid =
-    let placed : nat_eq i (side_of (be64_at b 8)) ≡ true = and_left _ _ (and_right (bytes_eq (part b 0 8) (codes "KEYCHK01")) _ (and_right (ends_in_sum b) _ valid)) in
+    let placed : nat_eq i (side_of (be64_at b 8)) ≡ true = and_left _ _ (and_right (bytes_eq (range 0 8 b) (codes "KEYCHK01")) _ (and_right (ends_in_sum b) _ valid)) in
     (and_left _ _ valid, grind (arith, nat_tests))
 
 side_is : (s : ℕ) → side_of s ≡ side s

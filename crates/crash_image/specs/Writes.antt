@@ -6,7 +6,7 @@ use Rattle.disk_model.specs.declared.names.FileName.TheVariants.{Log, Double, Sp
 use Rattle.key_ring.specs.Ring.{Entry}
 use Rattle.page_places.specs.Texts.{is_page_text, text_in, slot_held}
 use Rattle.page_places.specs.Views.{view}
-use Rattle.space_head.specs.Fields.{be64_at}
+use Rattle.byte_list.specs.Fields.{be64_at}
 use Rattle.store_image.specs.Places.{LogView}
 use Rattle.store_image.specs.Record as items
 use Rattle.store_image.specs.Record.{Item, PageText, RingBlock}

@@ -2,7 +2,7 @@
 use Rattle.std.proofs.Common.{◌≡◌, ◌≤◌, ◌+◌, ◌*◌, ◌-◌, ℕ, List, [], ◌++◌, length, take, drop, Option, Some, unwrap_or, ap, ◌∙◌, subst, arith, length-drop}
 use Rattle.std.proofs.lemmas.List.{append-nil, drop_all, take-take, drop-take}
 use Rattle.std.specs.Int.{from_be_bytes, w32}
-use Rattle.space_head.specs.Fields.{be32_at}
+use Rattle.byte_list.specs.Fields.{be32_at}
 use Rattle.io_core.specs.Files.{IsFilled}
 
 -- a buffer that a file fills holds the bytes from the place on

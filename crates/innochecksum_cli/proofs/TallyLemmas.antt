@@ -4,7 +4,7 @@ use Rattle.std.proofs.Math.ListN.{set}
 use Rattle.std.proofs.lemmas.Bool.{cases_eq, eq-eqb, ne_eqb}
 use Rattle.std.proofs.lemmas.List.{get_or-set_other, get_or-set_same}
 use Rattle.std.proofs.lemmas.List.Sums.{count_by-le-length, sum_by_push}
-use Rattle.space_head.specs.Fields.{be16_at}
+use Rattle.byte_list.specs.Fields.{be16_at}
 use Rattle.innochecksum_cli.specs.Pages.{Page, is_of_kind, is_zero}
 
 one_at_most : (b : Bool) → cond b 1 0 ≤ 1

@@ -4,7 +4,7 @@ use Rattle.std.proofs.lemmas.Bool.{le-ltb, lt-ltb}
 use Rattle.std.proofs.lemmas.List.{append-nil}
 use Rattle.io_core.specs.Stream.{IsPartlyGiven, extended}
 use Rattle.io_core.proofs.Streams.{given_then}
-use Rattle.space_head.specs.Fields.{be32_at}
+use Rattle.byte_list.specs.Fields.{be32_at}
 use Rattle.space_head.specs.Sizes.{page_size}
 use Rattle.space_head.specs.declared.fault.HeadFault.{HeadFault}
 use Rattle.innochecksum_cli.specs.Pages.{Page, whole_pages}

@@ -1,7 +1,7 @@
 -- The pages of a tablespace file, and what each of them is.
 use Rattle.std.specs.Prelude.{ℕ, ◌*◌, ◌/◌, ◌==◌, ◌&&◌, Bool, not, List, length, take, drop, map}
 use Rattle.std.specs.List.{list_all, range_with_len}
-use Rattle.space_head.specs.Fields.{be16_at, be32_at}
+use Rattle.byte_list.specs.Fields.{be16_at, be32_at}
 use Rattle.page_text.specs.State.{computed_sum, stored_sum}
 
 -- a whole page of a file: its number, from 0, and its bytes

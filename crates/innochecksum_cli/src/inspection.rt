@@ -5,7 +5,7 @@ ghost use Rattle.io_core.specs.Told.{Told};
 ghost use Rattle.innochecksum_cli.specs.Inspection.{Agrees, inspected, sized_report};
 ghost use Rattle.innochecksum_cli.specs.Heads.{IsLengthAnswer, IsSizeAnswer};
 ghost use Rattle.cause_core.specs.Counts.{Rose};
-ghost use Rattle.space_head.specs.Fields.{be32_at};
+ghost use Rattle.byte_list.specs.Fields.{be32_at};
 ghost use Rattle.innochecksum_cli.specs.Stops.{IsStop, LibraryCauses, OfFile, SinkCauses, status_of};
 
 use crate::ending::{ending, is_cut};
@@ -13,8 +13,8 @@ use crate::lines::pages_line;
 use crate::looks::{give, look};
 use crate::status::file_stop;
 use crate::{CheckStatus, Options};
+use byte_list::fields::be32_at;
 use io_core::{Library, Sink};
-use space_head::fields::be32_at;
 use space_head::page_size;
 use std::alloc::Global;
 

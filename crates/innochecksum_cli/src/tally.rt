@@ -1,12 +1,12 @@
 // What the pages that were looked at add up to.
 ghost use Rattle.std.specs.Prelude.{◌≡◌, ◌+◌, ◌-◌, ◌^◌, ◌<◌, ◌++◌, ◌∷◌, [], ℕ, List, length, slice_index, min, IfOk, vec_len, not, ◌&&◌, ◌==◌, if◌then◌else◌};
 ghost use Rattle.space_head.specs.Sizes.{IsPageSize};
-ghost use Rattle.space_head.specs.Fields.{be32_at};
+ghost use Rattle.byte_list.specs.Fields.{be32_at};
 ghost use Rattle.page_text.specs.State.{IsState};
 ghost use Rattle.innochecksum_cli.specs.States.{is_bad_state, is_zero_state};
 
+use byte_list::fields::{be16_at, be32_at};
 use page_text::PageState;
-use space_head::fields::{be16_at, be32_at};
 use std::alloc::{AllocError, Global};
 
 /// What the pages that were looked at add up to.

@@ -1,8 +1,7 @@
 -- What a password gives is a key of AES-256 and an IV of one block.
 use Rattle.std.proofs.Common.{◌≡◌, ℕ, ◌≤◌, List, ◌++◌, length, take, drop, refl, arith, length-append, length-drop, length-take-le}
 use Rattle.aes_core.specs.Cipher.{AreBytes, IsBlock, IsKey}
-use Rattle.aes_core.proofs.Inverse.{bytes_append}
-use Rattle.aes_core.proofs.Schedule.{bytes_drop, bytes_take}
+use Rattle.byte_list.proofs.ByteLaws.{bytes_append, bytes_drop, bytes_take}
 use Rattle.key_file.specs.declared.derivation.KeyDigest.{KeyDigest}
 use Rattle.key_file.specs.declared.derivation.KeyDigest.TheVariants.{Sha1, Sha256}
 use Rattle.key_file.specs.Derivation.{chained, derived, hash_of, iv_of, key_of}

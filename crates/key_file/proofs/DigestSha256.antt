@@ -3,7 +3,8 @@ use Rattle.std.proofs.Common.{◌≡◌, ℕ, zero, suc, ◌*◌, List, [], ◌�
 use Rattle.std.specs.Int.{byte_at, to_be_bytes, w32}
 use Rattle.sha2.specs.Sha256.{digest_bytes, sha256}
 use Rattle.aes_core.specs.Cipher.{AreBytes}
-use Rattle.aes_core.proofs.Inverse.{byte_at-lt, bytes_append, bytes_made, bytes_nil}
+use Rattle.aes_core.proofs.Inverse.{byte_at-lt}
+use Rattle.byte_list.proofs.ByteLaws.{bytes_append, bytes_made, bytes_nil}
 
 long : (h : List ℕ) (n : ℕ) → length (digest_bytes h n) ≡ n * 4
 unfolding digest_bytes

@@ -5,9 +5,13 @@ use Rattle.std.specs.Int.{to_be_bytes, w16, w32, w64}
 use Rattle.std.proofs.lemmas.Bool.{eqb-true}
 use Rattle.std.proofs.lemmas.List.{append-nil, drop_at, take_all, take_at}
 use Rattle.bytes_core.specs.Crc.{crc32c}
-use Rattle.space_head.specs.Fields.{be16_at, be32_at, be64_at, part, overwritten}
+use Rattle.byte_list.specs.Fields.{be16_at, be32_at, be64_at}
+use Rattle.byte_list.specs.Bytes.{range, put, AreBytes}
 use Rattle.space_head.specs.Sizes.{IsPageSize}
-use Rattle.space_head.proofs.Parts.{AreBytes, be16_at-same, be16_at-written, be32_at-same, be32_at-written, be64_at-same, be64_at-written, field_is, field_is_16, field_is_64, length-overwritten, part-add, part-overwritten_below, part-overwritten_same, part_at, part_bytes, part_long, split_off}
+use Rattle.byte_list.proofs.FieldLaws.{be16_at-same, be16_at-written, be32_at-same, be32_at-written, be64_at-same, be64_at-written, be32_bytes, be16_bytes, be64_bytes}
+use Rattle.byte_list.proofs.PutLaws.{length-put, put_at, range-put_before, range-put_same}
+use Rattle.byte_list.proofs.RangeLaws.{range-add, range_at, length-range, split_off}
+use Rattle.byte_list.proofs.ByteLaws.{bytes_append, bytes_four, bytes_range}
 use Rattle.page_text.specs.Opening.{Undoes, clear_check, fits_page, in_clear, inner_check, left_after, unciphered}
 use Rattle.page_text.specs.Parts.{body, cipher_part}
 use Rattle.page_text.specs.State.{computed_sum, stored_sum}
@@ -98,44 +102,44 @@ module _ (page clear : List ℕ) where
 -- ---- a page by its fields
 
 start_is : (o : List ℕ) (number : ℕ) → AreBytes o → 46 ≤ length o → be32_at o 4 ≡ number → be32_at o 8 ≡ 0xFFFFFFFF → be32_at o 12 ≡ 0xFFFFFFFF
-    → part o 0 24 ≡ start number (be64_at o 16) (be32_at o 0)
+    → range 0 24 o ≡ start number (be64_at o 16) (be32_at o 0)
 start_is o number are room e4 e8 e12 =
-    let a : part o 0 4 ≡ to_be_bytes w32 (be32_at o 0) = sym (field_is o 0 are (omega arith)) in
-    let b : part o 4 4 ≡ to_be_bytes w32 number = sym (field_is o 4 are (omega arith)) ∙ ap (to_be_bytes w32) e4 in
-    let c : part o 8 4 ≡ to_be_bytes w32 0xFFFFFFFF = sym (field_is o 8 are (omega arith)) ∙ ap (to_be_bytes w32) e8 in
-    let d : part o 12 4 ≡ to_be_bytes w32 0xFFFFFFFF = sym (field_is o 12 are (omega arith)) ∙ ap (to_be_bytes w32) e12 in
-    let e : part o 16 8 ≡ to_be_bytes w64 (be64_at o 16) = sym (field_is_64 o 16 are (omega arith)) in
-    part-add o 0 4 20
+    let a : range 0 4 o ≡ to_be_bytes w32 (be32_at o 0) = sym (be32_bytes o 0 are (omega arith)) in
+    let b : range 4 4 o ≡ to_be_bytes w32 number = sym (be32_bytes o 4 are (omega arith)) ∙ ap (to_be_bytes w32) e4 in
+    let c : range 8 4 o ≡ to_be_bytes w32 0xFFFFFFFF = sym (be32_bytes o 8 are (omega arith)) ∙ ap (to_be_bytes w32) e8 in
+    let d : range 12 4 o ≡ to_be_bytes w32 0xFFFFFFFF = sym (be32_bytes o 12 are (omega arith)) ∙ ap (to_be_bytes w32) e12 in
+    let e : range 16 8 o ≡ to_be_bytes w64 (be64_at o 16) = sym (be64_bytes o 16 are (omega arith)) in
+    range-add 0 4 20 o
     ∙ ap₂ (λ (x y : List ℕ). x ++ y) a
-    (part-add o 4 4 16 ∙ ap₂ (λ (x y : List ℕ). x ++ y) b
-    (part-add o 8 4 12 ∙ ap₂ (λ (x y : List ℕ). x ++ y) c
-    (part-add o 12 4 8 ∙ ap₂ (λ (x y : List ℕ). x ++ y) d e)))
+    (range-add 4 4 16 o ∙ ap₂ (λ (x y : List ℕ). x ++ y) b
+    (range-add 8 4 12 o ∙ ap₂ (λ (x y : List ℕ). x ++ y) c
+    (range-add 12 4 8 o ∙ ap₂ (λ (x y : List ℕ). x ++ y) d e)))
 
 inner_is : (p : List ℕ) (space lsn : ℕ) → AreBytes p → 46 ≤ length p → IsInner p space → be64_at p 16 ≡ lsn → cipher_part p ≡ inner space lsn (body p)
 inner_is p space lsn are room h same =
     let n : ℕ = length p in
-    let a : part p 26 8 ≡ to_be_bytes w64 0 = sym (field_is_64 p 26 are (omega arith)) ∙ ap (to_be_bytes w64) h.flush_is in
-    let b : part p 34 4 ≡ to_be_bytes w32 space = sym (field_is p 34 are (omega arith)) ∙ ap (to_be_bytes w32) h.space_is in
-    let d : part p (n - 8) 4 ≡ to_be_bytes w32 (lsn % 2 ^ 32) =
-    sym (field_is p (n - 8) are (omega arith)) ∙ ap (to_be_bytes w32) (h.end_is ∙ ap (λ (m : ℕ). m % 2 ^ 32) same) in
+    let a : range 26 8 p ≡ to_be_bytes w64 0 = sym (be64_bytes p 26 are (omega arith)) ∙ ap (to_be_bytes w64) h.flush_is in
+    let b : range 34 4 p ≡ to_be_bytes w32 space = sym (be32_bytes p 34 are (omega arith)) ∙ ap (to_be_bytes w32) h.space_is in
+    let d : range (n - 8) 4 p ≡ to_be_bytes w32 (lsn % 2 ^ 32) =
+    sym (be32_bytes p (n - 8) are (omega arith)) ∙ ap (to_be_bytes w32) (h.end_is ∙ ap (λ (m : ℕ). m % 2 ^ 32) same) in
     let all : n - 4 - 26 ≡ 8 + (4 + ((n - 8 - 38) + 4)) = omega arith in
     let past : 38 + (n - 8 - 38) ≡ n - 8 = omega arith in
-    ap (part p 26) all
-    ∙ part-add p 26 8 (4 + ((n - 8 - 38) + 4))
+    ap (λ (size : ℕ). range 26 size p) all
+    ∙ range-add 26 8 (4 + ((n - 8 - 38) + 4)) p
     ∙ ap₂ (λ (x y : List ℕ). x ++ y) a
-    (part-add p 34 4 ((n - 8 - 38) + 4) ∙ ap₂ (λ (x y : List ℕ). x ++ y) b
-    (part-add p 38 (n - 8 - 38) 4 ∙ ap (λ (x : List ℕ). body p ++ x) (ap (λ (m : ℕ). part p m 4) past ∙ d)))
+    (range-add 34 4 ((n - 8 - 38) + 4) p ∙ ap₂ (λ (x y : List ℕ). x ++ y) b
+    (range-add 38 (n - 8 - 38) 4 p ∙ ap (λ (x : List ℕ). body p ++ x) (ap (λ (m : ℕ). range m 4 p) past ∙ d)))
 
-whole_is : (o : List ℕ) → 46 ≤ length o → o ≡ (part o 0 24 ++ (part o 24 2 ++ cipher_part o)) ++ drop (length o - 4) o
+whole_is : (o : List ℕ) → 46 ≤ length o → o ≡ (range 0 24 o ++ (range 24 2 o ++ cipher_part o)) ++ drop (length o - 4) o
 whole_is o room =
     let z : List ℕ = drop (length o - 4) o in
     let past : 26 + (length o - 4 - 26) ≡ length o - 4 = omega arith in
-    split_off o 0 24
-    ∙ ap (λ (x : List ℕ). part o 0 24 ++ x)
-    (split_off o 24 2
-    ∙ ap (λ (x : List ℕ). part o 24 2 ++ x) (split_off o 26 (length o - 4 - 26) ∙ ap (λ (m : ℕ). cipher_part o ++ drop m o) past)
-    ∙ sym (append_assoc (part o 24 2) (cipher_part o) z))
-    ∙ sym (append_assoc (part o 0 24) (part o 24 2 ++ cipher_part o) z)
+    split_off 0 24 o
+    ∙ ap (λ (x : List ℕ). range 0 24 o ++ x)
+    (split_off 24 2 o
+    ∙ ap (λ (x : List ℕ). range 24 2 o ++ x) (split_off 26 (length o - 4 - 26) o ∙ ap (λ (m : ℕ). cipher_part o ++ drop m o) past)
+    ∙ sym (append_assoc (range 24 2 o) (cipher_part o) z))
+    ∙ sym (append_assoc (range 0 24 o) (range 24 2 o ++ cipher_part o) z)
 
 -- what the first bytes' types say
 pub record FieldsFit (o : List ℕ) : Type 0 where
@@ -155,33 +159,33 @@ opened_is o space number key sized room are fit keyed clear undo are_clear held 
     let k : Option PageKey = key_of version key in
     let iv : List ℕ = page_iv space number lsn in
     let d : List ℕ = unciphered k iv (cipher_part o) in
-    let p : List ℕ = overwritten o 26 d in
+    let p : List ℕ = put 26 d o in
     let z : List ℕ = drop (n - 4) o in
-    let ld : length d ≡ n - 4 - 26 = undo.long ∙ part_long o 26 (n - 4 - 26) (omega arith) in
+    let ld : length d ≡ n - 4 - 26 = undo.long ∙ length-range 26 (n - 4 - 26) o (omega arith) in
     let inside : 26 + length d ≤ n = omega arith in
-    let lp : length p ≡ n = length-overwritten o d 26 inside in
-    let lsn_is : be64_at p 16 ≡ lsn = be64_at-same p o 16 16 (part-overwritten_below o d 26 inside 16 8 (omega arith)) in
-    let kind_is : be16_at p 24 ≡ be16_at o 24 = be16_at-same p o 24 24 (part-overwritten_below o d 26 inside 24 2 (omega arith)) in
-    let prev_is : be32_at o 8 ≡ 0xFFFFFFFF = sym (be32_at-same p o 8 8 (part-overwritten_below o d 26 inside 8 4 (omega arith))) ∙ held.prev_is in
-    let next_is : be32_at o 12 ≡ 0xFFFFFFFF = sym (be32_at-same p o 12 12 (part-overwritten_below o d 26 inside 12 4 (omega arith))) ∙ held.next_is in
+    let lp : length p ≡ n = length-put 26 d o inside in
+    let lsn_is : be64_at p 16 ≡ lsn = be64_at-same p o 16 16 (range-put_before 26 d o inside 16 8 (omega arith)) in
+    let kind_is : be16_at p 24 ≡ be16_at o 24 = be16_at-same p o 24 24 (range-put_before 26 d o inside 24 2 (omega arith)) in
+    let prev_is : be32_at o 8 ≡ 0xFFFFFFFF = sym (be32_at-same p o 8 8 (range-put_before 26 d o inside 8 4 (omega arith))) ∙ held.prev_is in
+    let next_is : be32_at o 12 ≡ 0xFFFFFFFF = sym (be32_at-same p o 12 12 (range-put_before 26 d o inside 12 4 (omega arith))) ∙ held.next_is in
     let d_is : d ≡ inner space lsn (body p) =
-    sym (part-overwritten_same o d 26 inside) ∙ ap (part p 26) (ld ∙ ap (λ (m : ℕ). m - 4 - 26) (sym lp)) ∙ inner_is p space lsn are_clear (omega arith) held lsn_is in
+    sym (range-put_same 26 d o inside (length d) refl) ∙ ap (λ (size : ℕ). range 26 size p) (ld ∙ ap (λ (m : ℕ). m - 4 - 26) (sym lp)) ∙ inner_is p space lsn are_clear (omega arith) held lsn_is in
     let x_is : cipher_part o ≡ enciphered k iv (inner space lsn (body p)) = sym undo.inverse ∙ ap (enciphered k iv) d_is in
     let s_is = start_is o number are room clear.number_is prev_is next_is in
-    let k_is : part o 24 2 ≡ to_be_bytes w16 (be16_at p 24) = sym (field_is_16 o 24 are (omega arith)) ∙ ap (to_be_bytes w16) (sym kind_is) in
+    let k_is : range 24 2 o ≡ to_be_bytes w16 (be16_at p 24) = sym (be16_bytes o 24 are (omega arith)) ∙ ap (to_be_bytes w16) (sym kind_is) in
     let front : List ℕ = before_sum space number lsn version key (plain_of p) in
-    let front_is : part o 0 24 ++ (part o 24 2 ++ cipher_part o) ≡ front = (λ i. s_is i ++ (k_is i ++ x_is i)) in
+    let front_is : range 0 24 o ++ (range 24 2 o ++ cipher_part o) ≡ front = (λ i. s_is i ++ (k_is i ++ x_is i)) in
     let whole : o ≡ front ++ z = whole_is o room ∙ ap (λ (x : List ℕ). x ++ z) front_is in
     let lf : length front ≡ n - 4 = omega (arith, ap length whole, length-append front z, length-drop (n - 4) o) in
     let taken : take (n - 4) o ≡ front = ap (take (n - 4)) whole ∙ take_at front z (n - 4) lf in
     let z_is : z ≡ to_be_bytes w32 (crc32c front) =
-    sym (take_all 4 z (omega (arith, length-drop (n - 4) o))) ∙ sym (field_is o (n - 4) are (omega arith)) ∙ ap (to_be_bytes w32) (clear.sum ∙ ap crc32c taken) in
+    sym (take_all 4 z (omega (arith, length-drop (n - 4) o))) ∙ sym (be32_bytes o (n - 4) are (omega arith)) ∙ ap (to_be_bytes w32) (clear.sum ∙ ap crc32c taken) in
     record {
       sized = sized;
       fits = rw kind_is clear.fits;
       keyed = keyed;
       body_long = body_long p (omega arith) ∙ lp;
-      body_bytes = part_bytes p 38 (length p - 8 - 38) are_clear;
+      body_bytes = bytes_range 38 (length p - 8 - 38) p are_clear;
       kind_fits = omega (arith, kind_is, fit.kind);
       lsn_fits = fit.lsn;
       version_fits = fit.version;
@@ -195,18 +199,6 @@ pass_on a b e rest h = rw (eq-eqb a b h) refl
 
 pass_true : (t : Bool) (e : OpenFault) (rest : Result (Unit {0}) OpenFault) → t ≡ true → (if not t then Err e else rest) ≡ rest
 pass_true t e rest h = rw h refl
-
-bytes_append : (xs ys : List ℕ) → AreBytes xs → AreBytes ys → AreBytes (xs ++ ys)
-bytes_append [] ys hx hy i = hy i
-bytes_append (x ∷ xs) ys hx hy zero = hx 0
-bytes_append (x ∷ xs) ys hx hy (suc i) = bytes_append xs ys (λ j. hx (suc j)) hy i
-
-bytes_four : (a b c d : ℕ) → a < 256 → b < 256 → c < 256 → d < 256 → AreBytes (a ∷ b ∷ c ∷ d ∷ [])
-bytes_four a b c d ha hb hc hd zero = ha
-bytes_four a b c d ha hb hc hd (suc zero) = hb
-bytes_four a b c d ha hb hc hd (suc (suc zero)) = hc
-bytes_four a b c d ha hb hc hd (suc (suc (suc zero))) = hd
-bytes_four a b c d ha hb hc hd (suc (suc (suc (suc i)))) = omega arith
 
 bytes_of_inner : (space lsn : ℕ) (b : List ℕ) → AreBytes b → AreBytes (inner space lsn b)
 bytes_of_inner space lsn b h =
@@ -240,16 +232,16 @@ module _ (o : List ℕ) (space number lsn version : ℕ) (key : Option PageKey) 
   front_long = omega (arith, ap length t.written, length-append front sum)
 
   version_reads : be32_at o 0 ≡ version
-  version_reads = be32_at-written o 0 version (ap (λ (l : List ℕ). part l 0 4) t.written) t.version_fits
+  version_reads = be32_at-written o 0 version (ap (λ (l : List ℕ). range 0 4 l) t.written) t.version_fits
 
   number_reads : be32_at o 4 ≡ number
-  number_reads = be32_at-written o 4 number (ap (λ (l : List ℕ). part l 4 4) t.written) number_fits
+  number_reads = be32_at-written o 4 number (ap (λ (l : List ℕ). range 4 4 l) t.written) number_fits
 
   lsn_reads : be64_at o 16 ≡ lsn
-  lsn_reads = be64_at-written o 16 lsn (ap (λ (l : List ℕ). part l 16 8) t.written) t.lsn_fits
+  lsn_reads = be64_at-written o 16 lsn (ap (λ (l : List ℕ). range 16 8 l) t.written) t.lsn_fits
 
   kind_reads : be16_at o 24 ≡ plain.kind
-  kind_reads = be16_at-written o 24 plain.kind (ap (λ (l : List ℕ). part l 24 2) t.written) t.kind_fits
+  kind_reads = be16_at-written o 24 plain.kind (ap (λ (l : List ℕ). range 24 2 l) t.written) t.kind_fits
 
   front_reads : take (length o - 4) o ≡ front
   front_reads = ap (take (length o - 4)) t.written ∙ take_at front sum (length o - 4) front_long
@@ -257,7 +249,7 @@ module _ (o : List ℕ) (space number lsn version : ℕ) (key : Option PageKey) 
   sum_reads : stored_sum o ≡ computed_sum o
   sum_reads =
       be32_at-written o (length o - 4) (crc32c front)
-      (ap (λ (l : List ℕ). part l (length o - 4) 4) (t.written ∙ ap (λ (l : List ℕ). front ++ l) (sym (append-nil sum))) ∙ part_at front sum [] (length o - 4) 4 front_long refl)
+      (ap (λ (l : List ℕ). range (length o - 4) 4 l) (t.written ∙ ap (λ (l : List ℕ). front ++ l) (sym (append-nil sum))) ∙ range_at front sum [] (length o - 4) 4 front_long refl)
       (rw (ap crc32c front_reads) at sum_fits)
       ∙ ap crc32c (sym front_reads)
 
@@ -287,7 +279,7 @@ module _ (o : List ℕ) (space number lsn version : ℕ) (key : Option PageKey) 
   abbrev before_end : List ℕ
   before_end = s ++ (k ++ (inner_start space ++ plain.bytes))
 
-  end_reads : part clear (length clear - 8) 4 ≡ to_be_bytes w32 (lsn % 2 ^ 32)
+  end_reads : range (length clear - 8) 4 clear ≡ to_be_bytes w32 (lsn % 2 ^ 32)
   end_reads =
       let low : List ℕ = to_be_bytes w32 (lsn % 2 ^ 32) in
       let long : length before_end ≡ length o - 8 = omega (arith, t.body_long) in
@@ -296,9 +288,9 @@ module _ (o : List ℕ) (space number lsn version : ℕ) (key : Option PageKey) 
       ∙ ap (λ (l : List ℕ). s ++ (k ++ l)) (sym (append_assoc (inner_start space) plain.bytes (low ++ sum)))
       ∙ ap (λ (l : List ℕ). s ++ l) (sym (append_assoc k (inner_start space ++ plain.bytes) (low ++ sum)))
       ∙ sym (append_assoc s (k ++ (inner_start space ++ plain.bytes)) (low ++ sum)) in
-      ap (λ (n : ℕ). part clear (n - 8) 4) clear_long
-      ∙ ap (λ (l : List ℕ). part l (length o - 8) 4) regrouped
-      ∙ part_at before_end low sum (length o - 8) 4 long refl
+      ap (λ (n : ℕ). range (n - 8) 4 clear) clear_long
+      ∙ ap (λ (l : List ℕ). range (length o - 8) 4 l) regrouped
+      ∙ range_at before_end low sum (length o - 8) 4 long refl
 
   inner_taken : inner_check clear space ≡ Ok tt
   unfolding inner_check
@@ -334,7 +326,7 @@ module _ (o : List ℕ) (space number lsn version : ℕ) (key : Option PageKey) 
       let d_is : d ≡ clear_inner = undo.undoes clear_inner (bytes_of_inner space lsn plain.bytes t.body_bytes) made in
       let same : length x ≡ length clear_inner = x_long ∙ sym inner_long in
       let clear_is : in_clear space number key o ≡ clear =
-      (λ i. overwritten (t.written i) 26 (d_is i)) ∙ ap (λ (l : List ℕ). s ++ (k ++ (clear_inner ++ l))) (drop_at x sum (length clear_inner) same) in
+      (λ i. put 26 (d_is i) (t.written i)) ∙ put_at (s ++ k) x sum clear_inner 26 refl same in
       record {
         inside = ap (λ (l : List ℕ). inner_check l space) clear_is ∙ inner_taken;
         back = ap plain_of clear_is ∙ plain_back;

@@ -2,8 +2,9 @@
 use Rattle.std.specs.Prelude.{◌≡◌, ℕ, ◌-◌, ◌%◌, ◌^◌, ◌==◌, ◌&&◌, ◌||◌, Bool, not, List, length, if◌then◌else◌}
 use Rattle.std.specs.Prelude.{Option, Some, None, Result, Ok, Err}
 use Rattle.aes_core.specs.Algorithm.{deciphered}
-use Rattle.aes_core.specs.Cipher.{AreBytes}
-use Rattle.space_head.specs.Fields.{be16_at, be32_at, be64_at, overwritten}
+use Rattle.byte_list.specs.Bytes.{AreBytes}
+use Rattle.byte_list.specs.Fields.{be16_at, be32_at, be64_at}
+use Rattle.byte_list.specs.Bytes.{put}
 use Rattle.page_text.specs.Parts.{cipher_part}
 use Rattle.page_text.specs.State.{computed_sum, stored_sum}
 use Rattle.page_text.specs.Text.{enciphered, key_of, page_iv}
@@ -41,7 +42,7 @@ unciphered (Some key) iv bytes = deciphered key.algorithm key.local iv bytes
 -- the page with its part from byte 26 to the checksum deciphered, where its version isn't 0, and all else as it was
 abbrev pub in_clear : ℕ → ℕ → Option PageKey → List ℕ → List ℕ
 in_clear space number key page =
-    overwritten page 26 (unciphered (key_of (be32_at page 0) key) (page_iv space number (be64_at page 16)) (cipher_part page))
+    put 26 (unciphered (key_of (be32_at page 0) key) (page_iv space number (be64_at page 16)) (cipher_part page)) page
 
 -- the first fault of two checks
 abbrev pub and_then : Result (Unit {0}) OpenFault → Result (Unit {0}) OpenFault → Result (Unit {0}) OpenFault

@@ -1,14 +1,7 @@
 -- The parts of a page, which has one of five sizes.
-use Rattle.std.specs.Prelude.{ℕ, ◌-◌, List, ◌++◌, length, take, drop}
+use Rattle.std.specs.Prelude.{ℕ, ◌-◌, List, length}
+pub use Rattle.byte_list.specs.Bytes.{part_of, with_part}
 pub use Rattle.space_head.specs.Sizes.{IsPageSize}
-
--- the bytes from a place up to another
-abbrev pub part_of : List ℕ → ℕ → ℕ → List ℕ
-part_of page at to = take (to - at) (drop at page)
-
--- the page with other bytes in the place of those
-abbrev pub with_part : List ℕ → ℕ → ℕ → List ℕ → List ℕ
-with_part page at to part = take at page ++ (part ++ drop to page)
 
 abbrev pub header : List ℕ → List ℕ
 header page = part_of page 0 38

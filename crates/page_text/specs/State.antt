@@ -2,7 +2,7 @@
 use Rattle.std.specs.Prelude.{◌≡◌, ◌≢◌, ℕ, ◌-◌, List, length, take}
 use Rattle.std.specs.List.{All}
 use Rattle.bytes_core.specs.Crc.{crc32c}
-use Rattle.space_head.specs.Fields.{be32_at}
+use Rattle.byte_list.specs.Fields.{be32_at}
 use Rattle.page_text.specs.declared.state.PageState.{PageState}
 use Rattle.page_text.specs.declared.state.PageState.TheVariants.{Bad, Valid, Zero}
 

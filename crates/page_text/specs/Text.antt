@@ -1,12 +1,13 @@
 -- The text of a page: MariaDB's full_crc32 with a ciphered part, in this project's profile. Numbers have their highest byte first.
-use Rattle.std.specs.Prelude.{◌≡◌, ◌≢◌, ℕ, ◌+◌, ◌%◌, ◌^◌, ◌<◌, ◌==◌, ◌⊎◌, List, ◌++◌, length, replicate, slice_index, if◌then◌else◌, IsSome}
+use Rattle.std.specs.Prelude.{◌≡◌, ◌≢◌, ℕ, ◌+◌, ◌%◌, ◌^◌, ◌<◌, ◌==◌, ◌⊎◌, List, ◌++◌, length, replicate, if◌then◌else◌, IsSome}
 use Rattle.std.specs.Prelude.{Option, Some, None}
 use Rattle.std.specs.Borrow.{Bor}
 use Rattle.std.specs.Option.{option_map}
 use Rattle.std.specs.Int.{to_be_bytes, to_le_bytes, w16, w32, w64}
 use Rattle.aes_core.specs.Algorithm.{ciphered}
 use Rattle.bytes_core.specs.Crc.{crc32c}
-use Rattle.space_head.specs.Fields.{be16_at}
+use Rattle.byte_list.specs.Bytes.{AreBytes}
+use Rattle.byte_list.specs.Fields.{be16_at}
 use Rattle.space_head.specs.Sizes.{IsPageSize}
 use Rattle.page_text.specs.Parts.{body}
 use Rattle.page_text.specs.declared.key.PageKey.{PageKey}
@@ -69,7 +70,7 @@ pub record IsText (size space page lsn version : ℕ) (key : Option PageKey) (pl
   pub fits : FitsPage page plain.kind version
   pub keyed : version ≢ 0 → IsSome key
   pub body_long : length plain.bytes + 46 ≡ size
-  pub body_bytes : (i : ℕ) → slice_index plain.bytes i < 256
+  pub body_bytes : AreBytes plain.bytes
   pub kind_fits : plain.kind < 2 ^ 16
   pub lsn_fits : lsn < 2 ^ 64
   pub version_fits : version < 2 ^ 32

@@ -1,8 +1,8 @@
 // A page text, taken apart in place.
 
 ghost use Rattle.std.specs.Prelude.{◌≡◌, ◌≢◌, ◌-◌, ◌%◌, ◌^◌, ◌<◌, ◌≤◌, ℕ, List, IsSome, Ok, length};
-ghost use Rattle.aes_core.specs.Cipher.{AreBytes};
-ghost use Rattle.space_head.specs.Fields.{be16_at, be32_at, be64_at};
+ghost use Rattle.byte_list.specs.Bytes.{AreBytes};
+ghost use Rattle.byte_list.specs.Fields.{be16_at, be32_at, be64_at};
 ghost use Rattle.space_head.specs.Sizes.{IsPageSize};
 ghost use Rattle.page_text.specs.Opening.{Undoes, clear_check, fits_page, in_clear, inner_check, left_after, opening, unciphered};
 ghost use Rattle.page_text.specs.Parts.{cipher_part};
@@ -12,8 +12,8 @@ ghost use Rattle.page_text.specs.Text.{IsText, Plain, enciphered, key_lent, key_
 use crate::sealing::{known_page, page_iv};
 use crate::{OpenFault, PageKey, PageMut};
 use aes_core::BlockKey;
+use byte_list::fields::{be16_at, be32_at, be64_at};
 use bytes_core::crc32c;
-use space_head::fields::{be16_at, be32_at, be64_at};
 
 #[tactic(auto, unfolding(crate::specs::Opening::fits_page))]
 fn fits_page(number: u32, kind: u16, version: u32) -> bool

@@ -3,7 +3,8 @@
 ghost use Rattle.std.specs.Prelude.{◌≡◌, ◌≢◌, ◌↔◌, ◌+◌, ◌-◌, ◌%◌, ◌<◌, ◌≤◌, ℕ, IsSome, length, slice_index, take};
 ghost use Rattle.std.specs.Int.{to_be_bytes, w32};
 ghost use Rattle.bytes_core.specs.Crc.{crc32c};
-ghost use Rattle.space_head.specs.Fields.{be16_at, overwritten};
+ghost use Rattle.byte_list.specs.Fields.{be16_at};
+ghost use Rattle.byte_list.specs.Bytes.{put};
 ghost use Rattle.space_head.specs.Sizes.{IsPageSize};
 ghost use Rattle.page_text.specs.Parts.{cipher_part};
 ghost use Rattle.page_text.specs.Text.{FitsPage, IsText, enciphered, inner_start, page_iv, plain_of, start, text};
@@ -11,8 +12,8 @@ ghost use Rattle.page_text.specs.Text.{FitsPage, IsText, enciphered, inner_start
 use crate::opening::known_fields;
 use crate::{PageKey, PageMut, Seal};
 use aes_core::BlockKey;
+use byte_list::fields::put;
 use bytes_core::crc32c;
-use space_head::fields::write_at;
 
 // Bytes 0 to 24.
 fn start(seal: &Seal) -> [u8; 24]
@@ -63,7 +64,7 @@ fn encipher(key: &Option<PageKey>, iv: &[u8; 16], bytes: &mut [u8])
 // Enciphers what stands from byte 26 to the checksum.
 fn encipher_part(page: &mut [u8], key: &Option<PageKey>, iv: &[u8; 16])
     requires { 46 ≤ length page.old }
-    ensures value { page.new ≡ overwritten page.old 26 (enciphered key.now iv.now (cipher_part page.old)) }
+    ensures value { page.new ≡ put 26 (enciphered key.now iv.now (cipher_part page.old)) page.old }
     ensures long { length (enciphered key.now iv.now (cipher_part page.old)) + 30 ≡ length page.old }
 {
     let end = page.len() - 4;
@@ -73,11 +74,11 @@ fn encipher_part(page: &mut [u8], key: &Option<PageKey>, iv: &[u8; 16])
 // Writes the checksum of all bytes before the last four into these.
 fn write_sum(page: &mut [u8])
     requires { 46 ≤ length page.old }
-    ensures { page.new ≡ overwritten page.old (length page.old - 4) (to_be_bytes w32 (crc32c (take (length page.old - 4) page.old))) }
+    ensures { page.new ≡ put (length page.old - 4) (to_be_bytes w32 (crc32c (take (length page.old - 4) page.old))) page.old }
 {
     let end = page.len() - 4;
     let sum = crc32c(&page[..end]);
-    write_at(page, end, &sum.to_be_bytes());
+    put(page, end, &sum.to_be_bytes());
 }
 
 // Each element of a page is a byte, and a page has room for its fields.
@@ -97,11 +98,11 @@ fn write_text(page: &mut [u8], seal: &Seal)
     ensures { page.new ≡ text seal.now.space seal.now.page seal.now.lsn seal.now.version seal.now.local (plain_of page.old) }
 {
     known_page(page);
-    write_at(page, 0, &start(seal));
-    write_at(page, 26, &inner_start(seal.space));
+    put(page, 0, &start(seal));
+    put(page, 26, &inner_start(seal.space));
     let low = (seal.lsn % 0x1_0000_0000) as u32;
     let end = page.len() - 8;
-    write_at(page, end, &low.to_be_bytes());
+    put(page, end, &low.to_be_bytes());
     let iv = page_iv(seal.space, seal.page, seal.lsn);
     encipher_part(page, &seal.local, &iv);
     write_sum(page);

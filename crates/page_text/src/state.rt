@@ -4,8 +4,8 @@ ghost use Rattle.std.specs.Prelude.{length};
 ghost use Rattle.space_head.specs.Sizes.{IsPageSize};
 ghost use Rattle.page_text.specs.State.{IsState};
 
+use byte_list::fields::be32_at;
 use bytes_core::crc32c;
-use space_head::fields::be32_at;
 
 /// What a page's bytes alone tell of it.
 #[derive(Clone, Copy, Debug, PartialEq, Eq)]

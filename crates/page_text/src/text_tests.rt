@@ -8,8 +8,8 @@ use crate::{
     OpenFault, PageKey, PageMut, PageState, PageView, Seal, check, real_page, seal, unseal,
 };
 use aes_core::Algorithm;
+use byte_list::fields::{be16_at, be32_at, put};
 use bytes_core::{crc32, crc32c};
-use space_head::fields::{be16_at, be32_at, write_at};
 use std::process::Abort;
 use std::test::Fail;
 
@@ -28,7 +28,7 @@ fn write_page(rt: &impl Abort, bytes: &mut [u8], local: Option<PageKey>)
 {
     bytes.fill(0x41);
     assert!(rt; bytes.len() >= 4096);
-    write_at(bytes, 24, &[0x45, 0xbf]);
+    put(bytes, 24, &[0x45, 0xbf]);
     let kind = be16_at(bytes, 24);
     assert!(rt; kind != 8 && kind != 9);
     let mut page = PageMut::of(bytes);
@@ -74,7 +74,7 @@ fn mend_sum(rt: &impl Abort, bytes: &mut [u8]) {
     assert!(rt; bytes.len() >= 4);
     let end = bytes.len() - 4;
     let sum = crc32c(&bytes[..end]);
-    write_at(bytes, end, &sum.to_be_bytes());
+    put(bytes, end, &sum.to_be_bytes());
 }
 
 // A page in clear with other bytes at a place, under a right checksum, is refused so.
@@ -83,7 +83,7 @@ fn check_changed(rt: &impl Abort, bytes: &mut [u8], at: usize, new: &[u8], fault
 {
     write_page(rt, bytes, None);
     assert!(rt; at < bytes.len() && new.len() <= bytes.len() - at);
-    write_at(bytes, at, new);
+    put(bytes, at, new);
     mend_sum(rt, bytes);
     assert!(rt; open_page(bytes, 5, 3, Algorithm::Cbc) == Err(fault));
 }

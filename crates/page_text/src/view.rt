@@ -1,11 +1,11 @@
 // A page that is read in place.
 
 ghost use Rattle.std.specs.Prelude.{◌≡◌, ℕ, ◌+◌, ◌++◌, List, length, MatchOption};
-ghost use Rattle.space_head.specs.Fields.{be16_at, be32_at, be64_at};
+ghost use Rattle.byte_list.specs.Fields.{be16_at, be32_at, be64_at};
 ghost use Rattle.page_text.specs.Parts.{IsPageSize, body, header, trailer};
 
 use crate::is_page_size;
-use space_head::fields::{be16_at, be32_at, be64_at};
+use byte_list::fields::{be16_at, be32_at, be64_at};
 use std::marker::Model;
 
 /// A page of 4096, 8192, 16384, 32768 or 65536 bytes that is read in place. In contracts it is the

@@ -8,8 +8,9 @@ use Rattle.bytes_core.specs.Crc.{crc32c}
 use Rattle.bytes_core.proofs.LastByte.{ends-append}
 use Rattle.disk_model.specs.Event.{zeros}
 use Rattle.disk_model.specs.Crash.{torn_bytes}
-use Rattle.space_head.specs.Fields.{be64_at, part}
-use Rattle.space_head.proofs.Parts.{be64_at-written}
+use Rattle.byte_list.specs.Fields.{be64_at}
+use Rattle.byte_list.specs.Bytes.{range}
+use Rattle.byte_list.proofs.FieldLaws.{be64_at-written}
 use Rattle.page_places.specs.Texts.{ends_in_sum}
 use Rattle.page_places.proofs.Sums.{and_left, and_both, not_true, ends-ends_in_sum, torn_page}
 use Rattle.store_files.specs.Checkpoint.{Checkpoint, side_of, is_checkpoint, checkpoint_in, checkpoint_front, checkpoint_bytes, IsCheckpoint}
@@ -28,7 +29,7 @@ module _ (c : Checkpoint) (is : IsCheckpoint c) where
   abbrev b : List ℕ
   b = checkpoint_bytes c
 
-  magic_is : part b 0 8 ≡ codes "KEYCHK01"
+  magic_is : range 0 8 b ≡ codes "KEYCHK01"
   unfolding checkpoint_bytes checkpoint_front
   magic_is = refl
 

@@ -2,7 +2,8 @@
 use Rattle.std.proofs.Common.{◌≡◌, ◌≢◌, ℕ, zero, suc, ◌+◌, ◌<◌, ◌≤◌, ◌&&◌, ◌||◌, Bool, true, false, true≢false, nat_eq, nat_le, nat_lt, if◌then◌else◌, List, [], ◌∷◌, length, Option, Some, None, refl, sym, ap, ap₂, subst, ◌∙◌, arith}
 use Rattle.std.specs.Prelude.{codes}
 use Rattle.std.specs.Str.{bytes_eq}
-use Rattle.space_head.specs.Fields.{be32_at, part}
+use Rattle.byte_list.specs.Fields.{be32_at}
+use Rattle.byte_list.specs.Bytes.{range}
 use Rattle.std.proofs.lemmas.Bool.Decides.{nat_tests}
 use Rattle.std.proofs.lemmas.List.{ext_get_or}
 use Rattle.store_model.specs.declared.contents.PlainPage.{PlainPage}
@@ -26,7 +27,7 @@ fields_order : (b : List ℕ) → is_header b ≡ true → are_in_order 0 (heade
 unfolding is_header
 fields_order b valid =
     order_of (header_fields b) (and_right (nat_eq (be32_at b 240) 1 || nat_eq (be32_at b 240) 2) _ (and_right (nat_eq (be32_at b 12) 16384) _ (and_right (nat_eq (be32_at b 8) 2) _
-    (and_right (bytes_eq (part b 0 8) (codes "KEYSTOR1")) _ (and_right (ends_in_sum b) _ valid)))))
+    (and_right (bytes_eq (range 0 8 b) (codes "KEYSTOR1")) _ (and_right (ends_in_sum b) _ valid)))))
 
 pub header_order : (b : List ℕ) (h : Header) → header_in b ≡ Some h → are_in_order 0 h.spaces ≡ true
 unfolding header_in

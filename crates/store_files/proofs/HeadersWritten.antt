@@ -12,8 +12,10 @@ use Rattle.bytes_core.specs.Crc.{crc32c}
 use Rattle.bytes_core.proofs.LastByte.{ends-append}
 use Rattle.disk_model.specs.Event.{zeros}
 use Rattle.disk_model.specs.Crash.{torn_bytes}
-use Rattle.space_head.specs.Fields.{be32_at, part}
-use Rattle.space_head.proofs.Parts.{be32_at-written, part_at}
+use Rattle.byte_list.specs.Fields.{be32_at}
+use Rattle.byte_list.specs.Bytes.{range}
+use Rattle.byte_list.proofs.FieldLaws.{be32_at-written}
+use Rattle.byte_list.proofs.RangeLaws.{range_at}
 use Rattle.page_places.specs.Texts.{ends_in_sum}
 use Rattle.page_places.proofs.Sums.{and_left, and_right, and_both, not_true, ends-ends_in_sum, torn_page}
 use Rattle.page_places.proofs.Texts.{length-zeros}
@@ -57,9 +59,9 @@ spaces_read b front (s ∷ ss) rest at long is fit =
     let l2 : length (front ++ i) ≡ at + 4 = omega (arith, long, length-append front i) in
     let l3 : length ((front ++ i) ++ n) ≡ at + 8 = omega (arith, l2, length-append (front ++ i) n) in
     let l4 : length (((front ++ i) ++ n) ++ k) ≡ at + 12 = omega (arith, l3, length-append ((front ++ i) ++ n) k) in
-    let id : be32_at b at ≡ s.space = be32_at-written b at s.space (ap (λ (l : List ℕ). part l at 4) one ∙ part_at front i (n ++ (k ++ more)) at 4 long refl) fit.0 in
-    let pages : be32_at b (at + 4) ≡ s.pages = be32_at-written b (at + 4) s.pages (ap (λ (l : List ℕ). part l (at + 4) 4) two ∙ part_at (front ++ i) n (k ++ more) (at + 4) 4 l2 refl) fit.1 in
-    let key : be32_at b (at + 8) ≡ s.key_id = be32_at-written b (at + 8) s.key_id (ap (λ (l : List ℕ). part l (at + 8) 4) three ∙ part_at ((front ++ i) ++ n) k more (at + 8) 4 l3 refl) fit.2 in
+    let id : be32_at b at ≡ s.space = be32_at-written b at s.space (ap (λ (l : List ℕ). range at 4 l) one ∙ range_at front i (n ++ (k ++ more)) at 4 long refl) fit.0 in
+    let pages : be32_at b (at + 4) ≡ s.pages = be32_at-written b (at + 4) s.pages (ap (λ (l : List ℕ). range (at + 4) 4 l) two ∙ range_at (front ++ i) n (k ++ more) (at + 4) 4 l2 refl) fit.1 in
+    let key : be32_at b (at + 8) ≡ s.key_id = be32_at-written b (at + 8) s.key_id (ap (λ (l : List ℕ). range (at + 8) 4 l) three ∙ range_at ((front ++ i) ++ n) k more (at + 8) 4 l3 refl) fit.2 in
     (λ j. record { space = id j; pages = pages j; key_id = key j } ∷ spaces_read b (((front ++ i) ++ n) ++ k) ss rest (at + 12) l4 four fit.3 j)
 
 -- ---- the header
@@ -134,29 +136,29 @@ module _ (h : Header) (is : IsHeader h) where
   unfolding header_words
   words_long = omega (arith, is.salt_long)
 
-  magic_is : part b 0 8 ≡ codes "KEYSTOR1"
+  magic_is : range 0 8 b ≡ codes "KEYSTOR1"
   unfolding header_words
-  magic_is = ap (λ (l : List ℕ). part l 0 8) shape
+  magic_is = ap (λ (l : List ℕ). range 0 8 l) shape
 
   format_is : be32_at b 8 ≡ 2
   unfolding header_words
-  format_is = be32_at-written b 8 2 (ap (λ (l : List ℕ). part l 8 4) shape) (lit< tt)
+  format_is = be32_at-written b 8 2 (ap (λ (l : List ℕ). range 8 4 l) shape) (lit< tt)
 
   size_is : be32_at b 12 ≡ 16384
   unfolding header_words
-  size_is = be32_at-written b 12 16384 (ap (λ (l : List ℕ). part l 12 4) shape) (lit< tt)
+  size_is = be32_at-written b 12 16384 (ap (λ (l : List ℕ). range 12 4 l) shape) (lit< tt)
 
   blocks_is : be32_at b 16 ≡ h.blocks
   unfolding header_words
-  blocks_is = let l = limits h is.allowed in be32_at-written b 16 h.blocks (ap (λ (l : List ℕ). part l 16 4) shape) (omega (arith, l.blocks))
+  blocks_is = let l = limits h is.allowed in be32_at-written b 16 h.blocks (ap (λ (l : List ℕ). range 16 4 l) shape) (omega (arith, l.blocks))
 
   count_is : be32_at b 20 ≡ length h.spaces
   unfolding header_words
-  count_is = let l = limits h is.allowed in be32_at-written b 20 (length h.spaces) (ap (λ (l : List ℕ). part l 20 4) shape) (omega (arith, l.count))
+  count_is = let l = limits h is.allowed in be32_at-written b 20 (length h.spaces) (ap (λ (l : List ℕ). range 20 4 l) shape) (omega (arith, l.count))
 
-  salt_is : part b 24 16 ≡ h.salt
+  salt_is : range 24 16 b ≡ h.salt
   unfolding header_words
-  salt_is = ap (λ (l : List ℕ). part l 24 16) shape ∙ take_at h.salt (words ++ (pad ++ (code ++ behind))) 16 is.salt_long
+  salt_is = ap (λ (l : List ℕ). range 24 16 l) shape ∙ take_at h.salt (words ++ (pad ++ (code ++ behind))) 16 is.salt_long
 
   spaces_is : spaces_at b 40 (be32_at b 20) ≡ h.spaces
   spaces_is =
@@ -174,7 +176,7 @@ module _ (h : Header) (is : IsHeader h) where
       let regrouped : b ≡ ((header_words h ++ words) ++ pad) ++ (code ++ behind) =
       shape ∙ sym (append_assoc (header_words h) words (pad ++ (code ++ behind))) ∙ sym (append_assoc (header_words h ++ words) pad (code ++ behind)) in
       be32_at-written b 240 (algorithm_code h.algorithm)
-      (ap (λ (l : List ℕ). part l 240 4) regrouped ∙ part_at ((header_words h ++ words) ++ pad) code behind 240 4 front_long refl) (code_small h.algorithm)
+      (ap (λ (l : List ℕ). range 240 4 l) regrouped ∙ range_at ((header_words h ++ words) ++ pad) code behind 240 4 front_long refl) (code_small h.algorithm)
 
   fields_are : header_fields b ≡ h
   unfolding header_fields

@@ -2,10 +2,9 @@
 use Rattle.std.proofs.Common.{◌≡◌, ℕ, zero, suc, ◌+◌, ◌-◌, ◌^◌, ◌<◌, ◌≤◌, Bool, true, false, List, [], ◌∷◌, ◌++◌, length, take, drop, Option, Some, None, Ok, Result, IfSome, if◌then◌else◌, refl, sym, ap, ap₂, ◌∙◌, arith, inl, inr, length-append, length-drop}
 use Rattle.std.proofs.lemmas.List.{length-replicate}
 use Rattle.std.specs.Int.{to_be_bytes, w32}
-use Rattle.byte_list.specs.Bytes.{zeros}
+use Rattle.byte_list.specs.Bytes.{zeros, range, put}
 use Rattle.page_text.specs.Parts.{body, part_of}
-use Rattle.page_text.proofs.PartLaws.{cut_at}
-use Rattle.space_head.specs.Fields.{part, overwritten}
+use Rattle.byte_list.proofs.PartLaws.{cut_at}
 use Rattle.space_head.specs.Head.{IsAccepted, IsTyped, head_of, with_head}
 use Rattle.space_head.specs.Record.{IsTypedRecord, crypt_bytes, record_end}
 use Rattle.space_head.specs.Sizes.{IsPageSize, page_size, record_place, pages_per_extent, size_of_code}
@@ -14,7 +13,7 @@ use Rattle.space_head.specs.declared.head.SpaceHead.{SpaceHead}
 use Rattle.space_head.specs.declared.record.CryptRecord.{CryptRecord}
 use Rattle.space_head.specs.declared.space.SpaceInfo.{SpaceInfo}
 use Rattle.space_head.proofs.Heads.{head_back}
-use Rattle.space_head.proofs.Parts.{length-overwritten, part-overwritten_above, part-overwritten_below}
+use Rattle.byte_list.proofs.PutLaws.{length-put, range-put_after, range-put_before}
 use Rattle.space_head.proofs.Places.{place_inside}
 use Rattle.store_files.specs.Pages.{IsTypedInfo, head_of_space, head_page}
 
@@ -31,13 +30,13 @@ module _ (head : SpaceHead) (page : List ℕ) (sized : IsPageSize (length page))
   crypt = crypt_bytes head.crypt
 
   abbrev p1 : List ℕ
-  p1 = overwritten page 38 (to_be_bytes w32 head.space)
+  p1 = put 38 (to_be_bytes w32 head.space) page
 
   abbrev p2 : List ℕ
-  p2 = overwritten p1 46 (to_be_bytes w32 head.pages)
+  p2 = put 46 (to_be_bytes w32 head.pages) p1
 
   abbrev p3 : List ℕ
-  p3 = overwritten p2 54 (to_be_bytes w32 head.flags)
+  p3 = put 54 (to_be_bytes w32 head.flags) p2
 
   record Facts : Type 0 where
     inside : (58 ≤ place) × (place + 33 ≤ length page)
@@ -49,34 +48,34 @@ module _ (head : SpaceHead) (page : List ℕ) (sized : IsPageSize (length page))
   facts : Facts
   facts =
       let inside = place_inside (length page) sized in
-      let l1 : length p1 ≡ length page = length-overwritten page (to_be_bytes w32 head.space) 38 (omega arith) in
-      let l2 : length p2 ≡ length page = length-overwritten p1 (to_be_bytes w32 head.pages) 46 (omega arith) ∙ l1 in
+      let l1 : length p1 ≡ length page = length-put 38 (to_be_bytes w32 head.space) page (omega arith) in
+      let l2 : length p2 ≡ length page = length-put 46 (to_be_bytes w32 head.pages) p1 (omega arith) ∙ l1 in
       record {
         inside = inside;
         record_long = crypt_long head.crypt fits.crypt_fits;
         l1 = l1;
         l2 = l2;
-        l3 = length-overwritten p2 (to_be_bytes w32 head.flags) 54 (omega arith) ∙ l2;
+        l3 = length-put 54 (to_be_bytes w32 head.flags) p2 (omega arith) ∙ l2;
       }
 
   pub long : length (with_head head page) ≡ length page
-  long = let f = facts in length-overwritten p3 crypt place (omega arith) ∙ f.l3
+  long = let f = facts in length-put place crypt p3 (omega arith) ∙ f.l3
 
-  pub first_part : part (with_head head page) 0 38 ≡ part page 0 38
+  pub first_part : range 0 38 (with_head head page) ≡ range 0 38 page
   first_part =
       let f = facts in
-      part-overwritten_below p3 crypt place (omega arith) 0 38 (omega arith)
-      ∙ part-overwritten_below p2 (to_be_bytes w32 head.flags) 54 (omega arith) 0 38 (omega arith)
-      ∙ part-overwritten_below p1 (to_be_bytes w32 head.pages) 46 (omega arith) 0 38 (omega arith)
-      ∙ part-overwritten_below page (to_be_bytes w32 head.space) 38 (omega arith) 0 38 (omega arith)
+      range-put_before place crypt p3 (omega arith) 0 38 (omega arith)
+      ∙ range-put_before 54 (to_be_bytes w32 head.flags) p2 (omega arith) 0 38 (omega arith)
+      ∙ range-put_before 46 (to_be_bytes w32 head.pages) p1 (omega arith) 0 38 (omega arith)
+      ∙ range-put_before 38 (to_be_bytes w32 head.space) page (omega arith) 0 38 (omega arith)
 
-  pub last_part : (at n : ℕ) → place + 33 ≤ at → part (with_head head page) at n ≡ part page at n
+  pub last_part : (at n : ℕ) → place + 33 ≤ at → range at n (with_head head page) ≡ range at n page
   last_part at n behind =
       let f = facts in
-      part-overwritten_above p3 crypt place (omega arith) at n (omega arith)
-      ∙ part-overwritten_above p2 (to_be_bytes w32 head.flags) 54 (omega arith) at n (omega arith)
-      ∙ part-overwritten_above p1 (to_be_bytes w32 head.pages) 46 (omega arith) at n (omega arith)
-      ∙ part-overwritten_above page (to_be_bytes w32 head.space) 38 (omega arith) at n (omega arith)
+      range-put_after place crypt p3 (omega arith) at n (omega arith)
+      ∙ range-put_after 54 (to_be_bytes w32 head.flags) p2 (omega arith) at n (omega arith)
+      ∙ range-put_after 46 (to_be_bytes w32 head.pages) p1 (omega arith) at n (omega arith)
+      ∙ range-put_after 38 (to_be_bytes w32 head.space) page (omega arith) at n (omega arith)
 
 -- the page, of its first bytes, its body and its last bytes
 joined : (page : List ℕ) → 46 ≤ length page → take 38 page ++ (body page ++ drop (length page - 8) page) ≡ page

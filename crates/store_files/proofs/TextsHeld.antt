@@ -6,8 +6,9 @@ use Rattle.bytes_core.specs.Crc.{crc32c}
 use Rattle.bytes_core.proofs.LastByte.{ends-append}
 use Rattle.disk_model.specs.Crash.{torn_bytes}
 use Rattle.key_ring.specs.Ring.{Entry}
-use Rattle.space_head.specs.Fields.{be32_at, be64_at, part}
-use Rattle.space_head.proofs.Parts.{be32_at-written, be64_at-written}
+use Rattle.byte_list.specs.Fields.{be32_at, be64_at}
+use Rattle.byte_list.specs.Bytes.{range}
+use Rattle.byte_list.proofs.FieldLaws.{be32_at-written, be64_at-written}
 use Rattle.space_head.specs.declared.space.SpaceInfo.{SpaceInfo}
 use Rattle.page_text.specs.Text.{Plain, IsText, before_sum}
 use Rattle.page_text.specs.declared.key.PageKey.{PageKey}
@@ -32,15 +33,15 @@ module _ (size space page lsn version : ℕ) (key : Option PageKey) (plain : Pla
   pub sealed_is : is_page_text page bytes ≡ true
   unfolding is_page_text
   sealed_is =
-      let number : be32_at bytes 4 ≡ page = be32_at-written bytes 4 page (ap (λ (l : List ℕ). part l 4 4) t.written) small in
+      let number : be32_at bytes 4 ≡ page = be32_at-written bytes 4 page (ap (λ (l : List ℕ). range 4 4 l) t.written) small in
       let same : nat_eq page page ≡ true = grind (arith, nat_tests) in
       and_both _ _ sealed_sum (ap (λ (n : ℕ). nat_eq n page) number ∙ same)
 
   pub sealed_text : text_in bytes ≡ text_at lsn version bytes
   unfolding text_in
   sealed_text =
-      let l : be64_at bytes 16 ≡ lsn = be64_at-written bytes 16 lsn (ap (λ (l : List ℕ). part l 16 8) t.written) t.lsn_fits in
-      let v : be32_at bytes 0 ≡ version = be32_at-written bytes 0 version (ap (λ (l : List ℕ). part l 0 4) t.written) t.version_fits in
+      let l : be64_at bytes 16 ≡ lsn = be64_at-written bytes 16 lsn (ap (λ (l : List ℕ). range 16 8 l) t.written) t.lsn_fits in
+      let v : be32_at bytes 0 ≡ version = be32_at-written bytes 0 version (ap (λ (l : List ℕ). range 0 4 l) t.written) t.version_fits in
       (λ i. record { lsn = l i; version = v i; bytes = bytes })
 
   -- its home holds it

@@ -12,8 +12,9 @@ use Rattle.aes_core.proofs.ModeLaws.{cbc_undone, ctr_twice, stream_blocks}
 use Rattle.aes_core.proofs.Schedule.{key_from}
 use Rattle.bytes_core.specs.Crc.{crc32c}
 use Rattle.byte_list.proofs.ByteLaws.{bytes_append, bytes_four, bytes_made}
-use Rattle.space_head.specs.Fields.{be16_at, part}
-use Rattle.space_head.proofs.Parts.{be16_at-written}
+use Rattle.byte_list.specs.Fields.{be16_at}
+use Rattle.byte_list.specs.Bytes.{range}
+use Rattle.byte_list.proofs.FieldLaws.{be16_at-written}
 use Rattle.page_text.specs.Text.{Plain, IsText, text, before_sum, start, inner, inner_start, page_iv, key_of, enciphered}
 use Rattle.page_text.specs.declared.key.PageKey.{PageKey}
 use Rattle.store_files.specs.Pages.{HasKeyBytes}
@@ -77,7 +78,7 @@ module _ (size space page lsn version : ℕ) (key : Option PageKey) (a : Plain) 
   sum = to_be_bytes w32 (crc32c (before_sum space page lsn version key a))
 
   pub kind_read : be16_at bytes 24 ≡ a.kind
-  kind_read = be16_at-written bytes 24 a.kind (ap (λ (l : List ℕ). part l 24 2) t.written) t.kind_fits
+  kind_read = be16_at-written bytes 24 a.kind (ap (λ (l : List ℕ). range 24 2 l) t.written) t.kind_fits
 
   pub cipher_read : take (length bytes - 30) (drop 26 bytes) ≡ x
   cipher_read =

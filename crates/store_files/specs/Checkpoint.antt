@@ -5,7 +5,8 @@ use Rattle.std.specs.Str.{bytes_eq}
 use Rattle.bytes_core.specs.Crc.{crc32c}
 use Rattle.disk_model.specs.Event.{zeros}
 use Rattle.places.specs.Places.{place}
-use Rattle.space_head.specs.Fields.{be64_at, part}
+use Rattle.byte_list.specs.Fields.{be64_at}
+use Rattle.byte_list.specs.Bytes.{range}
 use Rattle.page_places.specs.Texts.{ends_in_sum}
 
 -- what a checkpoint says: its sequence, and the number of the block that the run begins with
@@ -20,7 +21,7 @@ side_of sequence = 1 + sequence % 2
 -- A valid checkpoint in file block i: checksum and magic are right, the block is that of its sequence, and it says numbers that a checkpoint may say.
 unfoldable pub is_checkpoint : ℕ → List ℕ → Bool
 is_checkpoint i b =
-    ends_in_sum b && (bytes_eq (part b 0 8) (codes "KEYCHK01") && (nat_eq i (side_of (be64_at b 8)) && (nat_le 1 (be64_at b 8)
+    ends_in_sum b && (bytes_eq (range 0 8 b) (codes "KEYCHK01") && (nat_eq i (side_of (be64_at b 8)) && (nat_le 1 (be64_at b 8)
     && (nat_le (be64_at b 8 + 1) (be64_at b 16) && nat_le (be64_at b 16) (2 ^ 50)))))
 
 -- the checkpoint in file block i, where it is valid

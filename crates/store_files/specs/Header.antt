@@ -7,7 +7,8 @@ use Rattle.aes_core.specs.declared.algorithm.Algorithm.{Algorithm}
 use Rattle.aes_core.specs.declared.algorithm.Algorithm.TheVariants.{Cbc, Ctr}
 use Rattle.bytes_core.specs.Crc.{crc32c}
 use Rattle.disk_model.specs.Event.{zeros}
-use Rattle.space_head.specs.Fields.{be32_at, part}
+use Rattle.byte_list.specs.Fields.{be32_at}
+use Rattle.byte_list.specs.Bytes.{range}
 use Rattle.page_places.specs.Texts.{ends_in_sum}
 
 -- a space, as the header names it: its id, its pages, and the id of its key
@@ -54,14 +55,14 @@ unfoldable pub header_fields : List ℕ → Header
 header_fields b = record {
   algorithm = if nat_eq (be32_at b 240) 1 then Cbc else Ctr;
   blocks = be32_at b 16;
-  salt = part b 24 16;
+  salt = range 24 16 b;
   spaces = spaces_at b 40 (be32_at b 20);
 }
 
 -- a valid header of format 2: its checksum, magic, format, page size and algorithm are right, and what it says is within the limits
 unfoldable pub is_header : List ℕ → Bool
 is_header b =
-    ends_in_sum b && (bytes_eq (part b 0 8) (codes "KEYSTOR1") && (nat_eq (be32_at b 8) 2 && (nat_eq (be32_at b 12) 16384
+    ends_in_sum b && (bytes_eq (range 0 8 b) (codes "KEYSTOR1") && (nat_eq (be32_at b 8) 2 && (nat_eq (be32_at b 12) 16384
     && ((nat_eq (be32_at b 240) 1 || nat_eq (be32_at b 240) 2) && are_allowed (header_fields b)))))
 
 -- the header in a block of 4096 bytes, where it is valid

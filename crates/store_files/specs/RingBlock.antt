@@ -4,7 +4,8 @@ use Rattle.std.specs.Int.{to_be_bytes, w16, w32, w64}
 use Rattle.aes_core.specs.Algorithm.{deciphered}
 use Rattle.aes_core.specs.declared.algorithm.Algorithm.{Algorithm}
 use Rattle.bytes_core.specs.Crc.{crc32c}
-use Rattle.space_head.specs.Fields.{be16_at, be32_at, be64_at, part}
+use Rattle.byte_list.specs.Fields.{be16_at, be32_at, be64_at}
+use Rattle.byte_list.specs.Bytes.{range}
 use Rattle.page_places.specs.Texts.{ends_in_sum}
 use Rattle.store_image.specs.Ivs.{log_iv}
 
@@ -28,4 +29,4 @@ block_version b = be32_at b 8
 
 -- the part of the mini-transaction's text that a block has, under a local key
 unfoldable pub block_text : Algorithm → List ℕ → List ℕ → List ℕ
-block_text algorithm local b = take (be16_at b 12) (deciphered algorithm local (log_iv (be64_at b 0)) (part b 16 4076))
+block_text algorithm local b = take (be16_at b 12) (deciphered algorithm local (log_iv (be64_at b 0)) (range 16 4076 b))

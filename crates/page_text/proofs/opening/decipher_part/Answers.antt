@@ -1,7 +1,9 @@
 use Rattle.std.proofs.Common.{◌≡◌, ℕ, ◌-◌, List, ◌++◌, length, take, drop, sym, ap, ◌∙◌, arith}
 use Rattle.std.specs.Prelude.{Option}
-use Rattle.space_head.specs.Fields.{be32_at, be64_at, overwritten}
-use Rattle.space_head.proofs.Parts.{part_long}
+use Rattle.byte_list.specs.Fields.{be32_at, be64_at}
+use Rattle.byte_list.specs.Bytes.{put}
+use Rattle.byte_list.proofs.RangeLaws.{length-range}
+use Rattle.byte_list.proofs.PutLaws.{put_written}
 use Rattle.page_text.specs.Opening.{unciphered}
 use Rattle.page_text.specs.Parts.{cipher_part}
 use Rattle.page_text.specs.Text.{enciphered, key_lent, key_of, page_iv}
@@ -17,9 +19,9 @@ returns c =
     let key_is : key_lent c.key_of.result ≡ key = c.key_of.ensures ∙ ap (λ (v : ℕ). key_of v (key_lent c.args.key)) c.be32_at-version.ensures in
     let iv_is : c.page_iv-iv.result ≡ iv = c.page_iv-iv.ensures ∙ ap (λ (l : ℕ). page_iv c.args.space c.args.number l) c.be64_at.ensures in
     let d_is : d ≡ unciphered key iv (cipher_part o) = c.decipher.ensures.value ∙ (λ i. unciphered (key_is i) (iv_is i) (cipher_part o)) in
-    let long : length d ≡ length o - 4 - 26 = c.decipher.auto.bytes ∙ part_long o 26 (length o - 4 - 26) (omega arith) in
+    let long : length d ≡ length o - 4 - 26 = c.decipher.auto.bytes ∙ length-range 26 (length o - 4 - 26) o (omega arith) in
     record {
-      value = ap (λ (m : ℕ). take 26 o ++ (d ++ drop m (drop 26 o))) (sym long) ∙ ap (λ (x : List ℕ). overwritten o 26 x) d_is;
+      value = put_written 26 (length o - 4 - 26) d o (sym long) ∙ ap (λ (x : List ℕ). put 26 x o) d_is;
       undoes = record {
         long = ap length (sym d_is) ∙ c.decipher.auto.bytes;
         inverse = (λ i. enciphered (sym key_is i) (sym iv_is i) (sym d_is i)) ∙ c.decipher.ensures.inverse;

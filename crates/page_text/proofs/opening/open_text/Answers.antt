@@ -1,8 +1,8 @@
 use Rattle.std.proofs.Common.{◌≡◌, ℕ, List, length, sym, ap, subst, ◌∙◌, arith}
 use Rattle.std.specs.Prelude.{Option}
 use Rattle.std.proofs.lemmas.Result.{err_from_is_err_and}
-use Rattle.space_head.specs.Fields.{be32_at, be64_at}
-use Rattle.space_head.proofs.Parts.{AreBytes}
+use Rattle.byte_list.specs.Fields.{be32_at, be64_at}
+use Rattle.byte_list.specs.Bytes.{AreBytes}
 use Rattle.page_text.specs.Opening.{in_clear, inner_check, left_after}
 use Rattle.page_text.specs.Text.{IsText, key_lent, plain_of}
 use Rattle.page_text.specs.declared.key.PageKey.{PageKey}

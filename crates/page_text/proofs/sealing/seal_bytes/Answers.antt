@@ -1,5 +1,5 @@
 use Rattle.std.proofs.Common.{arith}
-use Rattle.space_head.proofs.Parts.{part_bytes}
+use Rattle.byte_list.proofs.ByteLaws.{bytes_range}
 use Rattle.page_text.proofs.Writes.{body_long}
 use Rattle.std.proofs.Common.{◌-◌, length}
 use Rattle.page_text.proofs.sealing.seal_bytes.Goals as goal
@@ -12,7 +12,7 @@ returns c =
       fits = c.requires.fits;
       keyed = c.requires.keyed.1;
       body_long = body_long o (omega arith);
-      body_bytes = part_bytes o 38 (length o - 8 - 38) c.known_page.ensures.bytes;
+      body_bytes = bytes_range 38 (length o - 8 - 38) o c.known_page.ensures.bytes;
       kind_fits = c.known_fields.ensures.kind;
       lsn_fits = omega arith;
       version_fits = omega arith;

@@ -27,7 +27,7 @@ use types.Kit.{‵, ◌⊛◌, some, later, ◌$◌, ◌∵◌, !, qed, move, ke
 use types.Part.{whole, sub, look_in, agg}
 use types.Run.{stop, fld, hop, load, addr, of_opd, bin, and_then, no_more, returns, enter}
 use types.ByLocal.{alloc_all, pass_all, free_all, look_at, get, get_in, through, sets}
-use Rattle.page_text.proofs.PartLaws.{cut_at}
+use Rattle.byte_list.proofs.PartLaws.{cut_at}
 use Rattle.page_text.proofs.LentPart.{lends_run}
 use Rattle.page_text.specs.contracts.parts.RefMutSliceU8PageBytes.part_mut as f
 use Rattle.page_text.proofs.parts.RefMutSliceU8PageBytes.part_mut.Statement.{statement}
