@@ -1,0 +1,15 @@
+pub mod PartsLemmas
+pub mod FieldLemmas
+pub mod NumberLemmas
+pub mod BatchLemmas
+pub mod HexLemmas
+pub mod LineLemmas
+pub mod NameLemmas
+pub mod ChangeLemmas
+pub mod StatementLemmas
+pub mod ReadingLemmas
+pub mod FaultsOnce
+pub mod StatementsOnce
+pub mod ScriptsOnce
+pub mod Joining
+pub mod PrintsBack

@@ -1,0 +1,15 @@
+use Rattle.std.proofs.Common.{rules, refl, inr}
+use Rattle.script_core.specs.Fields.{FreeBatch, Misfit, FaultAt}
+use Rattle.script_core.proofs.FieldLemmas.{free_batch, misfits, handed}
+use Rattle.script_core.proofs.fields.take_free_batch.Goals as goal
+
+pub returns-in_err-batch-clause-err : goal.returns-in_err-batch-clause-err
+returns-in_err-batch-clause-err c before tells =
+    handed (FaultAt before FreeBatch c.args.words.now) c.from_residual.result c.in_err-batch.field-0.0 (search rules)
+    (free_batch before c.args.words.now c.in_err-batch.field-0.0 (c.in_err-batch.ensures.err before))
+
+pub returns-then-is_out-clause-err : goal.returns-then-is_out-clause-err
+unfolding Misfit
+returns-then-is_out-clause-err c before tells =
+    let t = c.in_ok-batch.ensures.ok in
+    misfits before FreeBatch c.args.words.now t.word c.take_number.new.words _ t.begins (inr (refl, (c.in_ok-batch.batch, t.has, (c.is_out.ensures before tells).0 c.if-is_out.true)))

@@ -1,0 +1,123 @@
+-- Which statement of a script a store refuses, and why.
+use Rattle.std.specs.Prelude.{◌≡◌, ℕ, ◌+◌, ◌/◌, Bool, ◌==◌, ◌&&◌, nat_lt, nat_le, if◌then◌else◌, List, [], ◌∷◌, length, sum_by, Option, Some, None, is_some, option_map, Result, Ok, Err, MatchOption}
+use Rattle.space_head.specs.declared.space.SpaceInfo.{SpaceInfo}
+use Rattle.script_core.specs.declared.act.Act.{Act}
+use Rattle.script_core.specs.declared.act.Act.TheVariants.{Mtr, Read, Sync, Flush, Check, Take, Put, Activate, Encrypt, Rotate, Report}
+use Rattle.script_core.specs.declared.act.ScriptChange.{ScriptChange}
+use Rattle.script_core.specs.declared.act.ScriptChange.TheVariants as change
+use Rattle.script_core.specs.declared.checking.ChangeCheck.{ChangeCheck}
+use Rattle.script_core.specs.declared.checking.ChangeCheck.TheVariants.{Space, Page, Range}
+use Rattle.script_core.specs.declared.script.Statement.{Statement}
+use Rattle.script_core.specs.declared.fault.Why.{Why}
+use Rattle.script_core.specs.declared.fault.Why.TheVariants.{NoSuchSpace, NoSuchPage, BadRange, TooLong, NotInRun}
+use Rattle.script_core.specs.declared.fault.Refused.{Refused}
+
+-- the first that is there
+abbrev pub or_else : {X : Type 0} → Option X → Option X → Option X
+or_else (Some x) later = Some x
+or_else None later = later
+
+-- the first answer that the elements of a list give
+abbrev pub first_some : {X Y : Type 0} → (X → Option Y) → List X → Option Y
+first_some f [] = None
+first_some f (x ∷ xs) = or_else (f x) (first_some f xs)
+
+-- the pages of a space among these
+abbrev pub pages_if : ℕ → SpaceInfo → Option ℕ
+pages_if space info = if info.space == space then Some info.pages else None
+
+abbrev pub pages_of : List SpaceInfo → ℕ → Option ℕ
+pages_of spaces space = first_some (pages_if space) spaces
+
+-- the store has no such space
+abbrev pub missing_space : List SpaceInfo → ℕ → Option Why
+missing_space spaces space = if is_some (pages_of spaces space) then None else Some (NoSuchSpace space)
+
+-- page 0, or a page past the space's end
+abbrev pub page_past : ℕ → ℕ → Option ℕ → Option Why
+page_past space page None = None
+page_past space page (Some pages) = if nat_le 1 page && nat_lt page pages then None else Some (NoSuchPage space page)
+
+abbrev pub missing_page : List SpaceInfo → ℕ → ℕ → Option Why
+missing_page spaces space page = page_past space page (pages_of spaces space)
+
+-- the range is empty, or doesn't lie in bytes 38 to 16376
+abbrev pub bad_range : ℕ → ℕ → Option Why
+bad_range at size = if nat_le 1 size && nat_le 38 at && nat_le (at + size) 16376 then None else Some (BadRange at size)
+
+unfoldable pub space_of : ScriptChange → ℕ
+space_of (change.Put space page at bytes) = space
+space_of (change.Fill space page at length byte) = space
+space_of (change.Kind space page kind) = space
+
+unfoldable pub page_of : ScriptChange → ℕ
+page_of (change.Put space page at bytes) = page
+page_of (change.Fill space page at length byte) = page
+page_of (change.Kind space page kind) = page
+
+unfoldable pub range_refusal : ScriptChange → Option Why
+range_refusal (change.Put space page at bytes) = bad_range at (length bytes)
+range_refusal (change.Fill space page at length byte) = bad_range at length
+range_refusal (change.Kind space page kind) = None
+
+-- the refusal of a change by one of the checks
+unfoldable pub change_refusal : List SpaceInfo → ChangeCheck → ScriptChange → Option Why
+change_refusal spaces Space change = missing_space spaces (space_of change)
+change_refusal spaces Page change = missing_page spaces (space_of change) (page_of change)
+change_refusal spaces Range change = range_refusal change
+
+-- the first refusal of changes by it
+abbrev pub first_refusal : List SpaceInfo → ChangeCheck → List ScriptChange → Option Why
+first_refusal spaces check changes = first_some (change_refusal spaces check) changes
+
+-- how many bytes a change takes in the log
+unfoldable pub change_length : ScriptChange → ℕ
+change_length (change.Put space page at bytes) = 17 + length bytes
+change_length (change.Fill space page at length byte) = 17 + length
+change_length (change.Kind space page kind) = 11
+
+abbrev pub text_length : List ScriptChange → ℕ
+text_length changes = sum_by change_length changes
+
+-- blocks of 4076 bytes, the last of them filled in part
+abbrev pub blocks_of : List ScriptChange → ℕ
+blocks_of changes = (text_length changes + 4075) / 4076
+
+abbrev pub too_long : List ScriptChange → Option Why
+too_long changes = if nat_le (blocks_of changes) 16 then None else Some (TooLong (blocks_of changes))
+
+-- each check over all changes, one check after another
+abbrev pub mtr_refusal : List SpaceInfo → List ScriptChange → Option Why
+mtr_refusal spaces changes = or_else (first_refusal spaces Space changes) (or_else (first_refusal spaces Page changes) (or_else (first_refusal spaces Range changes) (too_long changes)))
+
+abbrev pub read_refusal : List SpaceInfo → ℕ → ℕ → ℕ → ℕ → Option Why
+read_refusal spaces space page at size = or_else (missing_space spaces space) (or_else (missing_page spaces space page) (bad_range at size))
+
+-- a run has no statements but mini-transactions and reads
+abbrev pub not_in_run : Bool → Option Why
+not_in_run running = if running then Some NotInRun else None
+
+abbrev pub space_refusal : List SpaceInfo → ℕ → Bool → Option Why
+space_refusal spaces space running = or_else (missing_space spaces space) (not_in_run running)
+
+unfoldable pub refusal_of : List SpaceInfo → Bool → Act → Option Why
+refusal_of spaces running (Mtr session changes) = mtr_refusal spaces changes
+refusal_of spaces running (Read session space page at length) = read_refusal spaces space page at length
+refusal_of spaces running (Take batch space count) = space_refusal spaces space running
+refusal_of spaces running (Encrypt space) = space_refusal spaces space running
+refusal_of spaces running (Rotate space) = space_refusal spaces space running
+refusal_of spaces running (Report space) = space_refusal spaces space running
+refusal_of spaces running _ = not_in_run running
+
+-- the refusal of a statement, with its line
+abbrev pub refused_at : List SpaceInfo → Bool → Statement → Option Refused
+refused_at spaces running statement = option_map (λ why. record { line = statement.line; why = why }) (refusal_of spaces running statement.act)
+
+-- the first statement that is refused
+abbrev pub refused_in : List SpaceInfo → Bool → List Statement → Option Refused
+refused_in spaces running statements = first_some (refused_at spaces running) statements
+
+-- Ok where nothing is refused
+abbrev pub unless_refused : Option Refused → Result (Unit {0}) Refused
+unless_refused None = Ok tt
+unless_refused (Some refused) = Err refused

@@ -1,0 +1,9 @@
+pub mod Parts
+pub mod Words
+pub mod Batches
+pub mod Fields
+pub mod Names
+pub mod Statements
+pub mod Scripts
+pub mod Checks
+pub mod Printing
