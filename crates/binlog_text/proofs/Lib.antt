@@ -1,0 +1,6 @@
+pub mod CipherLaws
+pub mod FrontLaws
+pub mod Kept
+pub mod Started
+pub mod Refusals
+pub mod Answered

@@ -1,0 +1,25 @@
+use Rattle.std.proofs.Common.{◌≡◌, ◌∙◌, refl, sym}
+use Rattle.io_core.proofs.Causes.{told_same}
+use Rattle.binlog_text.proofs.Answered.{answered_event, keeps_next, kept_stage}
+use Rattle.binlog_text.proofs.reader.LogReader.answer.Goals as goal
+
+pub returns-clause-answer : goal.returns-clause-answer
+returns-clause-answer g c = record {
+  here = λ fs is inside.
+      answered_event c.args.ring.now (fs c.args.name.now) c.args.self.now.stage c.in_ok-position.position c.position.new.self.buffer.rest _
+      (c.in_ok-position.ensures.position.here fs is refl) (c.in_ok-position.ensures.keeps.here fs is)
+      (λ front size. c.read_event.ensures.event.here fs (c.in_ok-position.ensures.same ∙ is) front size inside);
+}
+
+pub returns-clause-keeps : goal.returns-clause-keeps
+returns-clause-keeps g c =
+    keeps_next _ c.args.name.now c.in_ok-position.position c.position.new.self.buffer.rest _ _ c.read_event.result
+    c.in_ok-position.ensures.keeps (told_same (sym c.in_ok-position.ensures.same) c.read_event.ensures.rest) c.read_event.ensures.moves
+
+pub returns-clause-kept : goal.returns-clause-kept
+returns-clause-kept g c = λ how. record {
+  here = λ fs is.
+      kept_stage (fs c.args.name.now) c.args.self.now.stage c.in_ok-position.position c.position.new.self.buffer.rest _
+      (c.in_ok-position.ensures.position.here fs is refl) (c.in_ok-position.ensures.keeps.here fs is)
+      (λ front. c.read_event.ensures.stays.here fs (c.in_ok-position.ensures.same ∙ is) front how);
+}

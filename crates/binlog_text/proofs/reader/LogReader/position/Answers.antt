@@ -1,0 +1,5 @@
+use Rattle.binlog_text.proofs.Answered.{starts_keeps}
+use Rattle.binlog_text.proofs.reader.LogReader.position.Goals as goal
+
+pub returns-in-Start-clause-keeps : goal.returns-in-Start-clause-keeps
+returns-in-Start-clause-keeps g c = starts_keeps _ c.args.name.now _ c.start.result c.start.ensures.position

@@ -1,0 +1,59 @@
+use Rattle.std.proofs.Common.{◌≡◌, ℕ, ◌-◌, ◌≤◌, min, List, length, Some, None, Ok, Err, Result, Option, sym, ap, ◌∙◌, arith}
+use Rattle.std.proofs.lemmas.Result.{on_ok_weaker}
+use Rattle.io_core.specs.Files.{bytes_from}
+use Rattle.binlog_text.specs.Header.{framed}
+use Rattle.binlog_text.specs.declared.fault.BinlogFault.{BinlogFault}
+use Rattle.binlog_text.proofs.FrontLaws.{reaches_event, reaches_header}
+use Rattle.binlog_text.proofs.reading.reach.Goals as goal
+
+-- an answer of a frame without a length
+none_said : {m : ℕ} → ◌≡◌ {A = Result (Option ℕ) BinlogFault} (Ok None) (Ok (Some m)) → ⊥
+none_said e = cc
+
+fault_said : {m : ℕ} {fault : BinlogFault} → ◌≡◌ {A = Result (Option ℕ) BinlogFault} (Err fault) (Ok (Some m)) → ⊥
+fault_said e = cc
+
+pub returns-in-Ok-None-clause-reached : goal.returns-in-Ok-None-clause-reached
+returns-in-Ok-None-clause-reached g c = record {
+  here = λ fs is front size.
+      let p = c.args.position.now in
+      let all : List ℕ = bytes_from p.place c.args.name.now fs in
+      let rest : List ℕ = c.fill.new.self.rest in
+      let enough : c.min-header.result ≤ length rest = c.in_ok-fill.ensures.enough.here fs is (size ∙ sym c.left_of-left.ensures) in
+      let says : framed p.format p.place rest ≡ Ok None = ap (framed p.format p.place) (sym c.rest.ensures) ∙ sym c.framed.ensures.value ∙ c.in-Ok-None.is ∙ ap Ok c.in-Ok-None.field-0-is in
+      reaches_header p rest all (c.in_ok-fill.ensures.front.here fs is front) (omega (arith, enough, c.min-header.ensures, c.left_of-left.ensures, size))
+      (λ long e. none_said (sym says ∙ e));
+}
+
+pub returns-in-Err-clause-reached : goal.returns-in-Err-clause-reached
+returns-in-Err-clause-reached g c = record {
+  here = λ fs is front size.
+      let p = c.args.position.now in
+      let all : List ℕ = bytes_from p.place c.args.name.now fs in
+      let rest : List ℕ = c.fill.new.self.rest in
+      let enough : c.min-header.result ≤ length rest = c.in_ok-fill.ensures.enough.here fs is (size ∙ sym c.left_of-left.ensures) in
+      let says = ap (framed p.format p.place) (sym c.rest.ensures) ∙ sym c.framed.ensures.value ∙ c.in-Err.is in
+      reaches_header p rest all (c.in_ok-fill.ensures.front.here fs is front) (omega (arith, enough, c.min-header.ensures, c.left_of-left.ensures, size))
+      (λ long e. fault_said (sym says ∙ e));
+}
+
+pub returns-in-Ok-Some-clause-reached : goal.returns-in-Ok-Some-clause-reached
+returns-in-Ok-Some-clause-reached g c =
+    let p = c.args.position.now in
+    let before : List ℕ = c.fill.new.self.rest in
+    let says : framed p.format p.place before ≡ Ok (Some c.in-Ok-Some.length) =
+    ap (framed p.format p.place) (sym c.rest.ensures) ∙ sym c.framed.ensures.value ∙ c.in-Ok-Some.is ∙ ap Ok c.in-Ok-Some.field-0-is in
+    let header : 19 ≤ c.in-Ok-Some.length = rw c.in-Ok-Some.field-0-is at c.in-Ok-Some.ensures.header in
+    on_ok_weaker c.fill-in-Ok-Some.result
+    (λ filled. record {
+      here = λ fs is front size.
+          let all : List ℕ = bytes_from p.place c.args.name.now fs in
+          let known = size ∙ sym c.left_of-left.ensures in
+          let enough : c.min-header.result ≤ length before = c.in_ok-fill.ensures.enough.here fs is known in
+          let first = c.in_ok-fill.ensures.front.here fs is front in
+          let same = c.in_ok-fill.ensures.same ∙ is in
+          let more : c.min-need.result ≤ length c.fill-in-Ok-Some.new.self.rest = filled.here fs same known in
+          reaches_event p before c.fill-in-Ok-Some.new.self.rest all c.in-Ok-Some.length first (omega (arith, enough, c.min-header.ensures, c.left_of-left.ensures, size)) says header
+          (c.fill-in-Ok-Some.ensures.front.here fs same first) (omega (arith, more, c.min-need.ensures, c.left_of-left.ensures, size));
+    })
+    c.fill-in-Ok-Some.ensures.enough

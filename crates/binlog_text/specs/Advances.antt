@@ -1,0 +1,29 @@
+-- What a call of a reader does.
+use Rattle.std.specs.Prelude.{◌≡◌, ◌≤◌, ◌⊎◌, ℕ, max, Bool, false, List, Option, Result, Err}
+use Rattle.cause_core.specs.Counts.{Rose}
+use Rattle.io_core.specs.Files.{Files}
+use Rattle.io_core.specs.Told.{Told}
+use Rattle.key_ring.specs.Ring.{Entry}
+use Rattle.binlog_text.specs.Events.{Event, answered}
+use Rattle.binlog_text.specs.Reading.{IsAnswer, IsStage, Keeps, is_out}
+use Rattle.binlog_text.specs.declared.fault.BinlogFault.{BinlogFault}
+use Rattle.binlog_text.specs.declared.fault.BinlogFault.TheVariants.{FileFault, Missing}
+use Rattle.binlog_text.specs.declared.reader.LogReader.{LogReader}
+use Rattle.binlog_text.specs.declared.stage.Stage.{Stage}
+use Rattle.binlog_text.specs.declared.stage.Stage.TheVariants.{Refused}
+
+-- Unless it comes from outside, the answer is the definition's where the library tells its files, and what the reader rests
+-- on holds at its new stage. The buffer grows to the most bytes of an event at most.
+pub record Advances (ring : List Entry) (files : Option Files) (name : List ℕ) (old new : LogReader) (result : Result (Option Event) BinlogFault) : Type 0 where
+  pub answer : Told (λ fs. is_out result ≡ false → IsAnswer (answered ring (fs name) old.stage) new.stage result) files
+  pub keeps : Told (λ fs. Keeps (fs name) new.stage new.buffer.rest) files
+  pub stage : IsStage old.stage new.stage result
+  pub room : new.buffer.room ≤ max old.buffer.room 16777216
+
+-- The counts of a library never fall. A fault of the file is answered only where its count rose in this call, and a missing one
+-- only where its count rose, or again.
+pub record ReaderCauses {T : Type 0} (stage : Stage) (faults faults' absences absences' : ℕ) (result : Result T BinlogFault) : Type 0 where
+  pub faults_later : faults ≤ faults'
+  pub absences_later : absences ≤ absences'
+  pub failed : result ≡ Err FileFault → Rose faults faults'
+  pub missing : result ≡ Err Missing → (stage ≡ Refused Missing) ⊎ Rose absences absences'

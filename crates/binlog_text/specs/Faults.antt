@@ -1,0 +1,40 @@
+-- Faults that come from outside.
+use Rattle.std.specs.Prelude.{◌≡◌, ◌≤◌, ℕ, Bool, true, false, Result, Err}
+use Rattle.cause_core.specs.Counts.{Rose}
+use Rattle.binlog_text.specs.declared.fault.BinlogFault.{BinlogFault}
+use Rattle.binlog_text.specs.declared.fault.BinlogFault.TheVariants.{Algorithm, BadLength, BadMagic, Checksum, FileFault, Missing, MissingKey, NoFormat, OutOfMemory, Scheme, ShortEvent}
+
+-- the library failed, or there was no memory
+abbrev pub is_outside : BinlogFault → Bool
+is_outside FileFault = true
+is_outside OutOfMemory = true
+is_outside Missing = false
+is_outside BadMagic = false
+is_outside (ShortEvent at wanted found) = false
+is_outside (BadLength at length) = false
+is_outside (NoFormat kind) = false
+is_outside (Algorithm n) = false
+is_outside (Scheme n) = false
+is_outside (MissingKey version) = false
+is_outside (Checksum at stored computed) = false
+
+-- a refusal of an event that is there
+abbrev pub IsRefusal : BinlogFault → Type 0
+IsRefusal Missing = ⊥
+IsRefusal BadMagic = ⊥
+IsRefusal FileFault = ⊥
+IsRefusal OutOfMemory = ⊥
+IsRefusal (ShortEvent at wanted found) = Unit {0}
+IsRefusal (BadLength at length) = Unit {0}
+IsRefusal (NoFormat kind) = Unit {0}
+IsRefusal (Algorithm n) = Unit {0}
+IsRefusal (Scheme n) = Unit {0}
+IsRefusal (MissingKey version) = Unit {0}
+IsRefusal (Checksum at stored computed) = Unit {0}
+
+-- The counts of a library never fall, and a fault of the file and a missing one are answered only where theirs rose.
+pub record HasCauses {T : Type 0} (faults faults' absences absences' : ℕ) (result : Result T BinlogFault) : Type 0 where
+  pub faults_later : faults ≤ faults'
+  pub absences_later : absences ≤ absences'
+  pub failed : result ≡ Err FileFault → Rose faults faults'
+  pub missing : result ≡ Err Missing → Rose absences absences'

@@ -1,0 +1,9 @@
+pub mod Cipher
+pub mod Header
+pub mod Faults
+pub mod Held
+pub mod Events
+pub mod Reading
+pub mod Views
+pub mod Stages
+pub mod Advances

@@ -1,0 +1,40 @@
+//! Binary logs that a MariaDB server wrote, ciphered or not: their events, and a reader over a library
+//! of files.
+//!
+//! What this layer promises, the definitions being in specs/:
+//!
+//! 1. [`encipher_event`] is the event text's cipher (`enciphered_event`), and [`decipher_event`] undoes
+//!    it, in place, for every event of at least 19 bytes.
+//! 2. [`LogReader`] gives exactly the events of the file in order, and None exactly at its end
+//!    (`answered`). Each refusal comes exactly where it is the first in order, with its place and
+//!    values.
+//! 3. After a fault of the file or want of memory the reader is as it was; after every other refusal
+//!    it answers the same again.
+//! 4. An [`EventView`] lends the plain event from the reader's buffer. The buffer has one piece of the
+//!    file, 65536 bytes at most, or grows to the largest event; an event has 16,777,216 bytes at most.
+//!
+//! Numbers in a binary log have their lowest byte first. No body is decoded.
+#![tactic(auto)]
+
+mod buffer;
+mod cipher;
+mod fault;
+mod format;
+mod judging;
+mod opening;
+mod piece;
+mod reader;
+mod reading;
+mod stage;
+mod start;
+mod view;
+
+pub use cipher::{decipher_event, encipher_event};
+pub use fault::BinlogFault;
+pub use format::{ChecksumAlgorithm, EventCipher, LogFormat};
+pub use reader::LogReader;
+pub use stage::{Position, Stage, Step};
+pub use view::{EventMark, EventView};
+
+#[cfg(test)]
+mod tests;

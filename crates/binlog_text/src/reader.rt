@@ -1,0 +1,144 @@
+// A reader of a binary log, event by event.
+
+ghost use Rattle.std.specs.Prelude.{◌≡◌, ⊤, true};
+ghost use Rattle.binlog_text.specs.Stages.{is_settled};
+
+use crate::buffer::EventBuffer;
+use crate::fault::is_outside;
+use crate::reading::read_event;
+use crate::stage::{Position, Stage, Step};
+use crate::start::start;
+use crate::{BinlogFault, EventMark, EventView};
+use io_core::Library;
+use key_ring::Ring;
+use std::alloc::Global;
+
+/// Reads a binary log event by event.
+#[derive(Drop)]
+pub struct LogReader {
+    stage: Stage,
+    buffer: EventBuffer,
+    ghost settled: { is_settled stage ≡ true },
+}
+
+impl LogReader {
+    ghost use Rattle.std.specs.Prelude.{◌<◌, ◌≤◌, ◌-◌, ◌⊎◌, max, Ok, Err, None, length, IfOk, IfSome, OnErr, false};
+    ghost use Rattle.std.specs.Borrow.{sem, follows_so};
+    ghost use mathlib.Core.Option.{none};
+    ghost use Rattle.io_core.specs.Told.{Told};
+    ghost use Rattle.binlog_text.specs.Faults.{HasCauses};
+    ghost use Rattle.binlog_text.specs.Events.{answered, placed};
+    ghost use Rattle.binlog_text.specs.Reading.{Fits, Keeps, is_out, left_at, marked, shown, viewed};
+    ghost use Rattle.binlog_text.specs.Advances.{Advances, ReaderCauses};
+    ghost use Rattle.binlog_text.specs.contracts.reader.LogReader.{the_row};
+
+    /// A reader that has read nothing.
+    pub fn new(alloc: Global) -> LogReader
+        ensures { result.stage ≡ Stage.Start }
+    {
+        LogReader {
+            stage: Stage::Start,
+            buffer: EventBuffer::new(alloc),
+        }
+    }
+
+    // Where the next event begins.
+    fn position<L: Library>(&mut self, files: &mut L, name: &str) -> Result<Position, BinlogFault>
+        requires { Told (λ fs. Keeps (fs name.now) self.old.stage self.old.buffer.rest) (L.files files.old) }
+        ensures position { Told (λ fs. is_out result ≡ false → placed (fs name.now) self.old.stage ≡ result) (L.files files.old) }
+        ensures keeps { IfOk result (λ position. Told (λ fs. Keeps (fs name.now) (Stage.Events position) self.new.buffer.rest) (L.files files.old)) }
+        ensures kept { OnErr result (Told (λ fs. Keeps (fs name.now) self.old.stage self.new.buffer.rest) (L.files files.old)) }
+        ensures stage { self.new.stage ≡ self.old.stage }
+        ensures left { IfOk result (λ position. position.size - position.place ≤ left_at self.old.stage) }
+        ensures room { self.new.buffer.room ≤ max self.old.buffer.room 16777216 }
+        ensures again { (fault : BinlogFault) → self.old.stage ≡ Stage.Refused fault → result ≡ Err fault }
+        ensures same { L.files files.new ≡ L.files files.old }
+        ensures causes { ReaderCauses self.old.stage (L.faults files.old) (L.faults files.new) (L.absences files.old) (L.absences files.new) result }
+    {
+        match self.stage {
+            Stage::Start => start(&mut self.buffer, files, name),
+            Stage::Events(position) => Ok(position),
+            Stage::Refused(fault) => Err(fault),
+        }
+    }
+
+    // The next event, not yet passed.
+    fn answer<L: Library>(
+        &mut self,
+        files: &mut L,
+        name: &str,
+        ring: &Ring,
+    ) -> Result<Option<Step>, BinlogFault>
+        requires { Told (λ fs. Keeps (fs name.now) self.old.stage self.old.buffer.rest) (L.files files.old) }
+        ensures answer { Told (λ fs. is_out result ≡ false → answered ring.now (fs name.now) self.old.stage ≡ shown self.new.buffer.event result) (L.files files.old) }
+        ensures keeps { IfOk result (λ found. IfSome found (λ step. Told (λ fs. Keeps (fs name.now) (Stage.Events step.next) self.new.buffer.rest) (L.files files.old))) }
+        ensures kept { (is_out result ≡ true) ⊎ (result ≡ Ok None) → Told (λ fs. Keeps (fs name.now) self.old.stage self.new.buffer.rest) (L.files files.old) }
+        ensures stage { self.new.stage ≡ self.old.stage }
+        ensures left { IfOk result (λ found. IfSome found (λ step. left_at (Stage.Events step.next) < left_at self.old.stage)) }
+        ensures fits { IfOk result (λ found. IfSome found (λ step. Fits step.mark self.new.buffer.event)) }
+        ensures room { self.new.buffer.room ≤ max self.old.buffer.room 16777216 }
+        ensures again { (fault : BinlogFault) → self.old.stage ≡ Stage.Refused fault → result ≡ Err fault }
+        ensures same { L.files files.new ≡ L.files files.old }
+        ensures causes { ReaderCauses self.old.stage (L.faults files.old) (L.faults files.new) (L.absences files.old) (L.absences files.new) result }
+    {
+        let position = self.position(files, name)?;
+        read_event(&mut self.buffer, &position, files, name, ring)
+    }
+
+    // The next event, which is passed.
+    fn advance<L: Library>(
+        &mut self,
+        files: &mut L,
+        name: &str,
+        ring: &Ring,
+    ) -> Result<Option<EventMark>, BinlogFault>
+        requires { Told (λ fs. Keeps (fs name.now) self.old.stage self.old.buffer.rest) (L.files files.old) }
+        ensures advances { Advances ring.now (L.files files.old) name.now self.old self.new (marked self.new.buffer.event result) }
+        ensures fits { IfOk result (λ found. IfSome found (λ mark. Fits mark self.new.buffer.event)) }
+        ensures again { (fault : BinlogFault) → self.old.stage ≡ Stage.Refused fault → result ≡ Err fault }
+        ensures same { L.files files.new ≡ L.files files.old }
+        ensures causes { ReaderCauses self.old.stage (L.faults files.old) (L.faults files.new) (L.absences files.old) (L.absences files.new) result }
+    {
+        match self.answer(files, name, ring) {
+            Ok(Some(step)) => {
+                self.stage = Stage::Events(step.next);
+                Ok(Some(step.mark))
+            }
+            Ok(None) => Ok(None),
+            Err(fault) => {
+                if !is_outside(fault) {
+                    self.stage = Stage::Refused(fault);
+                }
+                Err(fault)
+            }
+        }
+    }
+
+    /// The next event, in clear, and None at the file's end. From the second call on the name is that
+    /// of the first, and a library that tells its files has the same bytes under it.
+    ///
+    /// # Errors
+    /// The first refusal in the file, which is answered again from then on; `FileFault` and
+    /// `OutOfMemory`, after which the reader is as it was.
+    pub fn next<L: Library>(
+        &mut self,
+        files: &mut L,
+        name: &str,
+        ring: &Ring,
+    ) -> Result<Option<EventView<'_>>, BinlogFault>
+        requires { Told (λ fs. Keeps (fs name.now) self.old.stage self.old.buffer.rest) (L.files files.old) }
+        // Once the event is let go of, the reader is past it, or as it was, or at the refusal.
+        ensures* advances { sem 𝓛 (follows_so the_row the_row self.entry.ghost_name none (λ _ _. ⊤) (λ new. Advances ring.now (L.files files.old) name.now self.old new (viewed result))) }
+        ensures again { (fault : BinlogFault) → self.old.stage ≡ Stage.Refused fault → result ≡ Err fault }
+        ensures same { L.files files.new ≡ L.files files.old }
+        ensures causes { ReaderCauses self.old.stage (L.faults files.old) (L.faults files.new) (L.absences files.old) (L.absences files.new) result }
+    {
+        match self.advance(files, name, ring)? {
+            Some(mark) => Ok(Some(EventView {
+                mark,
+                bytes: self.buffer.event(),
+            })),
+            None => Ok(None),
+        }
+    }
+}

@@ -1,0 +1,166 @@
+// One event read.
+
+ghost use Rattle.std.specs.Prelude.{◌≡◌, ◌+◌, ◌-◌, ◌<◌, ◌≤◌, ◌⊎◌, ℕ, List, Ok, Some, length, take, drop, min, max, IfOk, IfErr, IfSome, OnOk, false, true};
+ghost use Rattle.io_core.specs.Told.{Told};
+ghost use Rattle.io_core.specs.Files.{bytes_from};
+ghost use Rattle.byte_list.specs.Bytes.{part_of};
+ghost use Rattle.binlog_text.specs.Faults.{HasCauses, IsRefusal, is_outside};
+ghost use Rattle.binlog_text.specs.Header.{kind_of, least_stored, sum_length};
+ghost use Rattle.binlog_text.specs.Held.{IsFront};
+ghost use Rattle.binlog_text.specs.Events.{event_in, judged_event, opened, opened_event, step_of};
+ghost use Rattle.binlog_text.specs.Reading.{Moves, Reaches, is_out, shown};
+
+use crate::buffer::EventBuffer;
+use crate::format::{HEADER_LEN, LogFormat, framed, has_sum, whole};
+use crate::judging::judge;
+use crate::opening::open;
+use crate::stage::{Position, Step};
+use crate::{BinlogFault, EventMark};
+use io_core::Library;
+use key_ring::Ring;
+
+/// The plain event in place of what stands in the file, and the format after it.
+pub(crate) fn read_plain(
+    ring: &Ring,
+    position: &Position,
+    event: &mut [u8],
+) -> Result<LogFormat, BinlogFault>
+    requires long { 19 ≤ length event.old }
+    requires least { least_stored position.now.format (kind_of event.old) ≤ length event.old }
+    ensures refusal { IfErr result IsRefusal }
+    ensures long { IfOk result (λ after. 19 + sum_length after.checksum ≤ length event.old) }
+    ensures value { opened_event position.now (opened ring.now position.now.format position.now.place event.old) ≡ judged_event position.now event.new result }
+{
+    open(ring, &position.format, position.place, event)?;
+    judge(&position.format, position.place, event)
+}
+
+/// The same of a part of a buffer.
+pub(crate) fn read_within(
+    ring: &Ring,
+    position: &Position,
+    bytes: &mut [u8],
+    at: usize,
+    to: usize,
+) -> Result<LogFormat, BinlogFault>
+    requires long { at + 19 ≤ to }
+    requires inside { to ≤ length bytes.old }
+    requires least { least_stored position.now.format (kind_of (part_of bytes.old at to)) ≤ to - at }
+    ensures refusal { IfErr result IsRefusal }
+    ensures long { IfOk result (λ after. 19 + sum_length after.checksum ≤ to - at) }
+    ensures value { opened_event position.now (opened ring.now position.now.format position.now.place (part_of bytes.old at to)) ≡ judged_event position.now (part_of bytes.new at to) result }
+    ensures rest { drop to bytes.new ≡ drop to bytes.old }
+{
+    read_plain(ring, position, &mut bytes[at..to])
+}
+
+// How many bytes the file has from a position on.
+fn left_of(position: &Position) -> u64
+    ensures { result ≡ position.now.size - position.now.place }
+{
+    position.size.saturating_sub(position.place)
+}
+
+// Reads on in the file until the event at a position is here, or all that the file has of it.
+fn reach<L: Library>(
+    buffer: &mut EventBuffer,
+    position: &Position,
+    files: &mut L,
+    name: &str,
+) -> Result<(), BinlogFault>
+    ensures front { Told (λ fs. IsFront buffer.old.rest (bytes_from position.now.place name.now fs) → IsFront buffer.new.rest (bytes_from position.now.place name.now fs)) (L.files files.old) }
+    ensures reached { OnOk result (Told (λ fs. IsFront buffer.old.rest (bytes_from position.now.place name.now fs)
+        → length (bytes_from position.now.place name.now fs) ≡ position.now.size - position.now.place
+        → Reaches position.now buffer.new.rest (bytes_from position.now.place name.now fs)) (L.files files.old)) }
+    ensures room { buffer.new.room ≤ max buffer.old.room 16777216 }
+    ensures bounded { OnOk result (length buffer.new.rest ≤ position.now.size - position.now.place) }
+    ensures outside { IfErr result (λ fault. is_outside fault ≡ true) }
+    ensures same { L.files files.new ≡ L.files files.old }
+    ensures causes { HasCauses (L.faults files.old) (L.faults files.new) (L.absences files.old) (L.absences files.new) result }
+{
+    let left = left_of(position);
+    let header = left.min(HEADER_LEN as u64) as usize;
+    buffer.fill(files, name, position.place, left, header)?;
+    match framed(&position.format, position.place, buffer.rest()) {
+        Ok(Some(length)) => {
+            let need = left.min(length as u64) as usize;
+            buffer.fill(files, name, position.place, left, need)
+        }
+        Ok(None) => Ok(()),
+        Err(_) => Ok(()),
+    }
+}
+
+// The event that begins the rest of the buffer becomes its event, in clear.
+#[tactic(auto, unfolding(crate::specs::Events::event_in))]
+fn take_event(
+    buffer: &mut EventBuffer,
+    position: &Position,
+    ring: &Ring,
+) -> Result<Option<Step>, BinlogFault>
+    requires { length buffer.old.rest ≤ position.now.size - position.now.place }
+    ensures refusal { IfErr result IsRefusal }
+    ensures value { event_in ring.now buffer.old.rest position.now ≡ shown buffer.new.event result }
+    ensures rest { IfOk result (λ step. IfSome step (λ s. buffer.new.rest ≡ drop (length buffer.new.event) buffer.old.rest)) }
+    ensures end { result ≡ Ok None → buffer.new ≡ buffer.old }
+    ensures moves { IfOk result (λ step. IfSome step (Moves position.now buffer.new.event)) }
+    ensures room { buffer.new.room ≡ buffer.old.room }
+{
+    let Some(length) = whole(&position.format, position.place, buffer.rest())? else {
+        return Ok(None);
+    };
+    buffer.take(length);
+    let format = buffer.read(ring, position)?;
+    Ok(Some(step_of(position, length, format)))
+}
+
+// What stands at a position, the format after it being known.
+fn step_of(position: &Position, length: usize, format: LogFormat) -> Step
+    requires { position.now.place + length ≤ position.now.size }
+    ensures { result ≡ step_of position.now length format }
+{
+    let key = match position.format.cipher {
+        Some(cipher) => Some(cipher.version),
+        None => None,
+    };
+    Step {
+        mark: EventMark {
+            place: position.place,
+            key,
+            has_sum: has_sum(format.checksum),
+        },
+        next: Position {
+            place: position.place + length as u64,
+            size: position.size,
+            format,
+        },
+    }
+}
+
+/// Reads the event at a position.
+///
+/// # Errors
+/// The first refusal; `FileFault`, `OutOfMemory`.
+pub(crate) fn read_event<L: Library>(
+    buffer: &mut EventBuffer,
+    position: &Position,
+    files: &mut L,
+    name: &str,
+    ring: &Ring,
+) -> Result<Option<Step>, BinlogFault>
+    ensures event { Told (λ fs. IsFront buffer.old.rest (bytes_from position.now.place name.now fs)
+        → length (bytes_from position.now.place name.now fs) ≡ position.now.size - position.now.place
+        → is_out result ≡ false → event_in ring.now (bytes_from position.now.place name.now fs) position.now ≡ shown buffer.new.event result) (L.files files.old) }
+    ensures rest { Told (λ fs. IsFront buffer.old.rest (bytes_from position.now.place name.now fs)
+        → length (bytes_from position.now.place name.now fs) ≡ position.now.size - position.now.place
+        → IfOk result (λ step. IfSome step (λ s. IsFront buffer.new.rest (drop (length buffer.new.event) (bytes_from position.now.place name.now fs))))) (L.files files.old) }
+    ensures stays { Told (λ fs. IsFront buffer.old.rest (bytes_from position.now.place name.now fs)
+        → (is_out result ≡ true) ⊎ (result ≡ Ok None) → IsFront buffer.new.rest (bytes_from position.now.place name.now fs)) (L.files files.old) }
+    ensures moves { IfOk result (λ step. IfSome step (Moves position.now buffer.new.event)) }
+    ensures room { buffer.new.room ≤ max buffer.old.room 16777216 }
+    ensures same { L.files files.new ≡ L.files files.old }
+    ensures causes { HasCauses (L.faults files.old) (L.faults files.new) (L.absences files.old) (L.absences files.new) result }
+{
+    reach(buffer, position, files, name)?;
+    take_event(buffer, position, ring)
+}
