@@ -3,7 +3,8 @@ use Rattle.std.proofs.Common.{◌≡◌, ℕ, ◌+◌, ◌-◌, ◌*◌, ◌<◌
 use Rattle.std.proofs.lemmas.List.{length-replicate, take-replicate, drop-replicate, take-take, take-append-le}
 use Rattle.std.proofs.lemmas.Nat.{from_be_bytes-to_be_bytes_8}
 use Rattle.std.specs.Int.{to_be_bytes, from_be_bytes, w64}
-use Rattle.disk_model.specs.Event.{Event, Make, Write, Sync, put, zeros, range}
+use Rattle.byte_list.specs.Bytes.{zeros}
+use Rattle.disk_model.specs.Event.{Event, Make, Write, Sync, put, range}
 use Rattle.disk_model.specs.Image.{InFile}
 use Rattle.disk_model.specs.declared.names.FileName.TheVariants.{Log}
 use Rattle.disk_model.specs.Past.{Past, At, grow}
