@@ -101,8 +101,8 @@ impl<D: Disk + Drop> Engine<D> {
         ensures cause { IfErr result (λ r. r.why ≡ StartFault.DiskFault → Rose (D.faults disk) (D.faults r.disk)) }
         ensures want { IfErr result (λ r. r.why ≡ StartFault.OutOfMemory → Rose (D.wants disk) (D.wants r.disk)) }
         ensures tells { IfErr result (λ r. r.why ≡ StartFault.DiskFault → Somewhere D.may_fail_to_tell) }
-        ensures later { IfOk result (λ e. D.goes_on disk e.disk) }
-        ensures refused_later { IfErr result (λ r. D.goes_on disk r.disk) }
+        ensures later { IfOk result (λ e. D.is_later disk e.disk) }
+        ensures refused_later { IfErr result (λ r. D.is_later disk r.disk) }
     {
         let mut disk = disk;
         match tell_started(&mut disk) {
@@ -179,7 +179,7 @@ impl<D: Disk + Drop> Engine<D> {
         ensures starved { result ≡ Err EngineFault.OutOfMemory → (self.new.state ≡ State.Starved) × ((self.old.state ≡ State.Starved) ⊎ Rose (D.wants self.old.disk) (D.wants self.new.disk)) }
         ensures turns { OnOk result (self.new.turns ≡ turns_after self.old.turns (turns_of (length self.old.journal - self.old.settled))) }
         ensures turn { (turn : ℕ) → result ≡ Err (EngineFault.DiskFault turn) → turn ≤ turns_after self.old.turns (turns_of (length self.old.journal - self.old.settled)) }
-        ensures later { D.goes_on self.old.disk self.new.disk }
+        ensures later { D.is_later self.old.disk self.new.disk }
         ensures tells { (turn : ℕ) → result ≡ Err (EngineFault.DiskFault turn) → (self.new.settled ≡ self.old.settled) ⊎ Somewhere D.may_fail_to_tell }
         ensures unacked { OnErr result (self.new.acked ≡ self.old.acked) }
         ensures settled { OnErr result ((self.new.settled ≡ self.old.settled) ⊎ (self.new.settled ≡ length self.new.journal)) }

@@ -90,7 +90,7 @@ fn make_log<D: Disk>(disk: &mut D) -> Result<(), DiskError>
     ensures ok { OnOk result (At (IsNow (zeros 1060864)) (D.past disk.new)) }
     ensures cause { HasCause (D.faults disk.old) (D.faults disk.new) result }
     ensures want { HasWant (D.wants disk.old) (D.wants disk.new) result }
-    ensures later { D.goes_on disk.old disk.new }
+    ensures later { D.is_later disk.old disk.new }
 {
     disk.make(FileName::Log, LOG_BYTES)
 }
@@ -102,7 +102,7 @@ fn write_checkpoint<D: Disk>(disk: &mut D, block: &Block) -> Result<(), DiskErro
     ensures ok { OnOk result (At HasCheckpoint (D.past disk.new)) }
     ensures cause { HasCause (D.faults disk.old) (D.faults disk.new) result }
     ensures want { HasWant (D.wants disk.old) (D.wants disk.new) result }
-    ensures later { D.goes_on disk.old disk.new }
+    ensures later { D.is_later disk.old disk.new }
 {
     disk.write(FileName::Log, 8192, block.bytes())?;
     disk.sync(FileName::Log)
@@ -116,7 +116,7 @@ fn write_header<D: Disk>(disk: &mut D, block: &Block, spaces: &[SpaceInfo]) -> R
     ensures header { OnOk result (At (IsHeaded spaces.now) (D.past disk.new)) }
     ensures cause { HasCause (D.faults disk.old) (D.faults disk.new) result }
     ensures want { HasWant (D.wants disk.old) (D.wants disk.new) result }
-    ensures later { D.goes_on disk.old disk.new }
+    ensures later { D.is_later disk.old disk.new }
 {
     let _ = spaces;
     disk.write(FileName::Log, 0, block.bytes())?;
@@ -131,7 +131,7 @@ pub fn create<D: Disk>(alloc: Global, disk: &mut D, spaces: &[SpaceInfo]) -> Res
     ensures ok { OnOk result (At (Ready [] 0 0 0) (D.past disk.new)) }
     ensures header { OnOk result (At (IsHeaded spaces.now) (D.past disk.new)) }
     ensures cause { result ≡ Err StartFault.DiskFault → Rose (D.faults disk.old) (D.faults disk.new) }
-    ensures later { D.goes_on disk.old disk.new }
+    ensures later { D.is_later disk.old disk.new }
 {
     let checkpoint = checkpoint_block(alloc, 1, 2)?;
     let header = header_block(alloc, spaces)?;

@@ -21,7 +21,7 @@
 //!    memory leaves stands, whatever it keeps, loses or tears (`crash-stands`).
 //! 7. `scan` gives the texts of the longest run of valid blocks, as the disk reads. A file has one
 //!    such run, so an image that stands keeps as many entries as `scan` gives texts (`kept-scan`).
-//! 8. What a disk keeps over each of its calls (`goes_on`), `create`, `start`, `sync` and `scan`
+//! 8. What a disk keeps over each of its calls (`is_later`), `create`, `start`, `sync` and `scan`
 //!    keep too, and the other calls leave the disk as it was.
 //! 9. The log's file, which is interim: a header, two checkpoints and 256 ring blocks, of which each
 //!    holds one mini-transaction in clear. `create` makes it on a disk without a log.

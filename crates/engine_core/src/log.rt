@@ -54,7 +54,7 @@ pub fn write_block<D: Disk>(
     ensures step { Step (Moment log.now.blocks.items log.now.settled log.now.acked) (Ready log.now.blocks.items log.now.settled (i + 1) log.now.acked) (D.past disk.old) (D.past disk.new) result }
     ensures cause { HasCause (D.faults disk.old) (D.faults disk.new) result }
     ensures want { HasWant (D.wants disk.old) (D.wants disk.new) result }
-    ensures later { D.goes_on disk.old disk.new }
+    ensures later { D.is_later disk.old disk.new }
     ensures turns { turns.new ≡ turns_after turns.old 1 }
 {
     *turns = turns.saturating_add(1);
@@ -79,7 +79,7 @@ pub fn write_pending<D: Disk>(
     ensures step { Step (Moment log.now.blocks.items log.now.settled log.now.acked) (Ready log.now.blocks.items log.now.settled (length log.now.blocks.items) log.now.acked) (D.past disk.old) (D.past disk.new) result }
     ensures cause { HasCause (D.faults disk.old) (D.faults disk.new) result }
     ensures want { HasWant (D.wants disk.old) (D.wants disk.new) result }
-    ensures later { D.goes_on disk.old disk.new }
+    ensures later { D.is_later disk.old disk.new }
     ensures turns { OnOk result (turns.new ≡ turns_after turns.old (length log.now.blocks.items - log.now.settled)) }
     ensures failed { OnErr result (IsTurnOf (length log.now.blocks.items - log.now.settled) turns.old turns.new) }
 {
@@ -94,7 +94,7 @@ fn sync_log<D: Disk>(disk: &mut D, turns: &mut u64, log: &PlainLog) -> Result<()
     ensures step { Step (IsCrashSafe log.now.blocks.items) (Ready log.now.blocks.items (length log.now.blocks.items) (length log.now.blocks.items) log.now.acked) (D.past disk.old) (D.past disk.new) result }
     ensures cause { HasCause (D.faults disk.old) (D.faults disk.new) result }
     ensures want { HasWant (D.wants disk.old) (D.wants disk.new) result }
-    ensures later { D.goes_on disk.old disk.new }
+    ensures later { D.is_later disk.old disk.new }
     ensures same { OnErr result (D.past disk.new ≡ D.past disk.old) }
     ensures turns { turns.new ≡ turns_after turns.old 1 }
 {
@@ -112,7 +112,7 @@ pub fn write_out<D: Disk>(disk: &mut D, turns: &mut u64, log: &PlainLog) -> Resu
     ensures step { Step (IsCrashSafe log.now.blocks.items) (Ready log.now.blocks.items (length log.now.blocks.items) (length log.now.blocks.items) log.now.acked) (D.past disk.old) (D.past disk.new) result }
     ensures cause { HasCause (D.faults disk.old) (D.faults disk.new) result }
     ensures want { HasWant (D.wants disk.old) (D.wants disk.new) result }
-    ensures later { D.goes_on disk.old disk.new }
+    ensures later { D.is_later disk.old disk.new }
     ensures kept { OnErr result (At (Moment log.now.blocks.items log.now.settled log.now.acked) (D.past disk.new)) }
     ensures turns { OnOk result (turns.new ≡ turns_after turns.old (turns_of (length log.now.blocks.items - log.now.settled))) }
     ensures failed { OnErr result (IsTurnOf (turns_of (length log.now.blocks.items - log.now.settled)) turns.old turns.new) }
@@ -131,7 +131,7 @@ pub fn tell_acked<D: Disk>(disk: &mut D, log: &PlainLog) -> Result<(), DiskError
     ensures step { Step (Moment log.now.blocks.items log.now.settled log.now.acked) (Ready log.now.blocks.items log.now.settled log.now.settled log.now.settled) (D.past disk.old) (D.past disk.new) result }
     ensures cause { HasCause (D.faults disk.old) (D.faults disk.new) result }
     ensures want { HasWant (D.wants disk.old) (D.wants disk.new) result }
-    ensures later { D.goes_on disk.old disk.new }
+    ensures later { D.is_later disk.old disk.new }
     ensures tells { IsErrOf result DiskError.Failed → D.may_fail_to_tell disk.old }
 {
     disk.tell(Mark::Acked(log.settled as u64))
@@ -143,7 +143,7 @@ pub fn tell_started<D: Disk>(disk: &mut D) -> Result<(), DiskError>
     ensures step { Step (IsCrashSafe []) (Ready [] 0 0 0) (D.past disk.old) (D.past disk.new) result }
     ensures cause { HasCause (D.faults disk.old) (D.faults disk.new) result }
     ensures want { HasWant (D.wants disk.old) (D.wants disk.new) result }
-    ensures later { D.goes_on disk.old disk.new }
+    ensures later { D.is_later disk.old disk.new }
     ensures tells { IsErrOf result DiskError.Failed → D.may_fail_to_tell disk.old }
 {
     disk.tell(Mark::Started)

@@ -74,7 +74,7 @@ fn read_ring_block<D: Disk>(disk: &mut D, number: u64, buffer: &mut [u8]) -> Res
     ensures same { D.past disk.new ≡ D.past disk.old }
     ensures cause { HasCause (D.faults disk.old) (D.faults disk.new) result }
     ensures want { HasWant (D.wants disk.old) (D.wants disk.new) result }
-    ensures later { D.goes_on disk.old disk.new }
+    ensures later { D.is_later disk.old disk.new }
 {
     disk.read(FileName::Log, ring_place(number) * 4096, buffer)
 }
@@ -95,7 +95,7 @@ fn scan_into<D: Disk>(
     ensures run { IfOk result (λ texts. At (λ es. IsRunFrom 2 (reads Log es) texts.items) (D.past disk.old)) }
     ensures same { D.past disk.new ≡ D.past disk.old }
     ensures cause { result ≡ Err StartFault.DiskFault → Rose (D.faults disk.old) (D.faults disk.new) }
-    ensures later { D.goes_on disk.old disk.new }
+    ensures later { D.is_later disk.old disk.new }
 {
     let mut texts = Vec::new(alloc);
     for i in 0..256u64 {
@@ -119,7 +119,7 @@ pub fn scan<D: Disk>(alloc: Global, disk: &mut D) -> Result<Vec<Piece>, StartFau
     ensures run { IfOk result (λ texts. At (λ es. IsRunFrom 2 (reads Log es) texts.items) (D.past disk.old)) }
     ensures same { D.past disk.new ≡ D.past disk.old }
     ensures cause { result ≡ Err StartFault.DiskFault → Rose (D.faults disk.old) (D.faults disk.new) }
-    ensures later { D.goes_on disk.old disk.new }
+    ensures later { D.is_later disk.old disk.new }
 {
     let mut buffer = [0u8; 4096];
     scan_into(alloc, disk, &mut buffer)

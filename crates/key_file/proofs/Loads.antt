@@ -17,8 +17,8 @@ module _ (files : Files) (filekey : Option (List ℕ)) (digest : KeyDigest) (nam
   -- the file of index i gives keys
   more : (i : ℕ) (name : List ℕ) (ring next : List Entry) (keys : List KeyItem) → KeysOf files i filekey digest name (Ok keys) → HasKeys ring keys (i + 1) next
       → (rest : List (List ℕ)) (r : Result (List Entry) LoadFault) → LoadsFrom files filekey digest (i + 1) rest next r → LoadsFrom files filekey digest i (name ∷ rest) ring r
-  more i name ring next keys gives has rest (Ok last) h = (keys, gives, record { ring = next; added = has; goes_on = h })
-  more i name ring next keys gives has rest (Err fault) h = inr (keys, gives, record { ring = next; added = has; goes_on = h })
+  more i name ring next keys gives has rest (Ok last) h = (keys, gives, record { ring = next; added = has; rest_loads = h })
+  more i name ring next keys gives has rest (Err fault) h = inr (keys, gives, record { ring = next; added = has; rest_loads = h })
 
   pub loads_more : (i : ℕ) (name : List ℕ) → i < length names → get_or names i name ≡ name → (ring next : List Entry) (keys : List KeyItem)
       → KeysOf files i filekey digest name (Ok keys) → HasKeys ring keys (i + 1) next

@@ -125,22 +125,22 @@ module _ (files : Files) (filekey : Option (List ℕ)) (digest : KeyDigest) wher
   LoadsFrom-unique [] n ring other same (Err f) s h k = cc
   LoadsFrom-unique (name ∷ names) n ring other same (Ok a) (Ok b) h k =
       LoadsFrom-unique names (n + 1) h.2.ring k.2.ring (same_next ring other h.2.ring k.2.ring h.0 k.0 (n + 1) same (same_keys n name h.0 k.0 h.1 k.1) h.2.added k.2.added)
-      (Ok a) (Ok b) h.2.goes_on k.2.goes_on
+      (Ok a) (Ok b) h.2.rest_loads k.2.rest_loads
   LoadsFrom-unique (name ∷ names) n ring other same (Ok a) (Err g) h (inl k) = no_keys n name h.0 g h.1 k
   LoadsFrom-unique (name ∷ names) n ring other same (Ok a) (Err g) h (inr k) =
       LoadsFrom-unique names (n + 1) h.2.ring k.2.ring (same_next ring other h.2.ring k.2.ring h.0 k.0 (n + 1) same (same_keys n name h.0 k.0 h.1 k.1) h.2.added k.2.added)
-      (Ok a) (Err g) h.2.goes_on k.2.goes_on
+      (Ok a) (Err g) h.2.rest_loads k.2.rest_loads
   LoadsFrom-unique (name ∷ names) n ring other same (Err f) (Ok b) (inl h) k = no_keys n name k.0 f k.1 h
   LoadsFrom-unique (name ∷ names) n ring other same (Err f) (Ok b) (inr h) k =
       LoadsFrom-unique names (n + 1) h.2.ring k.2.ring (same_next ring other h.2.ring k.2.ring h.0 k.0 (n + 1) same (same_keys n name h.0 k.0 h.1 k.1) h.2.added k.2.added)
-      (Err f) (Ok b) h.2.goes_on k.2.goes_on
+      (Err f) (Ok b) h.2.rest_loads k.2.rest_loads
   LoadsFrom-unique (name ∷ names) n ring other same (Err f) (Err g) (inl h) (inl k) =
       let same = KeysOf-unique files n filekey digest name (Err f) (Err g) h k in cc
   LoadsFrom-unique (name ∷ names) n ring other same (Err f) (Err g) (inl h) (inr k) = absurd (no_keys n name k.0 f k.1 h)
   LoadsFrom-unique (name ∷ names) n ring other same (Err f) (Err g) (inr h) (inl k) = absurd (no_keys n name h.0 g h.1 k)
   LoadsFrom-unique (name ∷ names) n ring other same (Err f) (Err g) (inr h) (inr k) =
       LoadsFrom-unique names (n + 1) h.2.ring k.2.ring (same_next ring other h.2.ring k.2.ring h.0 k.0 (n + 1) same (same_keys n name h.0 k.0 h.1 k.1) h.2.added k.2.added)
-      (Err f) (Err g) h.2.goes_on k.2.goes_on
+      (Err f) (Err g) h.2.rest_loads k.2.rest_loads
 
   -- what the files give is the answer
   pub the_answer : (names : List (List ℕ)) (r : Result (List Entry) LoadFault) → LoadsFrom files filekey digest 0 names [] r → IsTheAnswer files filekey digest names r

@@ -16,7 +16,7 @@ module _ (files : Files) (filekey : Option (List ℕ)) (digest : KeyDigest) wher
       → (id v : ℕ) → v ≤ n → key_of last id v ≡ key_of ring id v
   kept n [] ring last h id v le = let same : last ≡ ring = cc in ap (λ (r : List Entry). key_of r id v) same
   kept n (name ∷ names) ring last h id v le =
-      kept (n + 1) names h.2.ring last h.2.goes_on id v (omega arith)
+      kept (n + 1) names h.2.ring last h.2.rest_loads id v (omega arith)
       ∙ h.2.added.keys_are id v ∙ rw (ne-eqb v (n + 1) (λ e. omega arith)) refl
 
   -- each file reads, and its keys are those of its version
@@ -28,10 +28,10 @@ module _ (files : Files) (filekey : Option (List ℕ)) (digest : KeyDigest) wher
     h.0,
     subst (λ (i : ℕ). KeysOf files i filekey digest name (Ok h.0)) (omega arith) h.1,
     λ id. subst (λ (i : ℕ). key_of last id (i + 1) ≡ key_in h.0 id) (omega arith)
-        (kept (n + 1) names h.2.ring last h.2.goes_on id (n + 1) (omega arith) ∙ h.2.added.keys_are id (n + 1) ∙ rw (eq-eqb (n + 1) (n + 1) refl) refl),
+        (kept (n + 1) names h.2.ring last h.2.rest_loads id (n + 1) (omega arith) ∙ h.2.added.keys_are id (n + 1) ∙ rw (eq-eqb (n + 1) (n + 1) refl) refl),
   )
   version_of_file n (name ∷ names) ring last h (suc k) d l =
-      let later = version_of_file (n + 1) names h.2.ring last h.2.goes_on k d (omega arith) in
+      let later = version_of_file (n + 1) names h.2.ring last h.2.rest_loads k d (omega arith) in
       let same : n + 1 + k ≡ n + suc k = omega arith in (
         later.0,
         subst (λ (i : ℕ). KeysOf files i filekey digest (get_or names k d) (Ok later.0)) same later.1,

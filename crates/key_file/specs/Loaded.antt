@@ -18,7 +18,7 @@ pub record HasKeys (old : List Entry) (keys : List KeyItem) (version : ℕ) (new
 pub record NextRing (old : List Entry) (keys : List KeyItem) (version : ℕ) (rest : List Entry → Type 0) : Type 0 where
   pub ring : List Entry
   pub added : HasKeys old keys version ring
-  pub goes_on : rest ring
+  pub rest_loads : rest ring
 
 -- what the files of these names give, the first of index n, to a ring that has the keys of those before:
 -- the ring with all keys, those of file k as version k + 1, or the first fault in order of files

@@ -8,7 +8,7 @@ use Rattle.disk_model.specs.Crash.{Pending, IsCrash, choice_at, chosen, left_of,
 use Rattle.disk_model.specs.Image.{InFile}
 use Rattle.disk_model.specs.declared.names.FileName.{FileName}
 use Rattle.disk_model.specs.declared.names.FileName.TheVariants.{Log}
-use Rattle.disk_model.specs.declared.contents.Contents.{Contents}
+use Rattle.disk_model.specs.declared.contents.DiskContents.{DiskContents}
 use Rattle.disk_model.specs.declared.calls.Choice.{Choice}
 use Rattle.disk_model.specs.declared.calls.Choice.TheVariants.{Lost}
 use Rattle.disk_model.proofs.FilesLemmas.{file_in-none}
@@ -19,7 +19,7 @@ use Rattle.engine_core.specs.Kept.{IsExact}
 use Rattle.engine_core.proofs.Crashes.{crash-stands}
 use Rattle.engine_core.proofs.RunLength.{settled-scan}
 use Rattle.std.proofs.lemmas.Bool.Decides.{nat_tests}
-use Rattle.disk_model.specs.Log.{GoesOn}
+use Rattle.disk_model.specs.Log.{IsLaterLog}
 use Rattle.disk_model.specs.Marks.{acked as acked_of}
 use Rattle.disk_model.specs.Turns.{later_turn, turns_in, faults_in, are_planned}
 use Rattle.disk_model.specs.Image.{IsLucky}
@@ -39,7 +39,7 @@ there_once : (origin : List (FileName × List ℕ)) (b : Bool) → has_file Log 
 there_once origin true is size = is
 there_once origin false is size = let none : 0 ≡ 1060864 = sym (ap length (file_in-none Log origin is)) ∙ size in absurd (omega (arith, none))
 
-pub begun-there : (c : Contents) → calls_since c ≡ [] → length (reads Log (events c)) ≡ 1060864 → is_there Log (events c) ≡ true
+pub begun-there : (c : DiskContents) → calls_since c ≡ [] → length (reads Log (events c)) ≡ 1060864 → is_there Log (events c) ≡ true
 begun-there c none size =
     let first = replay [] (take c.log.began c.log.calls.items) in
     let opened : List Event = Open (first_files c) (marks first) (record_of first) ∷ [] in
@@ -59,7 +59,7 @@ left-lost choices some lost f (w ∷ older) file = by (left-lost choices some lo
     by rest true = ap (λ how. chosen how w.at w.bytes (left_of f (with_choices choices older) file)) (choice-lost choices (length older) some lost) ∙ rest
     by rest false = rest
 
-module _ (journal : List Entry) (choices : List Choice) (es : List Event) (after : Contents) (refusable : AllRefusable es) (crash : IsCrash choices es (events after)) where
+module _ (journal : List Entry) (choices : List Choice) (es : List Event) (after : DiskContents) (refusable : AllRefusable es) (crash : IsCrash choices es (events after)) where
   -- the image has the log that a scan reads
   pub crash-inside : calls_since after ≡ [] → AllStand journal es → InFile Log 0 1060864 (events after)
   crash-inside none all =
@@ -91,7 +91,7 @@ none-failed begun (Some turn) cs planned is some =
     by false not is late = let le : nat_le (later_turn begun turn) (turns_in cs) ≡ true = grind (arith, nat_tests) in absurd (true≢false (sym le ∙ not))
 
 -- the facts of a session and of its disk's crash, together
-module _ (plan : DrillPlan) (statements : List Statement) (first : Contents) (begins : Begins plan.space plan.stop first) (d : Drilled) (later : GoesOn first.log d.end.disk.contents.log) where
+module _ (plan : DrillPlan) (statements : List Statement) (first : DiskContents) (begins : Begins plan.space plan.stop first) (d : Drilled) (later : IsLaterLog first.log d.end.disk.contents.log) where
   planned : are_planned [] first.log.stop 0 (calls_since d.end.disk.contents) ≡ true
   planned =
       let log = d.end.disk.contents.log in

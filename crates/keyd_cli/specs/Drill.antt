@@ -5,10 +5,10 @@ use Rattle.disk_model.specs.Event.{marks}
 use Rattle.disk_model.specs.Image.{IsLucky}
 use Rattle.disk_model.specs.Crash.{crash_image}
 use Rattle.disk_model.specs.Contents.{events, calls_since}
-use Rattle.disk_model.specs.Log.{GoesOn}
+use Rattle.disk_model.specs.Log.{IsLaterLog}
 use Rattle.disk_model.specs.Turns.{later_turn, turns_in, are_planned}
 use Rattle.disk_model.specs.Marks.{acked as acked_of}
-use Rattle.disk_model.specs.declared.contents.Contents.{Contents}
+use Rattle.disk_model.specs.declared.contents.DiskContents.{DiskContents}
 use Rattle.disk_model.specs.declared.calls.Choice.{Choice}
 use Rattle.disk_model.specs.declared.calls.Choice.TheVariants.{Lost}
 use Rattle.space_head.specs.declared.space.SpaceInfo.{SpaceInfo}
@@ -36,7 +36,7 @@ stopped_by begun turns None = None
 stopped_by begun turns (Some turn) = if nat_le (later_turn begun turn) turns then Some turn else None
 
 -- The disk as the session begins: the store has this space and no used page, and from the session's stop on each turn is to fail.
-pub record Begins (space : SpaceWords) (turn : Option ℕ) (first : Contents) : Type 0 where
+pub record Begins (space : SpaceWords) (turn : Option ℕ) (first : DiskContents) : Type 0 where
   pub empty : Ready [] 0 0 0 (events first)
   pub headed : IsHeaded (info_of space ∷ []) (events first)
   pub failing : first.log.failing.items ≡ []
@@ -48,9 +48,9 @@ AreLost choices = All (λ c. c ≡ Lost) choices
 
 -- The session ran on the disk as it began, that disk's crash keeps so many entries of the journal, and no more than these were acknowledged.
 pub record IsDrilled (plan : DrillPlan) (statements : List Statement) (d : Drilled) : Type 0 where
-  pub first : Contents
+  pub first : DiskContents
   pub begins : Begins plan.space plan.stop first
-  pub later : GoesOn first.log d.end.disk.contents.log
+  pub later : IsLaterLog first.log d.end.disk.contents.log
   -- no turn before the stop failed, and each from it on did, but where memory was refused
   pub planned : are_planned [] first.log.stop 0 (calls_since d.end.disk.contents) ≡ true
   pub stopped : d.end.stopped ≡ stopped_by first.log.turns (turns_in (calls_since d.end.disk.contents)) plan.stop

@@ -5,7 +5,7 @@ ghost use Rattle.disk_model.specs.Crash.{crash_image};
 ghost use Rattle.disk_model.specs.Image.{IsLucky};
 ghost use Rattle.disk_model.specs.Past.{At};
 ghost use Rattle.disk_model.specs.Turns.{turns_in};
-ghost use Rattle.disk_model.specs.Log.{GoesOn};
+ghost use Rattle.disk_model.specs.Log.{IsLaterLog};
 ghost use Rattle.engine_core.specs.Layer.{Ready};
 ghost use Rattle.engine_core.specs.Made.{IsHeaded};
 ghost use Rattle.engine_core.specs.Kept.{IsExact};
@@ -111,7 +111,7 @@ fn started(alloc: Global, disk: MemDisk) -> Result<Engine<MemDisk>, OutOfMemory>
     ensures journal { IfOk result (λ e. e.journal ≡ []) }
     ensures acked { IfOk result (λ e. e.acked ≡ 0) }
     ensures state { IfOk result (λ e. e.state ≡ state.Up) }
-    ensures later { IfOk result (λ e. GoesOn disk.contents.log e.disk.contents.log) }
+    ensures later { IfOk result (λ e. IsLaterLog disk.contents.log e.disk.contents.log) }
 {
     match Engine::start(alloc, disk) {
         Ok(engine) => Ok(engine),

@@ -66,7 +66,7 @@ module _ {M : Type 0} (N : ℕ) (F : Form M) (read : ℕ → List ℕ) (from : �
         others = λ m low high. absurd (omega (arith, low, high));
         before = λ m low high. absurd (omega (arith, low, high));
       })
-      by false goes_on is = subst (λ (i : ℕ). IsScanned N F read from i (n + 1)) (sym is) (record {
+      by false is_later is = subst (λ (i : ℕ). IsScanned N F read from i (n + 1)) (sym is) (record {
         parts = r.parts;
         whole = r.whole;
         low = r.low;
@@ -74,7 +74,7 @@ module _ {M : Type 0} (N : ℕ) (F : Form M) (read : ℕ → List ℕ) (from : �
         valid = valid_up;
         first = λ lt. first_up;
         others = others_up;
-        before = λ m low high. ⊎_elim (λ (lt : m < n). r.before m low lt) (λ (ge : n ≤ m). let e : m ≡ n = omega (arith, high, ge) in ap (λ (i : ℕ). ends (read i)) e ∙ goes_on) (cases_lt m n);
+        before = λ m low high. ⊎_elim (λ (lt : m < n). r.before m low lt) (λ (ge : n ≤ m). let e : m ≡ n = omega (arith, high, ge) in ap (λ (i : ℕ). ends (read i)) e ∙ is_later) (cases_lt m n);
       })
 
   -- what ends among the blocks that were read has ended

@@ -29,8 +29,8 @@ not_less blocks file n k j wk wj lt =
     let below_k : i < k = omega arith in
     let below_j : i < j = omega arith in
     let ends : nat_eq (i + 1) k ≡ true = let e : i + 1 ≡ k = omega arith in grind (arith, nat_tests) in
-    let goes_on : nat_eq (i + 1) j ≡ false = let e : i + 1 ≡ k = omega arith in grind (arith, nat_tests) in
-    true≢false (sym ends ∙ sym (wk.last i below_k) ∙ wj.last i below_j ∙ goes_on)
+    let is_later : nat_eq (i + 1) j ≡ false = let e : i + 1 ≡ k = omega arith in grind (arith, nat_tests) in
+    true≢false (sym ends ∙ sym (wk.last i below_k) ∙ wj.last i below_j ∙ is_later)
 
 pub whole_one : (blocks : ℕ) (file : List ℕ) (n k j : ℕ) → IsWhole blocks file n k → IsWhole blocks file n j → k ≡ j
 whole_one blocks file n k j wk wj = by (cases_lt k j) (cases_lt j k)

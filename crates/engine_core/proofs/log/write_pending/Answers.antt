@@ -14,7 +14,7 @@ loop-i-init g c = record {
   turns = turns_same c.args.turns.now _ c.requires.counted (omega arith);
   faults = omega arith;
   wants = omega arith;
-  later = g.met.D.Disk.goes_on_same c.args.disk.now;
+  later = g.met.D.Disk.is_later_reflexive c.args.disk.now;
 }
 
 pub write_block-requires-clause-ready : goal.write_block-requires-clause-ready
@@ -32,7 +32,7 @@ loop-i-preserved g c = record {
       c.in_ok-write_block.ensures.turns ∙ ap (λ n. turns_after n 1) c.loop-i.invariant.turns ∙ turns_more c.args.turns.now (c.loop-i.i - c.args.log.now.settled) 1 ∙ ap (turns_after c.args.turns.now) before;
   faults = omega (arith, c.loop-i.invariant.faults, c.in_ok-write_block.ensures.cause.later);
   wants = omega (arith, c.loop-i.invariant.wants, c.in_ok-write_block.ensures.want.later);
-  later = g.met.D.Disk.goes_on_then _ _ _ c.loop-i.invariant.later c.in_ok-write_block.ensures.later;
+  later = g.met.D.Disk.is_later_transitive _ _ _ c.loop-i.invariant.later c.in_ok-write_block.ensures.later;
 }
 
 pub returns-clause-step : goal.returns-clause-step

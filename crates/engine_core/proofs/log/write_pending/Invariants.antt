@@ -11,5 +11,5 @@ invariant-loop-i g l = record {
   turns : l.turns ≡ turns_after l.fn.turns (l.i - l.log.settled);
   faults : g.D.Disk.faults l.fn.disk ≤ g.D.Disk.faults l.disk;
   wants : g.D.Disk.wants l.fn.disk ≤ g.D.Disk.wants l.disk;
-  later : g.D.Disk.goes_on l.fn.disk l.disk;
+  later : g.D.Disk.is_later l.fn.disk l.disk;
 }

@@ -24,7 +24,7 @@ loop-i-preserved g c =
           (at_both (λ es has is. scan_more c.loop-i.texts.items c.loop-i.i c.read_ring_block.new.buffer c.loop-i.invariant.count (reads Log es) has is c.in_ok-piece.piece block)
           c.loop-i.invariant.texts (at_is (sym c.loop-i.invariant.same) c.in_ok-read_ring_block.ensures.block));
       faults = omega (arith, c.loop-i.invariant.faults, c.in_ok-read_ring_block.ensures.cause.later);
-      later = g.met.D.Disk.goes_on_then _ _ _ c.loop-i.invariant.later c.in_ok-read_ring_block.ensures.later;
+      later = g.met.D.Disk.is_later_transitive _ _ _ c.loop-i.invariant.later c.in_ok-read_ring_block.ensures.later;
     }
 
 pub returns-clause-run : goal.returns-clause-run

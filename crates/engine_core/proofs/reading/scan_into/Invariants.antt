@@ -11,5 +11,5 @@ invariant-loop-i g l = record {
   count : length l.texts.items ≡ l.i;
   texts : At (λ es. HasTexts 2 (reads Log es) l.texts.items) (g.D.Disk.past l.fn.disk);
   faults : g.D.Disk.faults l.fn.disk ≤ g.D.Disk.faults l.disk;
-  later : g.D.Disk.goes_on l.fn.disk l.disk;
+  later : g.D.Disk.is_later l.fn.disk l.disk;
 }

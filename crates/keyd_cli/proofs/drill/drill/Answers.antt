@@ -1,6 +1,6 @@
 use Rattle.std.proofs.Common.{◌≡◌, ◌≢◌, ℕ, ◌≤◌, List, length, refl, sym, ◌∙◌, subst, ⊎_elim, None}
 use Rattle.disk_model.specs.Contents.{events}
-use Rattle.disk_model.specs.Log.{GoesOn, goes_on_then}
+use Rattle.disk_model.specs.Log.{IsLaterLog, is_later_transitive}
 use Rattle.disk_model.specs.Crash.{crash_image}
 use Rattle.disk_model.specs.Image.{IsLucky}
 use Rattle.disk_model.specs.declared.calls.Choice.{Choice}
@@ -26,8 +26,8 @@ returns c =
     let j : c.halt-halted.result.journal ≡ e.journal = halted.journal in
     let k : c.halt-halted.result.disk ≡ e.disk = halted.disk in
     let a : c.acked-acked.result ≡ e.acked = c.acked-acked.ensures in
-    let later : GoesOn c.in_ok-begun.field-0.contents.log c.halt-halted.result.disk.contents.log =
-    subst (λ (disk : MemDisk). GoesOn c.in_ok-begun.field-0.contents.log disk.contents.log) (sym k) (goes_on_then _ _ _ c.in_ok-engine.ensures.later ran.later) in
+    let later : IsLaterLog c.in_ok-begun.field-0.contents.log c.halt-halted.result.disk.contents.log =
+    subst (λ (disk : MemDisk). IsLaterLog c.in_ok-begun.field-0.contents.log disk.contents.log) (sym k) (is_later_transitive _ _ _ c.in_ok-engine.ensures.later ran.later) in
     drilled c.args.plan.now c.args.statements.items c.in_ok-begun.field-0.contents c.in_ok-begun.ensures (record { journal = c.halt-halted.result.journal; replies = c.in_ok-ran.ran.replies; end = record { stopped = c.stopped_at.result; journal = c.len.result; acked = c.acked-acked.result; kept = c.in_ok-kept.kept; disk = c.halt-halted.result.disk; rest = None } }) later e.settled e.state c.in_ok-ran.ran.is_whole
     (subst (λ (journal : List Entry). HasRun c.args.statements.items c.in_ok-ran.ran.is_whole journal c.in_ok-ran.ran.replies.items) (sym j) ran.ran)
     (subst (λ (acked : ℕ). AreAckedWithin acked c.in_ok-ran.ran.replies.items) (sym a) ran.acked)

@@ -34,7 +34,7 @@ loop-statement-preserved g c =
       up = done.2;
       within = acked.0;
       low = acked.1;
-      later = g.met.D.Disk.goes_on_then c.args.engine.now.disk c.loop-statement.engine.disk c.answer.new.engine.disk i.later c.answer.ensures.later;
+      later = g.met.D.Disk.is_later_transitive c.args.engine.now.disk c.loop-statement.engine.disk c.answer.new.engine.disk i.later c.answer.ensures.later;
     }
 
 pub loop-statement-init : goal.loop-statement-init
@@ -47,7 +47,7 @@ loop-statement-init g c = record {
   up = c.requires.up;
   within = subst (AreAckedWithin c.args.engine.now.acked) (sym c.new-replies.ensures.items) tt;
   low = omega (arith, c.requires.unacked);
-  later = g.met.D.Disk.goes_on_same c.args.engine.now.disk;
+  later = g.met.D.Disk.is_later_reflexive c.args.engine.now.disk;
 }
 
 pub returns-in_default-clause-acked : goal.returns-in_default-clause-acked
@@ -57,4 +57,4 @@ returns-in_default-clause-acked g c =
 
 pub returns-in_default-clause-later : goal.returns-in_default-clause-later
 returns-in_default-clause-later g c =
-    g.met.D.Disk.goes_on_then c.args.engine.now.disk c.loop-statement.engine.disk c.answer.new.engine.disk c.loop-statement.invariant.later c.answer.ensures.later
+    g.met.D.Disk.is_later_transitive c.args.engine.now.disk c.loop-statement.engine.disk c.answer.new.engine.disk c.loop-statement.invariant.later c.answer.ensures.later

@@ -14,5 +14,5 @@ invariant-loop-statement g l = record {
   up : l.engine.state ≡ state.Up;
   within : AreAckedWithin l.engine.acked l.replies.items;
   low : l.engine.acked ≤ length l.engine.journal;
-  later : g.D.Disk.goes_on l.fn.engine.disk l.engine.disk;
+  later : g.D.Disk.is_later l.fn.engine.disk l.engine.disk;
 }
