@@ -5,7 +5,7 @@ use Rattle.std.specs.Str.{bytes_eq}
 use Rattle.std.proofs.Math.Nat.{add-mod_right}
 use Rattle.std.proofs.lemmas.Bool.Decides.{nat_tests}
 use Rattle.std.proofs.lemmas.Bool.{cases_lt}
-use Rattle.key_ring.specs.Ring.{Entry}
+use Rattle.key_ring.specs.Ring.{RingEntry}
 use Rattle.key_ring.specs.Local.{local_key}
 use Rattle.places.specs.Places.{place}
 use Rattle.byte_list.specs.Fields.{be64_at}
@@ -66,7 +66,7 @@ from_check i b c is = by (checkpoint_in i b) is
         one : (x : Check) → Some x ≡ Some c → x ≡ c
         one x e = cc
 
-module _ (Reads : List ℕ → List Change → Type 0) (reads_one : (text : List ℕ) (x y : List Change) → Reads text x → Reads text y → x ≡ y) (header : Header) (keys : List Entry) where
+module _ (Reads : List ℕ → List Change → Type 0) (reads_one : (text : List ℕ) (x y : List Change) → Reads text x → Reads text y → x ≡ y) (header : Header) (keys : List RingEntry) where
   texts_one : (bs : List (List ℕ)) (t u : List ℕ) → AreTexts Reads header keys bs t → AreTexts Reads header keys bs u → t ≡ u
   texts_one [] t u a b = a ∙ sym b
   texts_one (x ∷ xs) t u (l, r, kl, hr, et) (m, s, km, hs, eu) =
@@ -86,7 +86,7 @@ module _ (Reads : List ℕ → List Change → Type 0) (reads_one : (text : List
     mtr_one = λ n bs x y (t, ht, rx) (u, hu, ry). reads_one u x y (subst (λ (l : List ℕ). Reads l x) (texts_one bs t u ht hu) rx) ry;
   }
 
-module _ (Reads : List ℕ → List Change → Type 0) (header : Header) (keys : List Entry) (file : List ℕ) where
+module _ (Reads : List ℕ → List Change → Type 0) (header : Header) (keys : List RingEntry) (file : List ℕ) where
   abbrev F : Form (List Change)
   F = log_form Reads header keys
 

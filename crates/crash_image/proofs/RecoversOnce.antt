@@ -2,7 +2,7 @@
 use Rattle.std.proofs.Common.{◌≡◌, ◌≢◌, ℕ, ◌+◌, true, List, Option, Some, None, refl, sym, ap, subst, ◌∙◌, arith}
 use Rattle.disk_model.specs.Image.{Image}
 use Rattle.disk_model.specs.declared.names.FileName.TheVariants.{Log}
-use Rattle.key_ring.specs.Ring.{Entry}
+use Rattle.key_ring.specs.Ring.{RingEntry}
 use Rattle.places.specs.Places.{place}
 use Rattle.page_places.specs.Views.{view}
 use Rattle.store_image.specs.Places.{LogView}
@@ -21,14 +21,14 @@ use Rattle.crash_image.specs.StoreTheory.{store_theory}
 use Rattle.crash_image.specs.Recovers.{RecoversBy, Recovers}
 
 -- the text of a page 0 says one thing, whatever the salts are
-head_text_one : (header : Header) (keys : List Entry) (a b : ℕ → List ℕ) (s : ℕ) (t : Text) (x y : Page) → MeansPage header keys a s 0 t x → MeansPage header keys b s 0 t y → x ≡ y
+head_text_one : (header : Header) (keys : List RingEntry) (a b : ℕ → List ℕ) (s : ℕ) (t : Text) (x y : Page) → MeansPage header keys a s 0 t x → MeansPage header keys b s 0 t y → x ≡ y
 head_text_one header keys a b s t (Head i) (Head j) m n = means_one header keys a s 0 t (Head i) (Head j) m n
 head_text_one header keys a b s t (Head i) Unused m n = elim n [ ]
 head_text_one header keys a b s t (Head i) (Used y) m n = absurd (n.0 refl)
 head_text_one header keys a b s t Unused y m n = elim m [ ]
 head_text_one header keys a b s t (Used x) y m n = absurd (m.0 refl)
 
-module _ (header : Header) (keys : List Entry) (v : View (List Change)) where
+module _ (header : Header) (keys : List RingEntry) (v : View (List Change)) where
   gives_head : (a b : ℕ → List ℕ) (c d : ℕ → ℕ → Page) (s : ℕ) (chosen : Option Text) → pages.Gives (store_theory header keys a) v c s 0 chosen → pages.Gives (store_theory header keys b) v d s 0 chosen → c s 0 ≡ d s 0
   gives_head a b c d s (Some t) (x, mx, lx, cx) (y, my, ly, dy) = cx ∙ ap (λ (z : Page). pages.later (store_theory header keys a) t.lsn v.run s 0 z) (head_text_one header keys a b s t x y mx my) ∙ sym dy
   gives_head a b c d s None (z, cx) (w, dy) = absurd (z refl)
@@ -36,7 +36,7 @@ module _ (header : Header) (keys : List Entry) (v : View (List Change)) where
   head_one : (a b : ℕ → List ℕ) (c d : ℕ → ℕ → Page) (s : ℕ) → pages.PageRecovers (store_theory header keys a) v c s 0 → pages.PageRecovers (store_theory header keys b) v d s 0 → c s 0 ≡ d s 0
   head_one a b c d s p q = gives_head a b c d s q.chosen (subst (pages.Gives (store_theory header keys a) v c s 0) (chosen_one v s 0 p.chosen q.chosen p.is q.is) p.gives) q.gives
 
-module _ (Reads : List ℕ → List Change → Type 0) (reads_one : (text : List ℕ) (x y : List Change) → Reads text x → Reads text y → x ≡ y) (image : Image) (keys : List Entry) where
+module _ (Reads : List ℕ → List Change → Type 0) (reads_one : (text : List ℕ) (x y : List Change) → Reads text x → Reads text y → x ≡ y) (image : Image) (keys : List RingEntry) where
   by_one : (header : Header) (log : LogView (List Change)) (c d : List SpaceContents) → are_in_order 0 header.spaces ≡ true → RecoversBy Reads image keys header log c → RecoversBy Reads image keys header log d → c ≡ d
   by_one header log c d order rc rd =
       let v = view log image in

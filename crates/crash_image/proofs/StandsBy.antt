@@ -4,7 +4,7 @@ use Rattle.std.specs.Prelude.{Contains}
 use Rattle.disk_model.specs.Image.{Image}
 use Rattle.disk_model.specs.Marks.{acked, minimum_of}
 use Rattle.disk_model.specs.declared.names.FileName.TheVariants.{Log, Space}
-use Rattle.key_ring.specs.Ring.{Entry}
+use Rattle.key_ring.specs.Ring.{RingEntry}
 use Rattle.places.specs.Places.{place}
 use Rattle.page_places.specs.Placed.{IsPlaced}
 use Rattle.page_places.specs.Views.{view}
@@ -45,7 +45,7 @@ module _ (T : pages.Theory) (v : View T.M) (c d : pages.PageContents T) (same : 
 
 -- ---- journals
 
-module _ (header : Header) (keys : List Entry) (salts : ℕ → List ℕ) where
+module _ (header : Header) (keys : List RingEntry) (salts : ℕ → List ℕ) where
   abbrev T : pages.Theory
   T = store_theory header keys salts
 
@@ -62,7 +62,7 @@ module _ (header : Header) (keys : List Entry) (salts : ℕ → List ℕ) where
       ∙ ap (λ (x : Page). pages.fold_page T es s p x) (sym (pages_after e.mtr header.spaces base have s p there))
       ∙ folded es (fold (e.mtr ∷ []) base) (spaces_after e.mtr header.spaces base have) (pages_of (fold (e.mtr ∷ []) base)) (λ r q is. refl) s p there
 
-module _ (Reads : List ℕ → List Change → Type 0) (image : Image) (keys : List Entry) (header : Header) (log : LogView (List Change)) where
+module _ (Reads : List ℕ → List Change → Type 0) (image : Image) (keys : List RingEntry) (header : Header) (log : LogView (List Change)) where
   -- what the files say beside the pages
   pub record Reading (spaces_of : List SpaceContents) : Type 0 where
     pub is_header : HasHeader image header

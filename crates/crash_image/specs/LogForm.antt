@@ -1,6 +1,6 @@
 -- A store's ring blocks and checkpoints, in the words of the ring's law.
 use Rattle.std.specs.Prelude.{◌≡◌, ℕ, List, [], ◌∷◌, ◌++◌, Option, Some, None}
-use Rattle.key_ring.specs.Ring.{Entry}
+use Rattle.key_ring.specs.Ring.{RingEntry}
 use Rattle.key_ring.specs.Local.{local_key}
 use Rattle.page_places.specs.Texts.{ends_in_sum}
 use Rattle.ring_log.specs.Ring.{Check, Form}
@@ -13,7 +13,7 @@ abbrev pub check_of : Option Checkpoint → Option Check
 check_of None = None
 check_of (Some c) = Some (record { sequence = c.sequence; from = c.from })
 
-module _ (Reads : List ℕ → List Change → Type 0) (header : Header) (keys : List Entry) where
+module _ (Reads : List ℕ → List Change → Type 0) (header : Header) (keys : List RingEntry) where
   -- the text in these blocks, each under the local key of id 1 at its version
   abbrev pub AreTexts : List (List ℕ) → List ℕ → Type 0
   AreTexts [] text = text ≡ []

@@ -2,7 +2,7 @@
 use Rattle.std.specs.Prelude.{◌≡◌, ◌≢◌, ℕ, ◌+◌, ◌*◌, true, List, [], ◌∷◌, length, Some}
 use Rattle.disk_model.specs.Image.{Image}
 use Rattle.disk_model.specs.declared.names.FileName.TheVariants.{Log, Double, Space}
-use Rattle.key_ring.specs.Ring.{Entry}
+use Rattle.key_ring.specs.Ring.{RingEntry}
 use Rattle.places.specs.Places.{place}
 use Rattle.page_places.specs.Placed.{IsPlaced}
 use Rattle.page_places.specs.Views.{view}
@@ -50,7 +50,7 @@ RunIsOfStore spaces [] = Unit {0}
 RunIsOfStore spaces (e ∷ es) = AreOfStore spaces e.mtr × RunIsOfStore spaces es
 
 -- Reads says which changes a text of the log says.
-module _ (Reads : List ℕ → List Change → Type 0) (image : Image) (keys : List Entry) where
+module _ (Reads : List ℕ → List Change → Type 0) (image : Image) (keys : List RingEntry) where
   -- Under this header and with this run the image recovers to these contents.
   pub record RecoversBy (header : Header) (log : LogView (List Change)) (c : List SpaceContents) : Type 0 where
     pub long : AreLong image header

@@ -4,7 +4,7 @@ use Rattle.disk_model.specs.Event.{Event, is_there, reads, marks}
 use Rattle.disk_model.specs.Image.{Image, IsImage}
 use Rattle.disk_model.specs.declared.names.FileName.{FileName}
 use Rattle.disk_model.specs.declared.names.FileName.TheVariants.{Log}
-use Rattle.key_ring.specs.Ring.{Entry}
+use Rattle.key_ring.specs.Ring.{RingEntry}
 use Rattle.page_places.specs.Views.{view}
 use Rattle.store_image.specs.View.{Text, IsLive}
 use Rattle.redo_text.specs.declared.change.Change.{Change}
@@ -22,7 +22,7 @@ abbrev pub IsSettled : List Event → Type 0
 IsSettled es = (image : Image) → IsImage es image → (f : FileName) → image.bytes f ≡ reads f es
 
 -- The disk is at rest with these contents: nothing is pending, it recovers to them with an empty run, no slot is read from, and no ring block has a number of next or more.
-pub record IsAtRest (Reads : List ℕ → List Change → Type 0) (es : List Event) (keys : List Entry) (c : List SpaceContents) (next : ℕ) : Type 0 where
+pub record IsAtRest (Reads : List ℕ → List Change → Type 0) (es : List Event) (keys : List RingEntry) (c : List SpaceContents) (next : ℕ) : Type 0 where
   pub settled : IsSettled es
   pub last : ℕ
   pub is_next : last + 1 ≡ next

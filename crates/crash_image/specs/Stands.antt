@@ -4,7 +4,7 @@ use Rattle.disk_model.specs.Image.{Image, IsLucky}
 use Rattle.disk_model.specs.Marks.{acked}
 use Rattle.disk_model.specs.declared.names.FileName.{FileName}
 use Rattle.disk_model.specs.declared.names.FileName.TheVariants.{Log, Double, Space}
-use Rattle.key_ring.specs.Ring.{Entry}
+use Rattle.key_ring.specs.Ring.{RingEntry}
 use Rattle.page_places.specs.Texts.{ends_in_sum, slot_sums_up}
 use Rattle.page_places.specs.Views.{view}
 use Rattle.store_image.specs.Places.{LogView}
@@ -43,7 +43,7 @@ abbrev pub mtrs_of : List (Logged (List Change)) → List (List Change)
 mtrs_of journal = map (λ e. e.mtr) journal
 
 -- no page of a space that was told to be at a version needs an older key, also once a live slot was taken for its home
-abbrev pub Rotated : Image → List Entry → Header → LogView (List Change) → List SpaceContents → Type 0
+abbrev pub Rotated : Image → List RingEntry → Header → LogView (List Change) → List SpaceContents → Type 0
 Rotated image keys header log c = IsRotated (store_theory header keys (salts_of c)) (view log image) (pages_of c)
 
 -- how many entries of the journal have an LSN of at most this
@@ -52,7 +52,7 @@ entries_to lsn [] = 0
 entries_to lsn (e ∷ es) = if nat_le e.lsn lsn then 1 + entries_to lsn es else 0
 
 -- The image stands for the first entries of the journal over the base contents, as many as its run reaches: it recovers to their fold, they hold all that was acknowledged, no key that was given up is needed, and each key that is needed is among the named.
-pub record Stands (Reads : List ℕ → List Change → Type 0) (base : List SpaceContents) (journal : List (Logged (List Change))) (image : Image) (keys : List Entry) (named : List (ℕ × ℕ)) (active : ℕ) : Type 0 where
+pub record Stands (Reads : List ℕ → List Change → Type 0) (base : List SpaceContents) (journal : List (Logged (List Change))) (image : Image) (keys : List RingEntry) (named : List (ℕ × ℕ)) (active : ℕ) : Type 0 where
   pub last : ℕ
   pub recovers : Recovers Reads image keys (fold (mtrs_of (take (entries_to ((last + 1) * 4096) journal) journal)) base) last
   pub acknowledged : acked image.told ≤ entries_to ((last + 1) * 4096) journal

@@ -3,7 +3,7 @@ use Rattle.std.specs.Prelude.{ℕ, ◌/◌, nat_le, ◌&&◌, if◌then◌else�
 use Rattle.disk_model.specs.Image.{Image}
 use Rattle.disk_model.specs.declared.names.FileName.{FileName}
 use Rattle.disk_model.specs.declared.names.FileName.TheVariants.{Log, Double, Space}
-use Rattle.key_ring.specs.Ring.{Entry}
+use Rattle.key_ring.specs.Ring.{RingEntry}
 use Rattle.page_places.specs.Texts.{is_page_text, text_in, slot_held}
 use Rattle.page_places.specs.Views.{view}
 use Rattle.byte_list.specs.Fields.{be64_at}
@@ -34,9 +34,9 @@ items_of [] = []
 items_of (w ∷ ws) = written_item w.0 w.1 w.2 ++ items_of ws
 
 -- Of one page at one LSN only texts of one plain page were written, of one version only one text; and of one number only one ring block.
-abbrev pub Once : Header → List Entry → (ℕ → List ℕ) → List (FileName × ℕ × List ℕ) → Type 0
+abbrev pub Once : Header → List RingEntry → (ℕ → List ℕ) → List (FileName × ℕ × List ℕ) → Type 0
 Once header keys salts writes = items.Once (store_theory header keys salts) (items_of writes)
 
 -- What was written is behind the image's run by less than a ring, agrees with the contents at each page's last LSN, and has each text that the image holds.
-abbrev pub Settled : List (FileName × ℕ × List ℕ) → Image → Header → List Entry → LogView (List Change) → List SpaceContents → Type 0
+abbrev pub Settled : List (FileName × ℕ × List ℕ) → Image → Header → List RingEntry → LogView (List Change) → List SpaceContents → Type 0
 Settled writes image header keys log c = items.Settled (store_theory header keys (salts_of c)) header.blocks (items_of writes) (view log image) (pages_of c)

@@ -2,7 +2,7 @@
 use Rattle.std.proofs.Common.{◌≡◌, ℕ, ◌+◌, ◌<◌, ◌≤◌, List, [], ◌∷◌, length, drop, get_or, Option, Result, Ok, Err, refl, sym, ap, subst, ◌∙◌, inl, inr, arith}
 use Rattle.std.proofs.lemmas.List.{drop_more, length-drop}
 use Rattle.io_core.specs.Files.{Files}
-use Rattle.key_ring.specs.Ring.{Entry}
+use Rattle.key_ring.specs.Ring.{RingEntry}
 use Rattle.key_file.specs.declared.load_fault.LoadFault.{LoadFault}
 use Rattle.key_file.specs.declared.derivation.KeyDigest.{KeyDigest}
 use Rattle.key_file.specs.declared.keys.KeyItem.{KeyItem}
@@ -15,27 +15,27 @@ no_names (n ∷ ns) h = absurd (omega arith)
 
 module _ (files : Files) (filekey : Option (List ℕ)) (digest : KeyDigest) (names : List (List ℕ)) where
   -- the file of index i gives keys
-  more : (i : ℕ) (name : List ℕ) (ring next : List Entry) (keys : List KeyItem) → KeysOf files i filekey digest name (Ok keys) → HasKeys ring keys (i + 1) next
-      → (rest : List (List ℕ)) (r : Result (List Entry) LoadFault) → LoadsFrom files filekey digest (i + 1) rest next r → LoadsFrom files filekey digest i (name ∷ rest) ring r
+  more : (i : ℕ) (name : List ℕ) (ring next : List RingEntry) (keys : List KeyItem) → KeysOf files i filekey digest name (Ok keys) → HasKeys ring keys (i + 1) next
+      → (rest : List (List ℕ)) (r : Result (List RingEntry) LoadFault) → LoadsFrom files filekey digest (i + 1) rest next r → LoadsFrom files filekey digest i (name ∷ rest) ring r
   more i name ring next keys gives has rest (Ok last) h = (keys, gives, record { ring = next; added = has; rest_loads = h })
   more i name ring next keys gives has rest (Err fault) h = inr (keys, gives, record { ring = next; added = has; rest_loads = h })
 
-  pub loads_more : (i : ℕ) (name : List ℕ) → i < length names → get_or names i name ≡ name → (ring next : List Entry) (keys : List KeyItem)
+  pub loads_more : (i : ℕ) (name : List ℕ) → i < length names → get_or names i name ≡ name → (ring next : List RingEntry) (keys : List KeyItem)
       → KeysOf files i filekey digest name (Ok keys) → HasKeys ring keys (i + 1) next
-      → (r : Result (List Entry) LoadFault) → LoadsFrom files filekey digest (i + 1) (drop (i + 1) names) next r → LoadsFrom files filekey digest i (drop i names) ring r
+      → (r : Result (List RingEntry) LoadFault) → LoadsFrom files filekey digest (i + 1) (drop (i + 1) names) next r → LoadsFrom files filekey digest i (drop i names) ring r
   loads_more i name within is ring next keys gives has r h =
       subst (λ (ns : List (List ℕ)). LoadsFrom files filekey digest i ns ring r) (sym (drop_more names i name within ∙ ap (λ (x : List ℕ). x ∷ drop (i + 1) names) is))
       (more i name ring next keys gives has (drop (i + 1) names) r h)
 
   -- the file of index i does not read
-  pub loads_stop : (i : ℕ) (name : List ℕ) → i < length names → get_or names i name ≡ name → (ring : List Entry) (fault : LoadFault)
+  pub loads_stop : (i : ℕ) (name : List ℕ) → i < length names → get_or names i name ≡ name → (ring : List RingEntry) (fault : LoadFault)
       → KeysOf files i filekey digest name (Err fault) → LoadsFrom files filekey digest i (drop i names) ring (Err fault)
   loads_stop i name within is ring fault gives =
       subst (λ (ns : List (List ℕ)). LoadsFrom files filekey digest i ns ring (Err fault)) (sym (drop_more names i name within ∙ ap (λ (x : List ℕ). x ∷ drop (i + 1) names) is))
       (inl gives)
 
   -- there is no further file
-  pub loads_end : (i : ℕ) → length names ≤ i → (ring : List Entry) → LoadsFrom files filekey digest i (drop i names) ring (Ok ring)
+  pub loads_end : (i : ℕ) → length names ≤ i → (ring : List RingEntry) → LoadsFrom files filekey digest i (drop i names) ring (Ok ring)
   loads_end i long ring =
       subst (λ (ns : List (List ℕ)). LoadsFrom files filekey digest i ns ring (Ok ring)) (sym (no_names (drop i names) (omega (arith, length-drop i names)))) refl
 

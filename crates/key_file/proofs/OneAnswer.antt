@@ -2,8 +2,8 @@
 use Rattle.std.proofs.Common.{◌≡◌, ◌≢◌, ℕ, ◌+◌, ◌==◌, Bool, true, false, List, [], ◌∷◌, Option, Some, None, Result, Ok, Err, MatchResult, refl, sym, ap, ap₂, ◌∙◌, subst, cond, ◌⊎◌, inl, inr}
 use Rattle.std.specs.Bool.{MatchBool}
 use Rattle.io_core.specs.Files.{Files}
-use Rattle.key_ring.specs.Ring.{Entry}
-use Rattle.key_ring.specs.Ring.{key_of as key_under}
+use Rattle.key_ring.specs.Ring.{RingEntry}
+use Rattle.key_ring.specs.Ring.{ring_key as key_under}
 use Rattle.key_file.specs.declared.derivation.KeyDigest.{KeyDigest}
 use Rattle.key_file.specs.declared.fault.KeyFault.{KeyFault}
 use Rattle.key_file.specs.declared.fault.KeyFault.TheVariants as key
@@ -102,10 +102,10 @@ KeysOf-unique files index filekey digest name r s h k =
 -- ---- the ring
 
 -- two rings have the same keys
-abbrev AreSame : List Entry → List Entry → Type 0
+abbrev AreSame : List RingEntry → List RingEntry → Type 0
 AreSame ring other = (id v : ℕ) → key_under ring id v ≡ key_under other id v
 
-same_next : (ring other next after : List Entry) (keys more : List KeyItem) (version : ℕ) → AreSame ring other → keys ≡ more
+same_next : (ring other next after : List RingEntry) (keys more : List KeyItem) (version : ℕ) → AreSame ring other → keys ≡ more
     → HasKeys ring keys version next → HasKeys other more version after → AreSame next after
 same_next ring other next after keys more version same e h k id v =
     h.keys_are id v ∙ ap₂ (λ (a b : Option (List ℕ)). cond (v == version) a b) (ap (λ (l : List KeyItem). key_in l id) e) (same id v) ∙ sym (k.keys_are id v)
@@ -117,10 +117,10 @@ module _ (files : Files) (filekey : Option (List ℕ)) (digest : KeyDigest) wher
   no_keys : (n : ℕ) (name : List ℕ) (keys : List KeyItem) (fault : LoadFault) → KeysOf files n filekey digest name (Ok keys) → KeysOf files n filekey digest name (Err fault) → ⊥
   no_keys n name keys fault h k = let same = KeysOf-unique files n filekey digest name (Ok keys) (Err fault) h k in cc
 
-  pub LoadsFrom-unique : (names : List (List ℕ)) (n : ℕ) (ring other : List Entry) → AreSame ring other → (r s : Result (List Entry) LoadFault)
+  pub LoadsFrom-unique : (names : List (List ℕ)) (n : ℕ) (ring other : List RingEntry) → AreSame ring other → (r s : Result (List RingEntry) LoadFault)
       → LoadsFrom files filekey digest n names ring r → LoadsFrom files filekey digest n names other s → IsSameAnswer r s
   LoadsFrom-unique [] n ring other same (Ok a) (Ok b) h k = λ id v. let x : a ≡ ring = cc in let y : b ≡ other = cc in
-      ap (λ (l : List Entry). key_under l id v) x ∙ same id v ∙ sym (ap (λ (l : List Entry). key_under l id v) y)
+      ap (λ (l : List RingEntry). key_under l id v) x ∙ same id v ∙ sym (ap (λ (l : List RingEntry). key_under l id v) y)
   LoadsFrom-unique [] n ring other same (Ok a) (Err g) h k = cc
   LoadsFrom-unique [] n ring other same (Err f) s h k = cc
   LoadsFrom-unique (name ∷ names) n ring other same (Ok a) (Ok b) h k =
@@ -143,10 +143,10 @@ module _ (files : Files) (filekey : Option (List ℕ)) (digest : KeyDigest) wher
       (Err f) (Err g) h.2.rest_loads k.2.rest_loads
 
   -- what the files give is the answer
-  pub the_answer : (names : List (List ℕ)) (r : Result (List Entry) LoadFault) → LoadsFrom files filekey digest 0 names [] r → IsTheAnswer files filekey digest names r
+  pub the_answer : (names : List (List ℕ)) (r : Result (List RingEntry) LoadFault) → LoadsFrom files filekey digest 0 names [] r → IsTheAnswer files filekey digest names r
   the_answer names r h other k = LoadsFrom-unique names 0 [] [] (λ id v. refl) r other h k
 
-  pub the_only : (names : List (List ℕ)) (r : Result (List Entry) LoadFault)
+  pub the_only : (names : List (List ℕ)) (r : Result (List RingEntry) LoadFault)
       → MatchResult r (λ ring. LoadsFrom files filekey digest 0 names [] (Ok ring)) (λ fault. IsOutside fault ⊎ LoadsFrom files filekey digest 0 names [] (Err fault))
       → MatchResult r (λ ring. IsTheAnswer files filekey digest names (Ok ring)) (λ fault. IsOutside fault ⊎ IsTheAnswer files filekey digest names (Err fault))
   the_only names (Ok ring) h = the_answer names (Ok ring) h

@@ -3,7 +3,7 @@ use Rattle.std.proofs.Common.{◌≡◌, ◌≢◌, ℕ, suc, zero, ◌+◌, ◌
 use Rattle.std.specs.Option.{is_some}
 use Rattle.std.proofs.lemmas.Bool.{eq-eqb, cases_eq}
 use Rattle.std.proofs.lemmas.List.{drop_more, get_or-drop, get_or_default, length-drop}
-use Rattle.key_ring.specs.Ring.{Entry, HasAdded, key_of}
+use Rattle.key_ring.specs.Ring.{RingEntry, HasAdded, ring_key}
 use Rattle.key_file.specs.declared.keys.KeyItem.{KeyItem}
 use Rattle.key_file.specs.Plain.{IsAscending, first_some, key_in}
 use Rattle.key_file.specs.Loaded.{HasKeys}
@@ -43,49 +43,49 @@ no_items [] h = refl
 no_items (k ∷ ks) h = absurd (omega arith)
 
 -- the ring has the keys of the version up to the i-th, and of that version none from there on
-pub record HasFirst (first : List Entry) (keys : List KeyItem) (version i : ℕ) (ring : List Entry) : Type 0 where
-  pub found : (id : ℕ) → key_in keys id ≡ first_some (key_in (drop i keys) id) (key_of ring id version)
-  pub others : (id v : ℕ) → v ≢ version → key_of ring id v ≡ key_of first id v
-  pub absent : (j : ℕ) (d : KeyItem) → i ≤ j → j < length keys → (id : ℕ) → (get_or keys j d).id ≤ id → key_of ring id version ≡ None
+pub record HasFirst (first : List RingEntry) (keys : List KeyItem) (version i : ℕ) (ring : List RingEntry) : Type 0 where
+  pub found : (id : ℕ) → key_in keys id ≡ first_some (key_in (drop i keys) id) (ring_key ring id version)
+  pub others : (id v : ℕ) → v ≢ version → ring_key ring id v ≡ ring_key first id v
+  pub absent : (j : ℕ) (d : KeyItem) → i ≤ j → j < length keys → (id : ℕ) → (get_or keys j d).id ≤ id → ring_key ring id version ≡ None
 
-module _ (first : List Entry) (keys : List KeyItem) (version : ℕ) where
-  pub first_start : ((id : ℕ) → IsNone (key_of first id version)) → HasFirst first keys version 0 first
+module _ (first : List RingEntry) (keys : List KeyItem) (version : ℕ) where
+  pub first_start : ((id : ℕ) → IsNone (ring_key first id version)) → HasFirst first keys version 0 first
   first_start none = record {
-    found = λ id. rw (is_none (key_of first id version) (none id)) (sym (first_some-none (key_in keys id)));
+    found = λ id. rw (is_none (ring_key first id version) (none id)) (sym (first_some-none (key_in keys id)));
     others = λ id v ne. refl;
-    absent = λ j d from within id above. is_none (key_of first id version) (none id);
+    absent = λ j d from within id above. is_none (ring_key first id version) (none id);
   }
 
-  pub first_end : (i : ℕ) (ring : List Entry) → length keys ≤ i → HasFirst first keys version i ring → HasKeys first keys version ring
+  pub first_end : (i : ℕ) (ring : List RingEntry) → length keys ≤ i → HasFirst first keys version i ring → HasKeys first keys version ring
   first_end i ring long h =
       let over : drop i keys ≡ [] = no_items (drop i keys) (omega (arith, length-drop i keys)) in
       record {
         keys_are = λ id v. elim (cases_eq v version) [
-          | inl same ↦ rw (eq-eqb v version same) (ap (key_of ring id) same ∙ sym (h.found id ∙ ap (λ (ks : List KeyItem). first_some (key_in ks id) (key_of ring id version)) over))
+          | inl same ↦ rw (eq-eqb v version same) (ap (ring_key ring id) same ∙ sym (h.found id ∙ ap (λ (ks : List KeyItem). first_some (key_in ks id) (ring_key ring id version)) over))
           | inr other ↦ rw (ne-eqb v version other) (h.others id v other)
         ];
       }
 
-  pub place_is_free : (i : ℕ) (d : KeyItem) → i < length keys → (ring : List Entry) → HasFirst first keys version i ring → IsNone (key_of ring (get_or keys i d).id version)
+  pub place_is_free : (i : ℕ) (d : KeyItem) → i < length keys → (ring : List RingEntry) → HasFirst first keys version i ring → IsNone (ring_key ring (get_or keys i d).id version)
   place_is_free i d within ring h = ap is_some (h.absent i d (omega arith) within (get_or keys i d).id (omega arith))
 
-  module _ (up : IsAscending keys) (i : ℕ) (d : KeyItem) (within : i < length keys) (ring next : List Entry) (h : HasFirst first keys version i ring)
+  module _ (up : IsAscending keys) (i : ℕ) (d : KeyItem) (within : i < length keys) (ring next : List RingEntry) (h : HasFirst first keys version i ring)
       (added : HasAdded ring next (get_or keys i d).id version (get_or keys i d).key) where
-    here : (id : ℕ) → key_in keys id ≡ first_some (key_in (get_or keys i d ∷ drop (i + 1) keys) id) (key_of ring id version)
-    here id = h.found id ∙ ap (λ (ks : List KeyItem). first_some (key_in ks id) (key_of ring id version)) (drop_more keys i d within)
+    here : (id : ℕ) → key_in keys id ≡ first_some (key_in (get_or keys i d ∷ drop (i + 1) keys) id) (ring_key ring id version)
+    here id = h.found id ∙ ap (λ (ks : List KeyItem). first_some (key_in ks id) (ring_key ring id version)) (drop_more keys i d within)
 
-    other_id : (id : ℕ) → (id ≡ (get_or keys i d).id → ⊥) → key_of next id version ≡ key_of ring id version
+    other_id : (id : ℕ) → (id ≡ (get_or keys i d).id → ⊥) → ring_key next id version ≡ ring_key ring id version
     other_id id ne = added.keys id version ∙ rw (ne-eqb id (get_or keys i d).id ne) refl
 
-    found_next : (id : ℕ) → key_in keys id ≡ first_some (key_in (drop (i + 1) keys) id) (key_of next id version)
+    found_next : (id : ℕ) → key_in keys id ≡ first_some (key_in (drop (i + 1) keys) id) (ring_key next id version)
     found_next id = elim (cases_eq id (get_or keys i d).id) [
       | inl same ↦
           let is : key_in keys id ≡ Some (get_or keys i d).key = here id ∙ rw (eq-eqb (get_or keys i d).id id (sym same)) refl in
-          let new : key_of next id version ≡ Some (get_or keys i d).key = added.keys id version ∙ rw (eq-eqb id (get_or keys i d).id same, eq-eqb version version refl) refl in
+          let new : ring_key next id version ≡ Some (get_or keys i d).key = added.keys id version ∙ rw (eq-eqb id (get_or keys i d).id same, eq-eqb version version refl) refl in
           let none : key_in (drop (i + 1) keys) id ≡ None = ap (key_in (drop (i + 1) keys)) same ∙ later_keys keys i d up within in
           rw (none, new) is
       | inr other ↦
-          let is : key_in keys id ≡ first_some (key_in (drop (i + 1) keys) id) (key_of ring id version) = here id ∙ rw (ne-eqb (get_or keys i d).id id (λ e. other (sym e))) refl in
+          let is : key_in keys id ≡ first_some (key_in (drop (i + 1) keys) id) (ring_key ring id version) = here id ∙ rw (ne-eqb (get_or keys i d).id id (λ e. other (sym e))) refl in
           rw (other_id id other) is
     ]
 
@@ -106,5 +106,5 @@ item_at (k ∷ ks) zero item h = cc
 item_at (k ∷ ks) (suc i) item h = item_at ks i item h
 
 -- there is no key of a version after that of the file
-pub later_version : (old new : List Entry) (keys : List KeyItem) (n : ℕ) → HasKeys old keys n new → (id v : ℕ) → n < v → IsNone (key_of old id v) → IsNone (key_of new id v)
+pub later_version : (old new : List RingEntry) (keys : List KeyItem) (n : ℕ) → HasKeys old keys n new → (id v : ℕ) → n < v → IsNone (ring_key old id v) → IsNone (ring_key new id v)
 later_version old new keys n has id v h none = subst IsNone (sym (has.keys_are id v ∙ rw (ne-eqb v n (λ e. omega arith)) refl)) none

@@ -3,7 +3,7 @@
 ghost use Rattle.std.specs.Prelude.{◌≡◌, ◌<◌, ◌≤◌, ◌+◌, ◌⊎◌, ℕ, List, [], Ok, Err, Some, length, map, string_bytes, slice_get, Contains, IfOk, IfErr, IsErrOf, OnOk, IsNone, MatchResult};
 ghost use Rattle.std.specs.Option.{option_copied};
 ghost use Rattle.io_core.specs.Told.{Told};
-ghost use Rattle.key_ring.specs.Ring.{HasAdded, key_of};
+ghost use Rattle.key_ring.specs.Ring.{HasAdded, ring_key};
 ghost use Rattle.key_file.specs.Cause.{HasCauses};
 ghost use Rattle.key_file.specs.Load.{IsOutside};
 ghost use Rattle.key_file.specs.Loaded.{HasKeys, IsDue, IsTheAnswer, LoadsFrom};
@@ -19,7 +19,7 @@ use std::alloc::Global;
 // Adds a key under a version that the ring does not have of its id.
 fn add_item(ring: &mut Ring, item: &KeyItem, version: u32) -> Result<(), LoadFault>
     requires version { 1 ≤ version }
-    requires absent { IsNone (key_of ring.old item.now.id version) }
+    requires absent { IsNone (ring_key ring.old item.now.id version) }
     ensures added { OnOk result (HasAdded ring.old ring.new item.now.id version item.now.key) }
     ensures memory { IfErr result (λ fault. fault ≡ LoadFault.OutOfMemory) }
 {
@@ -34,7 +34,7 @@ fn add_item(ring: &mut Ring, item: &KeyItem, version: u32) -> Result<(), LoadFau
 // Adds the keys of a file under a version that the ring does not have.
 fn add_keys(ring: &mut Ring, keys: &KeyList, version: u32) -> Result<(), LoadFault>
     requires version { 1 ≤ version }
-    requires absent { (id : ℕ) → IsNone (key_of ring.old id version) }
+    requires absent { (id : ℕ) → IsNone (ring_key ring.old id version) }
     ensures added { OnOk result (HasKeys ring.old keys.now version ring.new) }
     ensures memory { IfErr result (λ fault. fault ≡ LoadFault.OutOfMemory) }
 {
@@ -55,7 +55,7 @@ fn load_in_order<L: Library>(
 ) -> Result<Ring, LoadFault>
     requires { length names.now ≤ 64 }
     ensures loads { Told (λ fs. MatchResult result (λ ring. LoadsFrom fs (option_copied filekey.entry) digest 0 (map string_bytes names.now) [] (Ok ring)) (λ fault. IsOutside fault ⊎ LoadsFrom fs (option_copied filekey.entry) digest 0 (map string_bytes names.now) [] (Err fault))) (L.files files.old) }
-    ensures versions { IfOk result (λ ring. (id version : ℕ) → length names.now < version → IsNone (key_of ring id version)) }
+    ensures versions { IfOk result (λ ring. (id version : ℕ) → length names.now < version → IsNone (ring_key ring id version)) }
     ensures same { L.files files.new ≡ L.files files.old }
     ensures causes { HasCauses (L.faults files.old) (L.faults files.new) (L.absences files.old) (L.absences files.new) result }
     ensures failed { IsErrOf result LoadFault.FileFault → Told (λ fs. (due : List ℕ) × IsDue fs (option_copied filekey.entry) digest 0 (map string_bytes names.now) due × L.failed_last files.new due) (L.files files.old) }
@@ -92,7 +92,7 @@ pub fn load<L: Library>(
 
     // There is no second answer: whatever the files give says the same.
     ensures only { Told (λ fs. MatchResult result (λ ring. IsTheAnswer fs (option_copied filekey.entry) digest (map string_bytes names.now) (Ok ring)) (λ fault. IsOutside fault ⊎ IsTheAnswer fs (option_copied filekey.entry) digest (map string_bytes names.now) (Err fault))) (L.files files.old) }
-    ensures versions { IfOk result (λ ring. (id version : ℕ) → length names.now < version → IsNone (key_of ring id version)) }
+    ensures versions { IfOk result (λ ring. (id version : ℕ) → length names.now < version → IsNone (ring_key ring id version)) }
     ensures same { L.files files.new ≡ L.files files.old }
     ensures causes { HasCauses (L.faults files.old) (L.faults files.new) (L.absences files.old) (L.absences files.new) result }
 

@@ -10,7 +10,7 @@ use Rattle.std.specs.declared.ops.Bound.{Bound}
 use Rattle.std.specs.declared.ops.Bound.TheVariants.{Included}
 use Rattle.std.specs.Map.{lookup}
 use Rattle.std.proofs.lemmas.Bool.{eq-eqb, cases_lt}
-use Rattle.key_ring.specs.Ring.{Entry, HasAdded, IsLatest, key_of, pair_cmp}
+use Rattle.key_ring.specs.Ring.{RingEntry, HasAdded, IsLatest, ring_key, pair_cmp}
 
 eqb_below : (a b : ℕ) → a < b → eqb b a ≡ false
 eqb_below a b h = grind arith
@@ -31,9 +31,9 @@ is_eq-nat_cmp a b = elim (cases_lt a b) [
 pub is_eq-pair_cmp : (id v i w : ℕ) → is_eq (pair_cmp (id, v) (i, w)) ≡ (eqb i id && eqb w v)
 is_eq-pair_cmp id v i w = sym (tied_then (nat_cmp id i) (nat_cmp v w)) ∙ rw (is_eq-nat_cmp id i, is_eq-nat_cmp v w) refl
 
-pub lookup-key_of : (es : List Entry) (id v : ℕ) → lookup (is_at (pair_cmp (id, v))) es ≡ key_of es id v
-lookup-key_of [] id v = refl
-lookup-key_of (e ∷ es) id v = rw (is_eq-pair_cmp id v e.0.0 e.0.1, lookup-key_of es id v) refl
+pub lookup-ring_key : (es : List RingEntry) (id v : ℕ) → lookup (is_at (pair_cmp (id, v))) es ≡ ring_key es id v
+lookup-ring_key [] id v = refl
+lookup-ring_key (e ∷ es) id v = rw (is_eq-pair_cmp id v e.0.0 e.0.1, lookup-ring_key es id v) refl
 
 -- ---- the range from (id, 0) to (id, 2^32 - 1)
 
@@ -64,11 +64,11 @@ to_id id = Included (id, 4294967295)
 in_range : (id v : ℕ) → v < 4294967296 → IsInRange pair_cmp (from_id id) (to_id id) (id, v)
 in_range id v h = (le_second id 0 v (omega arith), le_second id v 4294967295 (omega arith))
 
-is_some_get : (m : BTreeMap (ℕ × ℕ) (List ℕ)) (id v : ℕ) → IsSome (key_of m.entries id v) → IsSome (get pair_cmp m (id, v))
-is_some_get m id v h = subst IsSome (sym (lookup-key_of m.entries id v)) h
+is_some_get : (m : BTreeMap (ℕ × ℕ) (List ℕ)) (id v : ℕ) → IsSome (ring_key m.entries id v) → IsSome (get pair_cmp m (id, v))
+is_some_get m id v h = subst IsSome (sym (lookup-ring_key m.entries id v)) h
 
 -- the range, by the ends that the code computed
-pub id_range : (m : BTreeMap (ℕ × ℕ) (List ℕ)) (id : ℕ) (a b : ℕ × ℕ) → a ≡ (id, 0) → b ≡ (id, 4294967295) → (r : List Entry)
+pub id_range : (m : BTreeMap (ℕ × ℕ) (List ℕ)) (id : ℕ) (a b : ℕ × ℕ) → a ≡ (id, 0) → b ≡ (id, 4294967295) → (r : List RingEntry)
     → IsRangeOf pair_cmp (Included a) (Included b) m r → IsRangeOf pair_cmp (from_id id) (to_id id) m r
 id_range m id a b start end r h =
     subst (λ (y : ℕ × ℕ). IsRangeOf pair_cmp (from_id id) (Included y) m r) end (subst (λ (x : ℕ × ℕ). IsRangeOf pair_cmp (Included x) (Included b) m r) start h)
@@ -83,7 +83,7 @@ last_is_latest m id p x there last =
     let high : p.0 ≤ id = le_first p (id, 4294967295) there.0.1 in
     let same : p.0 ≡ id = omega arith in
     record {
-      there = subst (λ (i : ℕ). IsSome (key_of m.entries i p.1)) same (subst IsSome (sym there.1 ∙ lookup-key_of m.entries p.0 p.1) refl);
+      there = subst (λ (i : ℕ). IsSome (ring_key m.entries i p.1)) same (subst IsSome (sym there.1 ∙ lookup-ring_key m.entries p.0 p.1) refl);
       greatest = λ v small h.
           not_lt_second id p.1 v (subst (λ (i : ℕ). is_lt (pair_cmp (i, p.1) (id, v)) ≡ false) same (last (id, v) (in_range id v small) (is_some_get m id v h)));
     }
@@ -91,8 +91,8 @@ last_is_latest m id p x there last =
 -- where the range is empty there is no key of the id
 pub none_of_id : (m : BTreeMap (ℕ × ℕ) (List ℕ)) (id : ℕ)
     → ((q : ℕ × ℕ) → IsInRange pair_cmp (from_id id) (to_id id) q → get pair_cmp m q ≡ None)
-    → (v : ℕ) → v < 4294967296 → IsNone (key_of m.entries id v)
-none_of_id m id none v small = subst IsNone (sym (none (id, v) (in_range id v small)) ∙ lookup-key_of m.entries id v) refl
+    → (v : ℕ) → v < 4294967296 → IsNone (ring_key m.entries id v)
+none_of_id m id none v small = subst IsNone (sym (none (id, v) (in_range id v small)) ∙ lookup-ring_key m.entries id v) refl
 
 -- ---- a key that is put in
 
@@ -104,6 +104,6 @@ pub insert-HasAdded : (m n : BTreeMap (ℕ × ℕ) (List ℕ)) (id v : ℕ) (key
     → false ≡ is_some (get pair_cmp m (id, v))
     → HasAdded m.entries n.entries id v key
 insert-HasAdded m n id v key old updates long was none = record {
-  keys = λ i w. sym (lookup-key_of n.entries i w) ∙ updates (i, w) ∙ rw (is_eq-pair_cmp id v i w, lookup-key_of m.entries i w) refl;
+  keys = λ i w. sym (lookup-ring_key n.entries i w) ∙ updates (i, w) ∙ rw (is_eq-pair_cmp id v i w, lookup-ring_key m.entries i w) refl;
   one_more = let gone : is_some old ≡ false = ap is_some was ∙ sym none in rw gone at long;
 }

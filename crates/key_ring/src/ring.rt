@@ -2,7 +2,7 @@
 
 ghost use Rattle.std.specs.Prelude.{◌≡◌, ℕ, ◌+◌, ◌^◌, ◌<◌, ◌≤◌, List, [], length, slice_get, IsSome, IsNone, IfSome, IfNone, OnOk, OnErr, IfOk, IfErr, MatchOption, option_copied};
 ghost use Rattle.aes_core.specs.Cipher.{IsKeyLength};
-ghost use Rattle.key_ring.specs.Ring.{HasAdded, IsLatest, IsRing, key_of, pairs_of};
+ghost use Rattle.key_ring.specs.Ring.{HasAdded, IsLatest, IsRing, ring_key, pairs_of};
 ghost use Rattle.key_ring.specs.Local.{local_key};
 ghost use Rattle.key_ring.specs.Refusal.{IsRefusal};
 
@@ -60,7 +60,7 @@ impl Ring {
     pub fn add(&mut self, id: u32, version: u32, key: &[u8]) -> Result<(), RingFault>
         requires { 1 ≤ version }
         ensures added { OnOk result (HasAdded self.old self.new id version key.now) }
-        ensures accepted { OnOk result (IsKeyLength (length key.now) × IsNone (key_of self.old id version)) }
+        ensures accepted { OnOk result (IsKeyLength (length key.now) × IsNone (ring_key self.old id version)) }
         // The conditions exclude one another, so each answer comes exactly where its own holds.
         ensures refused { IfErr result (IsRefusal self.old id version key.now) }
         ensures unchanged { OnErr result (self.new ≡ self.old) }
@@ -79,7 +79,7 @@ impl Ring {
 
     /// The bytes of the key of an id and a version.
     pub fn get(&self, id: u32, version: u32) -> Option<&[u8]>
-        ensures value { option_copied result ≡ key_of self.now id version }
+        ensures value { option_copied result ≡ ring_key self.now id version }
         ensures key_length { IfSome result (λ key. IsKeyLength (length key.now)) }
     {
         let key = self.keys.get(&(id, version))?;
@@ -89,7 +89,7 @@ impl Ring {
     /// The greatest version of an id.
     pub fn latest(&self, id: u32) -> Option<u32>
         ensures found { IfSome result (IsLatest self.now id) }
-        ensures absent { IfNone result ((v : ℕ) → v < 2 ^ 32 → IsNone (key_of self.now id v)) }
+        ensures absent { IfNone result ((v : ℕ) → v < 2 ^ 32 → IsNone (ring_key self.now id v)) }
     {
         let (pair, _) = self.keys.range((id, 0)..=(id, u32::MAX)).next_back()?;
         Some(pair.1)

@@ -29,7 +29,7 @@ use Rattle.keyd_cli.specs.Printed.{session_text}
 
 -- Where the library tells its files, those that the options name load.
 abbrev pub IsKeyed : List Word → Option Files → Type 0
-IsKeyed options files = Told (λ fs. (keys : List ring.Entry) × IsLoaded fs options (Ok keys)) files
+IsKeyed options files = Told (λ fs. (keys : List ring.RingEntry) × IsLoaded fs options (Ok keys)) files
 
 -- the status of key files that don't load
 abbrev pub load_status : LoadFault → Status

@@ -5,7 +5,7 @@ use Rattle.io_core.specs.Files.{Files}
 use Rattle.key_file.specs.declared.derivation.KeyDigest.{KeyDigest}
 use Rattle.key_file.specs.declared.derivation.KeyDigest.TheVariants.{Sha1, Sha256}
 use Rattle.key_file.specs.declared.load_fault.LoadFault.{LoadFault}
-use Rattle.key_ring.specs.Ring.{Entry}
+use Rattle.key_ring.specs.Ring.{RingEntry}
 use Rattle.key_file.specs.Loaded.{LoadsFrom}
 use Rattle.keyd_cli.specs.declared.words.Flag.{Flag}
 use Rattle.keyd_cli.specs.declared.words.Flag.TheVariants as flag
@@ -27,5 +27,5 @@ abbrev pub digest_in : List Word → KeyDigest
 digest_in options = digest_named (value_in flag.Digest options)
 
 -- What the key files that these options name give: the ring, or the first fault.
-abbrev pub IsLoaded : Files → List Word → Result (List Entry) LoadFault → Type 0
+abbrev pub IsLoaded : Files → List Word → Result (List RingEntry) LoadFault → Type 0
 IsLoaded files options r = LoadsFrom files (value_in flag.FileKey options) (digest_in options) 0 (values_of flag.KeyFile options) [] r

@@ -2,7 +2,7 @@
 use Rattle.std.proofs.Common.{◌≡◌, ◌≢◌, ℕ, zero, ◌<◌, ◌^◌, ◌&&◌, ◌||◌, Bool, true, false, true≢false, nat_eq, nat_lt, if◌then◌else◌, List, [], ◌∷◌, Option, Some, None, IfSome, refl, sym, ap, ◌∙◌, arith}
 use Rattle.std.proofs.lemmas.Bool.Decides.{nat_tests}
 use Rattle.page_text.specs.Text.{Plain, IsText, text}
-use Rattle.key_ring.specs.Ring.{Entry}
+use Rattle.key_ring.specs.Ring.{RingEntry}
 use Rattle.store_image.specs.View.{Text}
 use Rattle.store_model.specs.Fold.{floor_set, made_ciphered}
 use Rattle.redo_text.specs.declared.change.Change.{Change}
@@ -85,7 +85,7 @@ one_text t u a b c = λ i. record { lsn = a i; version = b i; bytes = c i }
 one_page : (a b : PlainPage) → ◌≡◌ {A = Plain} (record { kind = a.kind; bytes = a.body }) (record { kind = b.kind; bytes = b.body }) → a ≡ b
 one_page a b same = λ i. record { kind = (same i).kind; body = (same i).bytes }
 
-module _ (header : Header) (keys : List Entry) (salts : ℕ → List ℕ) where
+module _ (header : Header) (keys : List RingEntry) (salts : ℕ → List ℕ) where
   pub means_one : (s p : ℕ) (t : Text) (x y : Page) → MeansPage header keys salts s p t x → MeansPage header keys salts s p t y → x ≡ y
   means_one s p t (Head a) (Head b) (z, na, ta, xa) (z', nb, tb, xb) =
       ap Head (head_one a b ta tb (plain_one 16384 s 0 t.lsn t.version None (head_page a) (head_page b) t.bytes tt xa xb))

@@ -2,7 +2,7 @@
 use Rattle.std.proofs.Common.{◌≡◌, ◌⊎◌, ℕ, zero, suc, ◌+◌, ◌-◌, ◌*◌, ◌<◌, ◌≤◌, Bool, true, false, true≢false, nat_eq, List, [], ◌∷◌, ◌++◌, Option, Some, refl, sym, ap, ap₂, subst, ◌∙◌, arith, inl, inr}
 use Rattle.std.proofs.lemmas.Bool.Decides.{nat_tests}
 use Rattle.std.proofs.lemmas.Bool.{cases_lt}
-use Rattle.key_ring.specs.Ring.{Entry}
+use Rattle.key_ring.specs.Ring.{RingEntry}
 use Rattle.key_ring.specs.Local.{local_key}
 use Rattle.places.specs.Places.{place}
 use Rattle.store_image.specs.Places.{LogView}
@@ -40,7 +40,7 @@ whole_one blocks file n k j wk wj = by (cases_lt k j) (cases_lt j k)
     by (inr le) (inl lt) = absurd (not_less blocks file n j k wj wk lt)
     by (inr le) (inr ge) = omega (arith, le, ge)
 
-module _ {M : Type 0} (Reads : List ℕ → M → Type 0) (reads_one : (text : List ℕ) (x y : M) → Reads text x → Reads text y → x ≡ y) (header : Header) (keys : List Entry) (file : List ℕ) where
+module _ {M : Type 0} (Reads : List ℕ → M → Type 0) (reads_one : (text : List ℕ) (x y : M) → Reads text x → Reads text y → x ≡ y) (header : Header) (keys : List RingEntry) (file : List ℕ) where
   pub text_one : (n k : ℕ) (t u : List ℕ) → HasText Reads header keys file n k t → HasText Reads header keys file n k u → t ≡ u
   text_one n zero t u ht hu = ht ∙ sym hu
   text_one n (suc k) t u (l, r, kl, hr, et) (m, s, km, hs, eu) =

@@ -5,7 +5,7 @@ use Rattle.std.specs.Int.{to_be_bytes, w32, w64}
 use Rattle.bytes_core.specs.Crc.{crc32c}
 use Rattle.bytes_core.proofs.LastByte.{ends-append}
 use Rattle.disk_model.specs.Crash.{torn_bytes}
-use Rattle.key_ring.specs.Ring.{Entry}
+use Rattle.key_ring.specs.Ring.{RingEntry}
 use Rattle.byte_list.specs.Fields.{be32_at, be64_at}
 use Rattle.byte_list.specs.Bytes.{range}
 use Rattle.byte_list.proofs.FieldLaws.{be32_at-written, be64_at-written}
@@ -57,7 +57,7 @@ module _ (size space page lsn version : ℕ) (key : Option PageKey) (plain : Pla
   sealed_slot batch fits = slot-holds space page batch bytes fits small sealed_is ∙ ap (λ (u : Text). Some (record { space = space; page = page; text = u })) sealed_text
 
 -- A text that was sealed for a page under the key of its version is that page's.
-module _ (header : Header) (keys : List Entry) (salts : ℕ → List ℕ) where
+module _ (header : Header) (keys : List RingEntry) (salts : ℕ → List ℕ) where
   pub sealed_means : (s p lsn version : ℕ) (page : PlainPage) (bytes : List ℕ) → p ≢ 0 → IfSome (key_at header keys salts s version) HasKeyBytes
       → IsText 16384 s p lsn version (key_at header keys salts s version) (record { kind = page.kind; bytes = page.body }) bytes → MeansPage header keys salts s p (text_at lsn version bytes) (Used page)
   sealed_means s p lsn version page bytes some key text = (some, key, text)

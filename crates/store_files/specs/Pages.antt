@@ -3,7 +3,7 @@ use Rattle.std.specs.Prelude.{◌≡◌, ◌≢◌, ◌⊎◌, ℕ, zero, suc, �
 use Rattle.std.specs.Option.{option_map}
 use Rattle.aes_core.specs.Cipher.{AreBytes}
 use Rattle.byte_list.specs.Bytes.{zeros}
-use Rattle.key_ring.specs.Ring.{Entry}
+use Rattle.key_ring.specs.Ring.{RingEntry}
 use Rattle.key_ring.specs.Local.{local_key}
 use Rattle.page_text.specs.Text.{Plain, IsText}
 use Rattle.page_text.specs.Parts.{body}
@@ -151,7 +151,7 @@ pub record HasKeyBytes (key : PageKey) : Type 0 where
   pub long : length key.local ≡ 16
   pub bytes : AreBytes key.local
 
-module _ (header : Header) (keys : List Entry) (salts : ℕ → List ℕ) where
+module _ (header : Header) (keys : List RingEntry) (salts : ℕ → List ℕ) where
   -- the key of a space's pages at a version
   abbrev pub key_at : ℕ → ℕ → Option PageKey
   key_at s version = option_map (λ local. record { local = local; algorithm = header.algorithm }) (local_key keys (key_id_of header.spaces s) version (salts s))

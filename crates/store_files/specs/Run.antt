@@ -1,6 +1,6 @@
 -- The run of a log: from the newest checkpoint on the longest list of ring blocks that are valid at their places and make whole mini-transactions, and the texts that they have under the keys.
 use Rattle.std.specs.Prelude.{◌≡◌, ℕ, zero, suc, ◌+◌, ◌*◌, ◌%◌, ◌<◌, ◌≤◌, Bool, true, nat_eq, List, [], ◌∷◌, ◌++◌, Option, Some}
-use Rattle.key_ring.specs.Ring.{Entry}
+use Rattle.key_ring.specs.Ring.{RingEntry}
 use Rattle.key_ring.specs.Local.{local_key}
 use Rattle.places.specs.Places.{place}
 use Rattle.store_image.specs.Places.{LogView}
@@ -39,7 +39,7 @@ module _ (blocks : ℕ) (file : List ℕ) where
   abbrev pub IsClear : ℕ → Type 0
   IsClear n = (i m : ℕ) → i < blocks → n ≤ m → is_ring_block m (place 4096 (3 + i) file) ≡ true → ⊥
 
-module _ {M : Type 0} (Reads : List ℕ → M → Type 0) (header : Header) (keys : List Entry) (file : List ℕ) where
+module _ {M : Type 0} (Reads : List ℕ → M → Type 0) (header : Header) (keys : List RingEntry) (file : List ℕ) where
   -- the text in the k blocks from n on, each under the local key of id 1 at its version
   abbrev pub HasText : ℕ → ℕ → List ℕ → Type 0
   HasText n zero text = text ≡ []

@@ -1,5 +1,5 @@
 use Rattle.std.proofs.Common.{◌<◌, ◌≤◌, length, IsNone, sym, subst, arith}
-use Rattle.key_ring.specs.Ring.{HasAdded, key_of}
+use Rattle.key_ring.specs.Ring.{HasAdded, ring_key}
 use Rattle.key_file.specs.declared.keys.KeyItem.{KeyItem}
 use Rattle.key_file.proofs.RingKeys.{first_end, first_more, first_start, item_at, place_is_free}
 use Rattle.key_file.proofs.ring_files.add_keys.Goals as goal
@@ -7,7 +7,7 @@ use Rattle.key_file.proofs.ring_files.add_keys.Goals as goal
 pub add_item-requires-clause-absent : goal.add_item-requires-clause-absent
 add_item-requires-clause-absent c =
     let within : c.loop-i.i < length c.args.keys.now = omega (arith, c.loop-i-test.true, c.len-count.ensures.len) in
-    subst (λ (item : KeyItem). IsNone (key_of c.loop-i.ring item.id c.args.version)) (item_at c.args.keys.now c.loop-i.i c.get.result.now c.get.ensures)
+    subst (λ (item : KeyItem). IsNone (ring_key c.loop-i.ring item.id c.args.version)) (item_at c.args.keys.now c.loop-i.i c.get.result.now c.get.ensures)
     (place_is_free c.args.ring.now c.args.keys.now c.args.version c.loop-i.i c.get.result.now within c.loop-i.ring c.loop-i.invariant)
 
 pub loop-i-init : goal.loop-i-init

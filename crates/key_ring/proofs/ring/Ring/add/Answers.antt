@@ -3,14 +3,14 @@ use Rattle.std.specs.Option.{is_some}
 use Rattle.std.specs.BTreeMap.{is_at}
 use Rattle.std.specs.Map.{lookup}
 use Rattle.std.proofs.lemmas.Map.Views.{All-keys-insert_entry}
-use Rattle.key_ring.specs.Ring.{HasAdded, key_of, pair_cmp}
-use Rattle.key_ring.proofs.Keys.{insert-HasAdded, lookup-key_of}
+use Rattle.key_ring.specs.Ring.{HasAdded, ring_key, pair_cmp}
+use Rattle.key_ring.proofs.Keys.{insert-HasAdded, lookup-ring_key}
 use Rattle.key_ring.proofs.ring.Ring.add.Goals as goal
 use Rattle.key_ring.proofs.ring.Ring.add.Goals.{in-Ok, in-Err}
 
 -- what `contains_key` found
-found : (id v : ℕ) (m : List ((ℕ × ℕ) × List ℕ)) → (b : Bool) → b ≡ is_some (lookup (is_at (pair_cmp (id, v))) m) → (e : List ((ℕ × ℕ) × List ℕ)) → m ≡ e → is_some (key_of e id v) ≡ b
-found id v m b h e same = ap is_some (ap (λ es. key_of es id v) (sym same) ∙ sym (lookup-key_of m id v)) ∙ sym h
+found : (id v : ℕ) (m : List ((ℕ × ℕ) × List ℕ)) → (b : Bool) → b ≡ is_some (lookup (is_at (pair_cmp (id, v))) m) → (e : List ((ℕ × ℕ) × List ℕ)) → m ≡ e → is_some (ring_key e id v) ≡ b
+found id v m b h e same = ap is_some (ap (λ es. ring_key es id v) (sym same) ∙ sym (lookup-ring_key m id v)) ∙ sym h
 
 pub returns-then-contains_key-clause-refused : goal.returns-then-contains_key-clause-refused
 returns-then-contains_key-clause-refused c =
