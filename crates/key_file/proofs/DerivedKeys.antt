@@ -4,7 +4,7 @@ use Rattle.aes_core.specs.Cipher.{AreBytes, IsBlock, IsKey}
 use Rattle.byte_list.proofs.ByteLaws.{bytes_append, bytes_drop, bytes_take}
 use Rattle.key_file.specs.declared.derivation.KeyDigest.{KeyDigest}
 use Rattle.key_file.specs.declared.derivation.KeyDigest.TheVariants.{Sha1, Sha256}
-use Rattle.key_file.specs.Derivation.{chained, derived, hash_of, iv_of, key_of}
+use Rattle.key_file.specs.Derivation.{chained, derived, hash_of, derived_iv, derived_key}
 use Rattle.key_file.proofs.DigestSha1.{sha1_bytes, sha1_long}
 use Rattle.key_file.proofs.DigestSha256.{sha256_bytes, sha256_long}
 
@@ -33,16 +33,16 @@ module _ (digest : KeyDigest) (password salt : List ℕ) where
     length-append (chained digest password salt 1 ++ chained digest password salt 2) (chained digest password salt 3),
   )
 
-  pub key_is_key : IsKey (key_of digest password salt)
+  pub key_is_key : IsKey (derived_key digest password salt)
   key_is_key =
-      let long : length (key_of digest password salt) ≡ 32 = length-take-le 32 (derived digest password salt) (omega (arith, derived_long)) in
+      let long : length (derived_key digest password salt) ≡ 32 = length-take-le 32 (derived digest password salt) (omega (arith, derived_long)) in
       record {
         whole = omega arith;
         some = omega arith;
         bytes = bytes_take 32 (derived digest password salt) derived_bytes;
       }
 
-  pub iv_is_block : IsBlock (iv_of digest password salt)
+  pub iv_is_block : IsBlock (derived_iv digest password salt)
   iv_is_block = record {
     long = length-take-le 16 (drop 32 (derived digest password salt)) (omega (arith, derived_long, length-drop 32 (derived digest password salt)));
     bytes = bytes_take 16 (drop 32 (derived digest password salt)) (bytes_drop 32 (derived digest password salt) derived_bytes);

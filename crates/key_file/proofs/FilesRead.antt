@@ -7,7 +7,7 @@ use Rattle.key_file.specs.declared.load_fault.LoadFault.{LoadFault}
 use Rattle.key_file.specs.declared.load_fault.LoadFault.TheVariants.{KeyFile}
 use Rattle.key_file.specs.declared.derivation.KeyDigest.{KeyDigest}
 use Rattle.key_file.specs.declared.keys.KeyItem.{KeyItem}
-use Rattle.key_file.specs.Plain.{Reads}
+use Rattle.key_file.specs.Plain.{ReadsPlain}
 use Rattle.key_file.specs.Load.{IsOutside, KeysOf, KeysOfText, TextOf, contents, load_fault_of}
 
 module _ (files : Files) (index : ℕ) (filekey : Option (List ℕ)) (digest : KeyDigest) (name bytes : List ℕ) (whole : contents index key.TooLarge name (files name) ≡ Ok bytes) where
@@ -24,16 +24,16 @@ module _ (files : Files) (index : ℕ) (filekey : Option (List ℕ)) (digest : K
   text_refused fault (inr text) = inr (of_text (Err fault) (Err fault) text refl)
 
   -- a text that reads
-  pub keys_read : (text : List ℕ) (keys : List KeyItem) → TextOf files index filekey digest bytes (Ok text) → Reads text (Ok keys)
+  pub keys_read : (text : List ℕ) (keys : List KeyItem) → TextOf files index filekey digest bytes (Ok text) → ReadsPlain text (Ok keys)
       → KeysOf files index filekey digest name (Ok keys)
   keys_read text keys t reads = of_text (Ok text) (Ok keys) t reads
 
-  named : (text : List ℕ) (fault : KeyFault) → TextOf files index filekey digest bytes (Ok text) → Reads text (Err fault)
+  named : (text : List ℕ) (fault : KeyFault) → TextOf files index filekey digest bytes (Ok text) → ReadsPlain text (Err fault)
       → KeysOf files index filekey digest name (Err (KeyFile index fault))
   named text fault t reads = of_text (Ok text) (Err (KeyFile index fault)) t (refl, reads)
 
   -- a text that does not read
-  pub keys_refused : (text : List ℕ) (fault : KeyFault) → TextOf files index filekey digest bytes (Ok text) → (fault ≡ key.OutOfMemory) ⊎ Reads text (Err fault)
+  pub keys_refused : (text : List ℕ) (fault : KeyFault) → TextOf files index filekey digest bytes (Ok text) → (fault ≡ key.OutOfMemory) ⊎ ReadsPlain text (Err fault)
       → IsOutside (load_fault_of index fault) ⊎ KeysOf files index filekey digest name (Err (load_fault_of index fault))
   keys_refused text key.OutOfMemory t h = inl tt
   keys_refused text fault t (inl memory) = cc

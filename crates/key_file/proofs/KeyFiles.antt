@@ -14,8 +14,8 @@ use Rattle.aes_core.specs.Cipher.{IsKeyLength}
 use Rattle.key_file.specs.declared.fault.KeyFault.{KeyFault}
 use Rattle.key_file.specs.declared.fault.KeyFault.TheVariants.{NoDigits, IdRange, NoSemicolon, KeyLength}
 use Rattle.key_file.specs.declared.keys.KeyItem.{KeyItem}
-use Rattle.key_file.specs.Line.{IsId, after_id, begins_with, digits_of, hex_of, id_of, is_skipped, is_id, is_key_digits, key_of, line_says}
-use Rattle.key_file.specs.Plain.{Reads, first_some, key_for, key_in, last_key, lines_of}
+use Rattle.key_file.specs.Line.{IsId, after_id, begins_with, digits_of, hex_of, id_of, is_skipped, is_id, is_key_digits, line_key, line_says}
+use Rattle.key_file.specs.Plain.{ReadsPlain, first_some, key_for, key_in, last_key, lines_of}
 use Rattle.key_file.specs.Gathered.{IsGathered, items_of}
 use Rattle.key_file.proofs.Gathering.{ascending_items, key_in-items_of}
 
@@ -41,12 +41,12 @@ half_of n m (inr (inl e)) h = inr (inl (omega arith))
 half_of n m (inr (inr e)) h = inr (inr (omega arith))
 
 -- the bytes of 32, 48 or 64 hex digits are a key
-key_length : (line : List ℕ) → is_key_digits (length (hex_of line)) ≡ true → IsKeyLength (length (key_of line))
+key_length : (line : List ℕ) → is_key_digits (length (hex_of line)) ≡ true → IsKeyLength (length (line_key line))
 key_length line h =
     let long = digits_cases (length (hex_of line)) h in
     let bytes = decode_of-digits (hex_of line) (even_of (length (hex_of line)) long) (take_while-AllPass is_hex_digit (drop 1 (after_id line))) in
     let sized = decode_of-ok (hex_of line) bytes.0 bytes.1 in
-    let same : key_of line ≡ bytes.0 = ap (λ r. result_unwrap_or r []) bytes.1 in
+    let same : line_key line ≡ bytes.0 = ap (λ r. result_unwrap_or r []) bytes.1 in
     subst (λ (key : List ℕ). IsKeyLength (length key)) (sym same) (half_of (length (hex_of line)) (length bytes.0) long sized.2)
 
 -- where five tests lead to a key
@@ -67,7 +67,7 @@ IsKeyOf id key = IsId id × IsKeyLength (length key)
 says_key : (n : ℕ) (line : List ℕ) (item : KeyItem) → line_says n line ≡ Ok (Some item) → IsKeyOf item.id item.key
 says_key n line item h =
     let reached = key_reached (is_skipped line) (length (digits_of line) == 0) (is_id (id_of line)) (begins_with 59 (after_id line)) (is_key_digits (length (hex_of line)))
-    (NoDigits n) (IdRange n) (NoSemicolon n) (KeyLength n (length (hex_of line))) (record { id = id_of line; key = key_of line }) item h in
+    (NoDigits n) (IdRange n) (NoSemicolon n) (KeyLength n (length (hex_of line))) (record { id = id_of line; key = line_key line }) item h in
     subst (λ (i : KeyItem). IsKeyOf i.id i.key) reached.2 (id_in_range (id_of line) reached.0, key_length line reached.1)
 
 -- ---- all lines
@@ -94,16 +94,16 @@ last_key_is n (line ∷ lines) id key h = last_of n id key line (last_key (n + 1
 
 -- ---- the definition
 
-pub reads_key_one : (bytes : List ℕ) (keys : List KeyItem) → Reads bytes (Ok keys) → IsSome (key_in keys 1)
+pub reads_key_one : (bytes : List ℕ) (keys : List KeyItem) → ReadsPlain bytes (Ok keys) → IsSome (key_in keys 1)
 reads_key_one bytes keys r = subst IsSome (sym (r.2.keys_are 1)) r.1
 
-pub reads_keys : (bytes : List ℕ) (keys : List KeyItem) → Reads bytes (Ok keys) → (id : ℕ) (key : List ℕ) → key_in keys id ≡ Some key → IsKeyOf id key
+pub reads_keys : (bytes : List ℕ) (keys : List KeyItem) → ReadsPlain bytes (Ok keys) → (id : ℕ) (key : List ℕ) → key_in keys id ≡ Some key → IsKeyOf id key
 reads_keys bytes keys r id key h = last_key_is 1 (lines_of bytes) id key (sym (r.2.keys_are id) ∙ h)
 
 -- the keys that are gathered are what the definition relates
 pub gathered_reads : (bytes : List ℕ) (m : BTreeMap ℕ (List ℕ)) → IsGathered (lines_of bytes) m → IsOrdered nat_cmp m → true ≡ is_some (get nat_cmp m 1)
-    → (items : List KeyItem) → items ≡ items_of m.entries → Reads bytes (Ok items)
-gathered_reads bytes m gathered ordered one items e = subst (λ (keys : List KeyItem). Reads bytes (Ok keys)) (sym e) (
+    → (items : List KeyItem) → items ≡ items_of m.entries → ReadsPlain bytes (Ok items)
+gathered_reads bytes m gathered ordered one items e = subst (λ (keys : List KeyItem). ReadsPlain bytes (Ok keys)) (sym e) (
   gathered.no_fault,
   subst IsSome (gathered.keys_are 1) (sym one),
   record {

@@ -7,7 +7,7 @@ use Rattle.key_file.specs.declared.load_fault.LoadFault.{LoadFault}
 use Rattle.key_file.specs.declared.derivation.KeyDigest.{KeyDigest}
 use Rattle.key_file.specs.declared.keys.KeyItem.{KeyItem}
 use Rattle.key_file.specs.Load.{KeysOf}
-use Rattle.key_file.specs.Loaded.{CallsFor, HasKeys, IsDue, LoadsFrom}
+use Rattle.key_file.specs.Loaded.{CallsFor, HasKeysOfVersion, IsDue, LoadsFrom}
 
 no_names : (names : List (List ℕ)) → length names ≡ 0 → names ≡ []
 no_names [] h = refl
@@ -15,13 +15,13 @@ no_names (n ∷ ns) h = absurd (omega arith)
 
 module _ (files : Files) (filekey : Option (List ℕ)) (digest : KeyDigest) (names : List (List ℕ)) where
   -- the file of index i gives keys
-  more : (i : ℕ) (name : List ℕ) (ring next : List RingEntry) (keys : List KeyItem) → KeysOf files i filekey digest name (Ok keys) → HasKeys ring keys (i + 1) next
+  more : (i : ℕ) (name : List ℕ) (ring next : List RingEntry) (keys : List KeyItem) → KeysOf files i filekey digest name (Ok keys) → HasKeysOfVersion ring keys (i + 1) next
       → (rest : List (List ℕ)) (r : Result (List RingEntry) LoadFault) → LoadsFrom files filekey digest (i + 1) rest next r → LoadsFrom files filekey digest i (name ∷ rest) ring r
   more i name ring next keys gives has rest (Ok last) h = (keys, gives, record { ring = next; added = has; rest_loads = h })
   more i name ring next keys gives has rest (Err fault) h = inr (keys, gives, record { ring = next; added = has; rest_loads = h })
 
   pub loads_more : (i : ℕ) (name : List ℕ) → i < length names → get_or names i name ≡ name → (ring next : List RingEntry) (keys : List KeyItem)
-      → KeysOf files i filekey digest name (Ok keys) → HasKeys ring keys (i + 1) next
+      → KeysOf files i filekey digest name (Ok keys) → HasKeysOfVersion ring keys (i + 1) next
       → (r : Result (List RingEntry) LoadFault) → LoadsFrom files filekey digest (i + 1) (drop (i + 1) names) next r → LoadsFrom files filekey digest i (drop i names) ring r
   loads_more i name within is ring next keys gives has r h =
       subst (λ (ns : List (List ℕ)). LoadsFrom files filekey digest i ns ring r) (sym (drop_more names i name within ∙ ap (λ (x : List ℕ). x ∷ drop (i + 1) names) is))

@@ -10,11 +10,11 @@ use Rattle.key_file.specs.declared.fault.KeyFault.TheVariants as key
 use Rattle.key_file.specs.declared.load_fault.LoadFault.{LoadFault}
 use Rattle.key_file.specs.declared.load_fault.LoadFault.TheVariants.{Missing, FileFault, KeyFile, OutOfMemory}
 use Rattle.key_file.specs.declared.keys.KeyItem.{KeyItem}
-use Rattle.key_file.specs.Plain.{Reads, key_in}
+use Rattle.key_file.specs.Plain.{ReadsPlain, key_in}
 use Rattle.key_file.specs.Load.{Deciphered, IsOutside, KeysIn, KeysOf, KeysOfText, Opened, TextOf, contents, is_salted, secret_of}
-use Rattle.key_file.specs.Loaded.{HasKeys, IsSameAnswer, IsTheAnswer, LoadsFrom}
+use Rattle.key_file.specs.Loaded.{HasKeysOfVersion, IsSameAnswer, IsTheAnswer, LoadsFrom}
 use Rattle.key_file.proofs.OneText.{Deciphers-unique}
-use Rattle.key_file.proofs.Unique.{Reads-unique}
+use Rattle.key_file.proofs.Unique.{ReadsPlain-unique}
 
 -- ---- the text of a file
 
@@ -77,10 +77,10 @@ module _ (files : Files) (index : ℕ) (digest : KeyDigest) where
 -- ---- the keys of a file
 
 KeysIn-unique : (index : ℕ) (text : List ℕ) (r s : Result (List KeyItem) LoadFault) → KeysIn index text r → KeysIn index text s → r ≡ s
-KeysIn-unique index text (Ok keys) (Ok other) h k = let same = Reads-unique text (Ok keys) (Ok other) h k in cc
-KeysIn-unique index text (Ok keys) (Err (KeyFile j g)) h k = let same = Reads-unique text (Ok keys) (Err g) h k.1 in cc
-KeysIn-unique index text (Err (KeyFile i f)) (Ok other) h k = let same = Reads-unique text (Err f) (Ok other) h.1 k in cc
-KeysIn-unique index text (Err (KeyFile i f)) (Err (KeyFile j g)) h k = same_faults i j index f g h.0 k.0 (Reads-unique text (Err f) (Err g) h.1 k.1)
+KeysIn-unique index text (Ok keys) (Ok other) h k = let same = ReadsPlain-unique text (Ok keys) (Ok other) h k in cc
+KeysIn-unique index text (Ok keys) (Err (KeyFile j g)) h k = let same = ReadsPlain-unique text (Ok keys) (Err g) h k.1 in cc
+KeysIn-unique index text (Err (KeyFile i f)) (Ok other) h k = let same = ReadsPlain-unique text (Err f) (Ok other) h.1 k in cc
+KeysIn-unique index text (Err (KeyFile i f)) (Err (KeyFile j g)) h k = same_faults i j index f g h.0 k.0 (ReadsPlain-unique text (Err f) (Err g) h.1 k.1)
 KeysIn-unique index text (Ok keys) (Err _) h k = absurd k
 KeysIn-unique index text (Err (KeyFile i f)) (Err _) h k = absurd k
 KeysIn-unique index text (Err _) s h k = absurd h
@@ -106,7 +106,7 @@ abbrev AreSame : List RingEntry → List RingEntry → Type 0
 AreSame ring other = (id v : ℕ) → key_under ring id v ≡ key_under other id v
 
 same_next : (ring other next after : List RingEntry) (keys more : List KeyItem) (version : ℕ) → AreSame ring other → keys ≡ more
-    → HasKeys ring keys version next → HasKeys other more version after → AreSame next after
+    → HasKeysOfVersion ring keys version next → HasKeysOfVersion other more version after → AreSame next after
 same_next ring other next after keys more version same e h k id v =
     h.keys_are id v ∙ ap₂ (λ (a b : Option (List ℕ)). cond (v == version) a b) (ap (λ (l : List KeyItem). key_in l id) e) (same id v) ∙ sym (k.keys_are id v)
 

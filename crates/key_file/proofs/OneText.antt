@@ -6,13 +6,13 @@ use Rattle.aes_core.proofs.Padding.{ends_padded, long_padded, padded_more, padde
 use Rattle.key_file.specs.declared.derivation.KeyDigest.{KeyDigest}
 use Rattle.key_file.specs.declared.fault.KeyFault.{KeyFault}
 use Rattle.key_file.specs.declared.fault.KeyFault.TheVariants.{ShortSalted, CipherLength, Padding, OutOfMemory}
-use Rattle.key_file.specs.Derivation.{iv_of, key_of}
-use Rattle.key_file.specs.Salted.{Deciphers, IsTextOf, IsWholeBlocks, cipher_text, salt_of}
+use Rattle.key_file.specs.Derivation.{derived_iv, derived_key}
+use Rattle.key_file.specs.Salted.{Deciphers, IsSaltedText, IsWholeBlocks, cipher_text, salt_of}
 use Rattle.key_file.proofs.DerivedKeys.{iv_is_block, key_is_key}
 
 module _ (digest : KeyDigest) (password bytes : List ℕ) where
   -- a cipher text that a text gives is some whole blocks
-  whole_of : (text : List ℕ) → AreBytes text → IsTextOf digest password bytes text → IsWholeBlocks (length (cipher_text bytes))
+  whole_of : (text : List ℕ) → AreBytes text → IsSaltedText digest password bytes text → IsWholeBlocks (length (cipher_text bytes))
   whole_of text are is =
       let long = long_padded _ _ (key_is_key digest password (salt_of bytes)) (iv_is_block digest password (salt_of bytes)) text (cipher_text bytes) are is in
       (omega (arith, long, padded_more text), omega (arith, long, padded_whole text))

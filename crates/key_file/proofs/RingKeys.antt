@@ -6,7 +6,7 @@ use Rattle.std.proofs.lemmas.List.{drop_more, get_or-drop, get_or_default, lengt
 use Rattle.key_ring.specs.Ring.{RingEntry, HasAdded, ring_key}
 use Rattle.key_file.specs.declared.keys.KeyItem.{KeyItem}
 use Rattle.key_file.specs.Plain.{IsAscending, first_some, key_in}
-use Rattle.key_file.specs.Loaded.{HasKeys}
+use Rattle.key_file.specs.Loaded.{HasKeysOfVersion}
 
 pub ne-eqb : (a b : ℕ) → (a ≡ b → ⊥) → eqb a b ≡ false
 ne-eqb a b h = grind arith
@@ -56,7 +56,7 @@ module _ (first : List RingEntry) (keys : List KeyItem) (version : ℕ) where
     absent = λ j d from within id above. is_none (ring_key first id version) (none id);
   }
 
-  pub first_end : (i : ℕ) (ring : List RingEntry) → length keys ≤ i → HasFirst first keys version i ring → HasKeys first keys version ring
+  pub first_end : (i : ℕ) (ring : List RingEntry) → length keys ≤ i → HasFirst first keys version i ring → HasKeysOfVersion first keys version ring
   first_end i ring long h =
       let over : drop i keys ≡ [] = no_items (drop i keys) (omega (arith, length-drop i keys)) in
       record {
@@ -106,5 +106,5 @@ item_at (k ∷ ks) zero item h = cc
 item_at (k ∷ ks) (suc i) item h = item_at ks i item h
 
 -- there is no key of a version after that of the file
-pub later_version : (old new : List RingEntry) (keys : List KeyItem) (n : ℕ) → HasKeys old keys n new → (id v : ℕ) → n < v → IsNone (ring_key old id v) → IsNone (ring_key new id v)
+pub later_version : (old new : List RingEntry) (keys : List KeyItem) (n : ℕ) → HasKeysOfVersion old keys n new → (id v : ℕ) → n < v → IsNone (ring_key old id v) → IsNone (ring_key new id v)
 later_version old new keys n has id v h none = subst IsNone (sym (has.keys_are id v ∙ rw (ne-eqb v n (λ e. omega arith)) refl)) none

@@ -4,7 +4,7 @@ use Rattle.std.proofs.lemmas.List.{append_assoc, take-append-drop, take-append-l
 use Rattle.sha1.specs.Sha1.{sha1}
 use Rattle.sha2.specs.Sha256.{sha256}
 use Rattle.key_file.specs.declared.derivation.KeyDigest.TheVariants.{Sha1, Sha256}
-use Rattle.key_file.specs.Derivation.{derived, iv_of, key_of}
+use Rattle.key_file.specs.Derivation.{derived, derived_iv, derived_key}
 
 -- ---- three lists: a part of the second goes to the first, the rest to the third
 
@@ -54,19 +54,19 @@ chained_sha256 : (p s a b : List ℕ) → a ≡ sha256 ([] ++ p ++ s) → b ≡ 
 chained_sha256 p s a b e f = cc
 
 pub sha1_key : (p s a b c : List ℕ) → a ≡ sha1 ([] ++ p ++ s) → b ≡ sha1 (a ++ p ++ s) → c ≡ sha1 (b ++ p ++ s)
-    → length a ≡ 20 → length b ≡ 20 → length c ≡ 20 → a ++ take 12 b ≡ key_of Sha1 p s
+    → length a ≡ 20 → length b ≡ 20 → length c ≡ 20 → a ++ take 12 b ≡ derived_key Sha1 p s
 sha1_key p s a b c e f g la lb lc = sym (take-20-20 a b c la lb) ∙ ap (take 32) (chained_sha1 p s a b c e f g)
 
 pub sha1_iv : (p s a b c : List ℕ) → a ≡ sha1 ([] ++ p ++ s) → b ≡ sha1 (a ++ p ++ s) → c ≡ sha1 (b ++ p ++ s)
-    → length a ≡ 20 → length b ≡ 20 → length c ≡ 20 → take 8 (drop 12 b) ++ take 8 c ≡ iv_of Sha1 p s
+    → length a ≡ 20 → length b ≡ 20 → length c ≡ 20 → take 8 (drop 12 b) ++ take 8 c ≡ derived_iv Sha1 p s
 sha1_iv p s a b c e f g la lb lc =
     ap (λ (x : List ℕ). x ++ take 8 c) (take_all 8 (drop 12 b) (omega (arith, length-drop 12 b)))
     ∙ sym (drop-20-20 a b c la lb lc) ∙ ap (λ (x : List ℕ). take 16 (drop 32 x)) (chained_sha1 p s a b c e f g)
 
 pub sha256_key : (p s a b : List ℕ) → a ≡ sha256 ([] ++ p ++ s) → b ≡ sha256 (a ++ p ++ s)
-    → length a ≡ 32 → length b ≡ 32 → a ≡ key_of Sha256 p s
+    → length a ≡ 32 → length b ≡ 32 → a ≡ derived_key Sha256 p s
 sha256_key p s a b e f la lb = sym (take-32 a b (sha256 (b ++ p ++ s)) la) ∙ ap (take 32) (chained_sha256 p s a b e f)
 
 pub sha256_iv : (p s a b : List ℕ) → a ≡ sha256 ([] ++ p ++ s) → b ≡ sha256 (a ++ p ++ s)
-    → length a ≡ 32 → length b ≡ 32 → take 16 b ≡ iv_of Sha256 p s
+    → length a ≡ 32 → length b ≡ 32 → take 16 b ≡ derived_iv Sha256 p s
 sha256_iv p s a b e f la lb = sym (drop-32 a b (sha256 (b ++ p ++ s)) la lb) ∙ ap (λ (x : List ℕ). take 16 (drop 32 x)) (chained_sha256 p s a b e f)

@@ -3,7 +3,7 @@ use Rattle.std.proofs.Common.{◌≡◌, ℕ, suc, zero, ◌<◌, List, [], ◌�
 use Rattle.std.proofs.lemmas.Bool.{eq-eqb, cases_eq, cases_lt}
 use Rattle.key_file.specs.declared.fault.KeyFault.{KeyFault}
 use Rattle.key_file.specs.declared.keys.KeyItem.{KeyItem}
-use Rattle.key_file.specs.Plain.{IsAscending, Reads, key_in}
+use Rattle.key_file.specs.Plain.{IsAscending, ReadsPlain, key_in}
 use Rattle.key_file.proofs.RingKeys.{key_in_below, ne-eqb}
 
 rest_ascending : (k : KeyItem) (ks : List KeyItem) → IsAscending (k ∷ ks) → IsAscending ks
@@ -59,14 +59,14 @@ same_lists (x ∷ xs) (y ∷ ys) up up' same =
     let first : x ≡ y = item_same x y id key in
     cc
 
-pub Reads-unique : (bytes : List ℕ) (r s : Result (List KeyItem) KeyFault) → Reads bytes r → Reads bytes s → r ≡ s
-Reads-unique bytes (Ok keys) (Ok other) h k =
+pub ReadsPlain-unique : (bytes : List ℕ) (r s : Result (List KeyItem) KeyFault) → ReadsPlain bytes r → ReadsPlain bytes s → r ≡ s
+ReadsPlain-unique bytes (Ok keys) (Ok other) h k =
     ap Ok (same_lists keys other h.2.ascending k.2.ascending (λ id. h.2.keys_are id ∙ sym (k.2.keys_are id)))
-Reads-unique bytes (Ok keys) (Err fault) h (inl k) = let none = h.0 in cc
-Reads-unique bytes (Ok keys) (Err fault) h (inr k) = let some = h.1 in let none = k.1 in cc
-Reads-unique bytes (Err fault) (Ok keys) (inl h) k = let none = k.0 in cc
-Reads-unique bytes (Err fault) (Ok keys) (inr h) k = let some = k.1 in let none = h.1 in cc
-Reads-unique bytes (Err fault) (Err other) (inl h) (inl k) = cc
-Reads-unique bytes (Err fault) (Err other) (inl h) (inr k) = let none = k.0 in cc
-Reads-unique bytes (Err fault) (Err other) (inr h) (inl k) = let none = h.0 in cc
-Reads-unique bytes (Err fault) (Err other) (inr h) (inr k) = let a = h.2 in let b = k.2 in cc
+ReadsPlain-unique bytes (Ok keys) (Err fault) h (inl k) = let none = h.0 in cc
+ReadsPlain-unique bytes (Ok keys) (Err fault) h (inr k) = let some = h.1 in let none = k.1 in cc
+ReadsPlain-unique bytes (Err fault) (Ok keys) (inl h) k = let none = k.0 in cc
+ReadsPlain-unique bytes (Err fault) (Ok keys) (inr h) k = let some = k.1 in let none = h.1 in cc
+ReadsPlain-unique bytes (Err fault) (Err other) (inl h) (inl k) = cc
+ReadsPlain-unique bytes (Err fault) (Err other) (inl h) (inr k) = let none = k.0 in cc
+ReadsPlain-unique bytes (Err fault) (Err other) (inr h) (inl k) = let none = h.0 in cc
+ReadsPlain-unique bytes (Err fault) (Err other) (inr h) (inr k) = let a = h.2 in let b = k.2 in cc

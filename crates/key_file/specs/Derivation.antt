@@ -20,9 +20,9 @@ abbrev pub derived : KeyDigest → List ℕ → List ℕ → List ℕ
 derived digest password salt = chained digest password salt 1 ++ chained digest password salt 2 ++ chained digest password salt 3
 
 -- the key of AES-256: the first 32 bytes
-abbrev pub key_of : KeyDigest → List ℕ → List ℕ → List ℕ
-key_of digest password salt = take 32 (derived digest password salt)
+abbrev pub derived_key : KeyDigest → List ℕ → List ℕ → List ℕ
+derived_key digest password salt = take 32 (derived digest password salt)
 
 -- the IV: the next 16
-abbrev pub iv_of : KeyDigest → List ℕ → List ℕ → List ℕ
-iv_of digest password salt = take 16 (drop 32 (derived digest password salt))
+abbrev pub derived_iv : KeyDigest → List ℕ → List ℕ → List ℕ
+derived_iv digest password salt = take 16 (drop 32 (derived digest password salt))

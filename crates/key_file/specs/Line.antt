@@ -21,8 +21,8 @@ drop_while p s = drop (prefix_len p s) s
 -- ---- the parts of a line
 
 -- the line past its leading blanks
-abbrev pub text_of : List ℕ → List ℕ
-text_of line = drop_while is_blank line
+abbrev pub line_text : List ℕ → List ℕ
+line_text line = drop_while is_blank line
 
 -- whether the list begins with the byte
 abbrev pub begins_with : ℕ → List ℕ → Bool
@@ -31,11 +31,11 @@ begins_with b (c ∷ cs) = c == b
 
 -- an empty line, or a comment
 abbrev pub is_skipped : List ℕ → Bool
-is_skipped line = length (text_of line) == 0 || begins_with 35 (text_of line)
+is_skipped line = length (line_text line) == 0 || begins_with 35 (line_text line)
 
 -- the digits of the id
 abbrev pub digits_of : List ℕ → List ℕ
-digits_of line = take_while is_ascii_digit (text_of line)
+digits_of line = take_while is_ascii_digit (line_text line)
 
 -- the number that they spell
 abbrev pub id_of : List ℕ → ℕ
@@ -43,15 +43,15 @@ id_of line = digits_value 10 (digits_of line)
 
 -- what follows the digits of the id
 abbrev pub after_id : List ℕ → List ℕ
-after_id line = drop_while is_ascii_digit (text_of line)
+after_id line = drop_while is_ascii_digit (line_text line)
 
 -- the longest run of hex digits after the semicolon
 abbrev pub hex_of : List ℕ → List ℕ
 hex_of line = take_while is_hex_digit (drop 1 (after_id line))
 
 -- the bytes that they spell
-abbrev pub key_of : List ℕ → List ℕ
-key_of line = result_unwrap_or (decode_of (hex_of line)) []
+abbrev pub line_key : List ℕ → List ℕ
+line_key line = result_unwrap_or (decode_of (hex_of line)) []
 
 -- ---- what a line says
 
@@ -70,7 +70,7 @@ line_says n line =
     else if not (is_id (id_of line)) then Err (IdRange n)
     else if not (begins_with 59 (after_id line)) then Err (NoSemicolon n)
     else if not (is_key_digits (length (hex_of line))) then Err (KeyLength n (length (hex_of line)))
-    else Ok (Some (record { id = id_of line; key = key_of line }))
+    else Ok (Some (record { id = id_of line; key = line_key line }))
 
 -- ---- the same as facts
 

@@ -9,7 +9,7 @@ use Rattle.key_file.specs.declared.load_fault.LoadFault.{LoadFault}
 use Rattle.key_file.specs.declared.load_fault.LoadFault.TheVariants.{Missing, FileFault, KeyFile, OutOfMemory}
 use Rattle.key_file.specs.declared.derivation.KeyDigest.{KeyDigest}
 use Rattle.key_file.specs.declared.keys.KeyItem.{KeyItem}
-use Rattle.key_file.specs.Plain.{Reads}
+use Rattle.key_file.specs.Plain.{ReadsPlain}
 use Rattle.key_file.specs.Salted.{Deciphers}
 
 -- ---- the bytes of a file
@@ -68,8 +68,8 @@ TextOf files index filekey digest bytes r = MatchBool (is_salted bytes) (Opened 
 -- ---- the keys of a key file
 
 abbrev pub KeysIn : ℕ → List ℕ → Result (List KeyItem) LoadFault → Type 0
-KeysIn index text (Ok keys) = Reads text (Ok keys)
-KeysIn index text (Err (KeyFile i fault)) = (i ≡ index) × Reads text (Err fault)
+KeysIn index text (Ok keys) = ReadsPlain text (Ok keys)
+KeysIn index text (Err (KeyFile i fault)) = (i ≡ index) × ReadsPlain text (Err fault)
 KeysIn index text (Err _) = ⊥
 
 -- the keys of the text, where there is one

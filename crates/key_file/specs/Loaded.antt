@@ -11,13 +11,13 @@ use Rattle.key_file.specs.Plain.{key_in}
 use Rattle.key_file.specs.Load.{KeysOf, contents, is_salted}
 
 -- the new ring has the keys of a file as this version, and of other versions what the old one has
-pub record HasKeys (old : List RingEntry) (keys : List KeyItem) (version : ℕ) (new : List RingEntry) : Type 0 where
+pub record HasKeysOfVersion (old : List RingEntry) (keys : List KeyItem) (version : ℕ) (new : List RingEntry) : Type 0 where
   pub keys_are : (id v : ℕ) → ring_key new id v ≡ (if v == version then key_in keys id else ring_key old id v)
 
 -- a ring and its keys as a later version give the next ring
 pub record NextRing (old : List RingEntry) (keys : List KeyItem) (version : ℕ) (rest : List RingEntry → Type 0) : Type 0 where
   pub ring : List RingEntry
-  pub added : HasKeys old keys version ring
+  pub added : HasKeysOfVersion old keys version ring
   pub rest_loads : rest ring
 
 -- what the files of these names give, the first of index n, to a ring that has the keys of those before:

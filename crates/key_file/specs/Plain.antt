@@ -52,8 +52,8 @@ pub record IsMapOf (lines : List (List ℕ)) (keys : List KeyItem) : Type 0 wher
 
 -- the bytes have these keys where no line is refused and one names id 1; else they have the fault
 -- of the first line that is refused, and `NoKeyOne` after all lines
-abbrev pub Reads : List ℕ → Result (List KeyItem) KeyFault → Type 0
-Reads bytes (Ok keys) = (first_fault 1 (lines_of bytes) ≡ None) × IsSome (last_key 1 (lines_of bytes) 1) × IsMapOf (lines_of bytes) keys
-Reads bytes (Err fault) =
+abbrev pub ReadsPlain : List ℕ → Result (List KeyItem) KeyFault → Type 0
+ReadsPlain bytes (Ok keys) = (first_fault 1 (lines_of bytes) ≡ None) × IsSome (last_key 1 (lines_of bytes) 1) × IsMapOf (lines_of bytes) keys
+ReadsPlain bytes (Err fault) =
     (first_fault 1 (lines_of bytes) ≡ Some fault)
     ⊎ ((first_fault 1 (lines_of bytes) ≡ None) × IsNone (last_key 1 (lines_of bytes) 1) × (fault ≡ NoKeyOne))

@@ -5,7 +5,7 @@ use Rattle.aes_core.specs.Modes.{cbc_pad}
 use Rattle.key_file.specs.declared.fault.KeyFault.{KeyFault}
 use Rattle.key_file.specs.declared.fault.KeyFault.TheVariants.{ShortSalted, CipherLength, Padding, OutOfMemory}
 use Rattle.key_file.specs.declared.derivation.KeyDigest.{KeyDigest}
-use Rattle.key_file.specs.Derivation.{iv_of, key_of}
+use Rattle.key_file.specs.Derivation.{derived_iv, derived_key}
 
 -- the first 8 bytes
 abbrev pub IsSalted : List ℕ → Type 0
@@ -18,9 +18,9 @@ abbrev pub cipher_text : List ℕ → List ℕ
 cipher_text bytes = drop 16 bytes
 
 -- the text enciphers to the file's cipher text under the key and the IV that the password gives
-abbrev pub IsTextOf : KeyDigest → List ℕ → List ℕ → List ℕ → Type 0
-IsTextOf digest password bytes text =
-    cipher_text bytes ≡ cbc_pad (key_of digest password (salt_of bytes)) (iv_of digest password (salt_of bytes)) text
+abbrev pub IsSaltedText : KeyDigest → List ℕ → List ℕ → List ℕ → Type 0
+IsSaltedText digest password bytes text =
+    cipher_text bytes ≡ cbc_pad (derived_key digest password (salt_of bytes)) (derived_iv digest password (salt_of bytes)) text
 
 -- some whole blocks
 abbrev pub IsWholeBlocks : ℕ → Type 0
@@ -28,10 +28,10 @@ IsWholeBlocks n = (1 ≤ n) × (n % 16 ≡ 0)
 
 -- what an enciphered file gives: its text, a list of bytes, or the first of three faults; want of memory is free
 abbrev pub Deciphers : KeyDigest → List ℕ → List ℕ → Result (List ℕ) KeyFault → Type 0
-Deciphers digest password bytes (Ok text) = (16 ≤ length bytes) × AreBytes text × IsTextOf digest password bytes text
+Deciphers digest password bytes (Ok text) = (16 ≤ length bytes) × AreBytes text × IsSaltedText digest password bytes text
 Deciphers digest password bytes (Err (ShortSalted n)) = (n ≡ length bytes) × (n < 16)
 Deciphers digest password bytes (Err (CipherLength n)) = (16 ≤ length bytes) × (n ≡ length (cipher_text bytes)) × ((n ≡ 0) ⊎ (0 < n % 16))
 Deciphers digest password bytes (Err Padding) =
-    (16 ≤ length bytes) × IsWholeBlocks (length (cipher_text bytes)) × ((text : List ℕ) → AreBytes text → ¬ IsTextOf digest password bytes text)
+    (16 ≤ length bytes) × IsWholeBlocks (length (cipher_text bytes)) × ((text : List ℕ) → AreBytes text → ¬ IsSaltedText digest password bytes text)
 Deciphers digest password bytes (Err OutOfMemory) = (16 ≤ length bytes) × IsWholeBlocks (length (cipher_text bytes))
 Deciphers digest password bytes (Err _) = ⊥

@@ -4,7 +4,7 @@ ghost use Rattle.std.specs.Prelude.{◌≡◌, ◌++◌, ◌+◌, length};
 ghost use Rattle.sha1.specs.Sha1.{sha1};
 ghost use Rattle.sha2.specs.Sha256.{sha256};
 ghost use Rattle.key_file.specs.declared.derivation.KeyDigest.TheVariants as digests;
-ghost use Rattle.key_file.specs.Derivation.{iv_of, key_of};
+ghost use Rattle.key_file.specs.Derivation.{derived_iv, derived_key};
 
 use sha1::Sha1;
 use sha2::{Digest, Sha256};
@@ -51,8 +51,8 @@ fn fill(into: &mut [u8], front: &[u8], rest: &[u8])
 
 // With digests of 20 bytes the key ends inside the second and the IV inside the third.
 fn derive_sha1(password: &[u8], salt: &[u8; 8]) -> ([u8; 32], [u8; 16])
-    ensures key { result.0 ≡ key_of digests.Sha1 password.now salt.now }
-    ensures iv { result.1 ≡ iv_of digests.Sha1 password.now salt.now }
+    ensures key { result.0 ≡ derived_key digests.Sha1 password.now salt.now }
+    ensures iv { result.1 ≡ derived_iv digests.Sha1 password.now salt.now }
 {
     let first = next_sha1(&[], password, salt);
     let second = next_sha1(&first, password, salt);
@@ -66,8 +66,8 @@ fn derive_sha1(password: &[u8], salt: &[u8; 8]) -> ([u8; 32], [u8; 16])
 
 // With digests of 32 bytes the key is the first, and the IV begins the second.
 fn derive_sha256(password: &[u8], salt: &[u8; 8]) -> ([u8; 32], [u8; 16])
-    ensures key { result.0 ≡ key_of digests.Sha256 password.now salt.now }
-    ensures iv { result.1 ≡ iv_of digests.Sha256 password.now salt.now }
+    ensures key { result.0 ≡ derived_key digests.Sha256 password.now salt.now }
+    ensures iv { result.1 ≡ derived_iv digests.Sha256 password.now salt.now }
 {
     let key = next_sha256(&[], password, salt);
     let second = next_sha256(&key, password, salt);
@@ -80,8 +80,8 @@ fn derive_sha256(password: &[u8], salt: &[u8; 8]) -> ([u8; 32], [u8; 16])
 /// 32 bytes and the next 16 of the digests D(1), D(2), D(3), each of the one before, the password and
 /// the salt.
 pub fn derive(digest: KeyDigest, password: &[u8], salt: &[u8; 8]) -> ([u8; 32], [u8; 16])
-    ensures key { result.0 ≡ key_of digest password.now salt.now }
-    ensures iv { result.1 ≡ iv_of digest password.now salt.now }
+    ensures key { result.0 ≡ derived_key digest password.now salt.now }
+    ensures iv { result.1 ≡ derived_iv digest password.now salt.now }
 {
     match digest {
         KeyDigest::Sha1 => derive_sha1(password, salt),

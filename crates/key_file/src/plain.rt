@@ -3,7 +3,7 @@
 ghost use Rattle.std.specs.Prelude.{◌≡◌, ℕ, Some, Ok, Err, ◌⊎◌, List, length, map, IfOk, IfErr, OnOk, MatchResult, IsSome};
 ghost use Rattle.aes_core.specs.Cipher.{IsKeyLength};
 ghost use Rattle.key_file.specs.Line.{IsId, line_says};
-ghost use Rattle.key_file.specs.Plain.{Reads, first_fault, key_in, lines_of};
+ghost use Rattle.key_file.specs.Plain.{ReadsPlain, first_fault, key_in, lines_of};
 ghost use Rattle.key_file.specs.Gathered.{IsGathered, TakesLine, items_of};
 ghost use Rattle.std.specs.Ordering.{nat_cmp};
 ghost use Rattle.std.specs.BTreeMap.{IsOrdered};
@@ -24,7 +24,7 @@ use std::collections::BTreeMap;
 /// The first fault in order of lines, of each line in this order: `NoDigits`, `IdRange`,
 /// `NoSemicolon`, `KeyLength`. Then `NoKeyOne` exactly where no line has id 1. `OutOfMemory`.
 pub fn parse_plain(alloc: Global, bytes: &[u8]) -> Result<KeyList, KeyFault>
-    ensures reads { MatchResult result (λ keys. Reads bytes.now (Ok keys)) (λ fault. (fault ≡ KeyFault.OutOfMemory) ⊎ Reads bytes.now (Err fault)) }
+    ensures reads { MatchResult result (λ keys. ReadsPlain bytes.now (Ok keys)) (λ fault. (fault ≡ KeyFault.OutOfMemory) ⊎ ReadsPlain bytes.now (Err fault)) }
 
     // What never comes: a list without id 1, an id out of range, a key of another length.
     ensures key_one { IfOk result (λ keys. IsSome (key_in keys 1)) }

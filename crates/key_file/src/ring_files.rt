@@ -6,7 +6,7 @@ ghost use Rattle.io_core.specs.Told.{Told};
 ghost use Rattle.key_ring.specs.Ring.{HasAdded, ring_key};
 ghost use Rattle.key_file.specs.Cause.{HasCauses};
 ghost use Rattle.key_file.specs.Load.{IsOutside};
-ghost use Rattle.key_file.specs.Loaded.{HasKeys, IsDue, IsTheAnswer, LoadsFrom};
+ghost use Rattle.key_file.specs.Loaded.{HasKeysOfVersion, IsDue, IsTheAnswer, LoadsFrom};
 
 use crate::derivation::KeyDigest;
 use crate::keys::{KeyItem, KeyList};
@@ -35,7 +35,7 @@ fn add_item(ring: &mut Ring, item: &KeyItem, version: u32) -> Result<(), LoadFau
 fn add_keys(ring: &mut Ring, keys: &KeyList, version: u32) -> Result<(), LoadFault>
     requires version { 1 ≤ version }
     requires absent { (id : ℕ) → IsNone (ring_key ring.old id version) }
-    ensures added { OnOk result (HasKeys ring.old keys.now version ring.new) }
+    ensures added { OnOk result (HasKeysOfVersion ring.old keys.now version ring.new) }
     ensures memory { IfErr result (λ fault. fault ≡ LoadFault.OutOfMemory) }
 {
     let count = keys.len();

@@ -1,6 +1,6 @@
 use Rattle.std.proofs.Common.{length, sym, ap, subst, ◌∙◌, Err, arith}
 use Rattle.aes_core.specs.Cipher.{AreBytes}
-use Rattle.key_file.specs.Derivation.{iv_of, key_of}
+use Rattle.key_file.specs.Derivation.{derived_iv, derived_key}
 use Rattle.key_file.proofs.CipherText.{other_fault, rest_is, text_back, text_under}
 use Rattle.key_file.proofs.salted.read_salted.Goals as goal
 
@@ -10,7 +10,7 @@ returns-in-Ok c =
       c.if-bytes-lt16.false,
       subst AreBytes c.deref.ensures.value c.known_bytes.ensures,
       text_under c.args.bytes.now c.in-Some.key c.derive.result.1 _ _ c.in-Ok.text.items c.in-Ok.ensures.accepted
-          (c.in-Some.ensures.0 ∙ c.derive.ensures.key ∙ ap (key_of c.args.digest c.args.password.now) salt) (c.derive.ensures.iv ∙ ap (iv_of c.args.digest c.args.password.now) salt),
+          (c.in-Some.ensures.0 ∙ c.derive.ensures.key ∙ ap (derived_key c.args.digest c.args.password.now) salt) (c.derive.ensures.iv ∙ ap (derived_iv c.args.digest c.args.password.now) salt),
     )
 
 pub returns-in-Err-Length : goal.returns-in-Err-Length
@@ -28,7 +28,7 @@ returns-in-Err-Padding c =
       (omega (arith, same), omega (arith, same)),
       λ text bytes is. other_fault c.in-Err-Padding.field-0 c.in-Err-Padding.field-0-is (c.in-Err-Padding.ensures.taken text bytes
           (text_back c.args.bytes.now c.in-Some.key c.derive.result.1 _ _ text is
-          (c.in-Some.ensures.0 ∙ c.derive.ensures.key ∙ ap (key_of c.args.digest c.args.password.now) salt) (c.derive.ensures.iv ∙ ap (iv_of c.args.digest c.args.password.now) salt))),
+          (c.in-Some.ensures.0 ∙ c.derive.ensures.key ∙ ap (derived_key c.args.digest c.args.password.now) salt) (c.derive.ensures.iv ∙ ap (derived_iv c.args.digest c.args.password.now) salt))),
     )
 
 pub returns-in-Err-OutOfMemory : goal.returns-in-Err-OutOfMemory
