@@ -4,10 +4,10 @@ use Rattle.std.proofs.lemmas.List.{take_at, drop_at, take-append-drop, length-ta
 use Rattle.std.proofs.lemmas.Nat.{from_be_bytes-to_be_bytes_2}
 use Rattle.std.specs.Int.{to_be_bytes, from_be_bytes, w16, w32}
 use Rattle.bytes_core.specs.Crc.{crc32c}
-use Rattle.engine_core.specs.Block.{sealed, block_head, IsBlock}
-use Rattle.engine_core.specs.Log.{block_at, ring_place, IsRunFrom}
+use Rattle.engine_core.specs.Block.{sealed, block_head, IsLogBlock}
+use Rattle.engine_core.specs.Log.{log_block, ring_place, IsRunFrom}
 use Rattle.engine_core.proofs.Places.{place_again}
-use Rattle.engine_core.proofs.Sums.{length-front, length-block_head, take-sealed, IsBlock-number}
+use Rattle.engine_core.proofs.Sums.{length-front, length-block_head, take-sealed, IsLogBlock-number}
 
 sum_behind : (text : List ℕ) → length text ≡ 4092 → drop 4092 (sealed text) ≡ to_be_bytes w32 (crc32c text)
 unfolding sealed
@@ -24,7 +24,7 @@ used_bytes number used small = from_be_bytes-to_be_bytes_2 used small
 take_whole : (l : List ℕ) → length l ≡ 4092 → take 4092 l ≡ l
 take_whole l size = take_all 4092 l (omega arith)
 
-module _ {number : ℕ} {text block : List ℕ} (b : IsBlock number text block) where
+module _ {number : ℕ} {text block : List ℕ} (b : IsLogBlock number text block) where
   abbrev front : List ℕ
   front = block_head number (length text) ++ text ++ b.rest
 
@@ -48,7 +48,7 @@ module _ {number : ℕ} {text block : List ℕ} (b : IsBlock number text block) 
 
 -- the parts of a valid block, put together
 pub block_of_parts : (number used : ℕ) (block : List ℕ) → length block ≡ 4096 → number < 2 ^ 64 → 0 < used → used ≤ 4076 → take 16 (take 4092 block) ≡ block_head number used
-    → drop 4092 block ≡ to_be_bytes w32 (crc32c (take 4092 block)) → IsBlock number (take used (drop 16 (take 4092 block))) block
+    → drop 4092 block ≡ to_be_bytes w32 (crc32c (take 4092 block)) → IsLogBlock number (take used (drop 16 (take 4092 block))) block
 block_of_parts number used block size small some most head sum =
     let front = take 4092 block in
     let body = drop 16 front in
@@ -72,19 +72,19 @@ block_of_parts number used block size small some most head sum =
 -- the blocks from this number on hold these texts
 abbrev pub HasTexts : ℕ → List ℕ → List (List ℕ) → Type 0
 HasTexts n file [] = Unit {0}
-HasTexts n file (t ∷ ts) = IsBlock n t (block_at (ring_place n) file) × HasTexts (n + 1) file ts
+HasTexts n file (t ∷ ts) = IsLogBlock n t (log_block (ring_place n) file) × HasTexts (n + 1) file ts
 
-pub has_push : (n : ℕ) (file : List ℕ) (ts : List (List ℕ)) (t : List ℕ) → HasTexts n file ts → IsBlock (length ts + n) t (block_at (ring_place (length ts + n)) file) → HasTexts n file (ts ++ t ∷ [])
-has_push n file [] t has is = let same : 0 + n ≡ n = omega arith in (subst (λ (k : ℕ). IsBlock k t (block_at (ring_place k) file)) same is, tt)
+pub has_push : (n : ℕ) (file : List ℕ) (ts : List (List ℕ)) (t : List ℕ) → HasTexts n file ts → IsLogBlock (length ts + n) t (log_block (ring_place (length ts + n)) file) → HasTexts n file (ts ++ t ∷ [])
+has_push n file [] t has is = let same : 0 + n ≡ n = omega arith in (subst (λ (k : ℕ). IsLogBlock k t (log_block (ring_place k) file)) same is, tt)
 has_push n file (s ∷ ss) t has is =
     let same : suc (length ss) + n ≡ length ss + (n + 1) = omega arith in
-    (has.0, has_push (n + 1) file ss t has.1 (subst (λ (k : ℕ). IsBlock k t (block_at (ring_place k) file)) same is))
+    (has.0, has_push (n + 1) file ss t has.1 (subst (λ (k : ℕ). IsLogBlock k t (log_block (ring_place k) file)) same is))
 
-pub has_ends : (n : ℕ) (file : List ℕ) (ts : List (List ℕ)) → HasTexts n file ts → ((text : List ℕ) → IsBlock (length ts + n) text (block_at (ring_place (length ts + n)) file) → ⊥) → IsRunFrom n file ts
-has_ends n file [] has none = let same : 0 + n ≡ n = omega arith in subst (λ (k : ℕ). (text : List ℕ) → IsBlock k text (block_at (ring_place k) file) → ⊥) same none
+pub has_ends : (n : ℕ) (file : List ℕ) (ts : List (List ℕ)) → HasTexts n file ts → ((text : List ℕ) → IsLogBlock (length ts + n) text (log_block (ring_place (length ts + n)) file) → ⊥) → IsRunFrom n file ts
+has_ends n file [] has none = let same : 0 + n ≡ n = omega arith in subst (λ (k : ℕ). (text : List ℕ) → IsLogBlock k text (log_block (ring_place k) file) → ⊥) same none
 has_ends n file (s ∷ ss) has none =
     let same : suc (length ss) + n ≡ length ss + (n + 1) = omega arith in
-    (has.0, has_ends (n + 1) file ss has.1 (subst (λ (k : ℕ). (text : List ℕ) → IsBlock k text (block_at (ring_place k) file) → ⊥) same none))
+    (has.0, has_ends (n + 1) file ss has.1 (subst (λ (k : ℕ). (text : List ℕ) → IsLogBlock k text (log_block (ring_place k) file) → ⊥) same none))
 
 -- where the ring is full the next number has the place of the first block
 pub has_full : (file : List ℕ) (ts : List (List ℕ)) → HasTexts 2 file ts → length ts ≡ 256 → IsRunFrom 2 file ts
@@ -92,13 +92,13 @@ has_full file [] has full = absurd (omega (arith, full))
 has_full file (t ∷ ts) has full = has_ends 2 file (t ∷ ts) has (λ text block.
     let same : length (t ∷ ts) + 2 ≡ 2 + 256 = omega (arith, full) in
     let place : ring_place (length (t ∷ ts) + 2) ≡ ring_place 2 = ap ring_place same ∙ place_again 2 in
-    let here = subst (λ (k : ℕ). IsBlock (length (t ∷ ts) + 2) text (block_at k file)) place block in
-    let number : length (t ∷ ts) + 2 ≡ 2 = IsBlock-number here has.0 in
+    let here = subst (λ (k : ℕ). IsLogBlock (length (t ∷ ts) + 2) text (log_block k file)) place block in
+    let number : length (t ∷ ts) + 2 ≡ 2 = IsLogBlock-number here has.0 in
     omega (arith, number))
 
 -- a block has one text
-pub IsBlock-text : {n : ℕ} {a b block : List ℕ} → IsBlock n a block → IsBlock n b block → a ≡ b
-IsBlock-text {n} {a} {b} {block} x y =
+pub IsLogBlock-text : {n : ℕ} {a b block : List ℕ} → IsLogBlock n a block → IsLogBlock n b block → a ≡ b
+IsLogBlock-text {n} {a} {b} {block} x y =
     let same : length a ≡ length b = sym (block-used x) ∙ block-used y in
     let fronts : block_head n (length a) ++ a ++ x.rest ≡ block_head n (length b) ++ b ++ y.rest = sym (block-front x) ∙ block-front y in
     sym (text_part n a x.rest) ∙ ap (λ (l : List ℕ). take (length a) (drop 16 l)) fronts ∙ ap (λ (k : ℕ). take k (drop 16 (block_head n (length b) ++ b ++ y.rest))) same ∙ text_part n b y.rest
@@ -115,14 +115,14 @@ run_once n file [] [] a b = refl
 run_once n file [] (y ∷ ys) a b = absurd (a y b.0)
 run_once n file (x ∷ xs) [] a b = absurd (b x a.0)
 run_once n file (x ∷ xs) (y ∷ ys) a b =
-    let first : x ≡ y = IsBlock-text a.0 b.0 in
+    let first : x ≡ y = IsLogBlock-text a.0 b.0 in
     let rest : xs ≡ ys = run_once (n + 1) file xs ys a.1 b.1 in
     ap (λ (t : List ℕ). t ∷ xs) first ∙ ap (λ (l : List (List ℕ)). y ∷ l) rest
 
 -- one block more that was read
-module _ (texts : List (List ℕ)) (i : ℕ) (buffer : List ℕ) (count : length texts ≡ i) (file : List ℕ) (has : HasTexts 2 file texts) (is : buffer ≡ block_at (ring_place (i + 2)) file) where
-  pub scan_ends : ((text : List ℕ) → IsBlock (i + 2) text buffer → ⊥) → IsRunFrom 2 file texts
-  scan_ends none = has_ends 2 file texts has (λ text b. none text (subst (IsBlock (i + 2) text) (sym is) (subst (λ (k : ℕ). IsBlock (k + 2) text (block_at (ring_place (k + 2)) file)) count b)))
+module _ (texts : List (List ℕ)) (i : ℕ) (buffer : List ℕ) (count : length texts ≡ i) (file : List ℕ) (has : HasTexts 2 file texts) (is : buffer ≡ log_block (ring_place (i + 2)) file) where
+  pub scan_ends : ((text : List ℕ) → IsLogBlock (i + 2) text buffer → ⊥) → IsRunFrom 2 file texts
+  scan_ends none = has_ends 2 file texts has (λ text b. none text (subst (IsLogBlock (i + 2) text) (sym is) (subst (λ (k : ℕ). IsLogBlock (k + 2) text (log_block (ring_place (k + 2)) file)) count b)))
 
-  pub scan_more : (text : List ℕ) → IsBlock (i + 2) text buffer → HasTexts 2 file (texts ++ text ∷ [])
-  scan_more text b = has_push 2 file texts text has (subst (λ (k : ℕ). IsBlock (k + 2) text (block_at (ring_place (k + 2)) file)) (sym count) (subst (IsBlock (i + 2) text) is b))
+  pub scan_more : (text : List ℕ) → IsLogBlock (i + 2) text buffer → HasTexts 2 file (texts ++ text ∷ [])
+  scan_more text b = has_push 2 file texts text has (subst (λ (k : ℕ). IsLogBlock (k + 2) text (log_block (ring_place (k + 2)) file)) (sym count) (subst (IsLogBlock (i + 2) text) is b))

@@ -8,15 +8,15 @@ use Rattle.disk_model.specs.declared.names.FileName.TheVariants.{Log}
 use Rattle.disk_model.specs.declared.names.Mark.TheVariants.{Acked, Started}
 use Rattle.disk_model.proofs.Blocks.{length-put, range-put_same, range-put_before, range-put_after, listed-uncovered}
 use Rattle.disk_model.proofs.Moments.{weaker}
-use Rattle.engine_core.specs.Block.{IsBlock, IsHeader, IsCheckpoint}
-use Rattle.engine_core.specs.Log.{block_at, ring_place, IsFramed}
+use Rattle.engine_core.specs.Block.{IsLogBlock, IsHeader, IsCheckpoint}
+use Rattle.engine_core.specs.Log.{log_block, ring_place, IsFramed}
 use Rattle.disk_model.specs.Marks.{acked as acked_of}
 use Rattle.disk_model.specs.Crash.{unsynced_writes}
 use Rattle.engine_core.specs.Stands.{passes, IsBlockWrite}
-use Rattle.engine_core.specs.Layer.{entry, entry_at, HasNone, Place, Written, NoBlock, IsTorn, Spaced, IsFilled, Holds, Ready, Moment, Runs, AllRun, IsCrashSafe, AreNumbered}
+use Rattle.engine_core.specs.Layer.{entry, entry_at, HasNone, Place, Written, NoBlock, IsTorn, Spaced, IsLogFile, HoldsBlocks, LogReady, Moment, Runs, AllRun, IsCrashSafe, AreNumbered}
 use Rattle.engine_core.proofs.Refusable.{block_write, others_are, all_refusable}
 use Rattle.engine_core.proofs.Places.{place_low, place_high, place_again, ranges_apart}
-use Rattle.engine_core.proofs.Sums.{IsBlock-length, IsBlock-sums_up, IsBlock-number}
+use Rattle.engine_core.proofs.Sums.{IsLogBlock-length, IsLogBlock-sums_up, IsLogBlock-number}
 
 -- where the ring is full the next number has the place of the first block
 pub full_ring : (blocks : List (List ℕ)) (file : List ℕ) (i : ℕ) → AreNumbered blocks → length blocks ≡ 256 → entry_at 0 file ≡ entry blocks 0 → i ≡ 256 → HasNone i file
@@ -24,12 +24,12 @@ full_ring blocks file i numbered full front end text block =
     let first = numbered 0 (omega arith) in
     let same : i + 2 ≡ 2 + 256 = omega arith in
     let place : ring_place (i + 2) ≡ ring_place 2 = ap ring_place same ∙ place_again 2 in
-    let here : block_at (ring_place (i + 2)) file ≡ entry blocks 0 = ap (λ (k : ℕ). block_at k file) place ∙ front in
-    let number : i + 2 ≡ 2 = IsBlock-number (subst (IsBlock (i + 2) text) here block) first.1 in
+    let here : log_block (ring_place (i + 2)) file ≡ entry blocks 0 = ap (λ (k : ℕ). log_block k file) place ∙ front in
+    let number : i + 2 ≡ 2 = IsLogBlock-number (subst (IsLogBlock (i + 2) text) here block) first.1 in
     omega (arith, number)
 
 -- The run of each image of such a moment.
-module _ (blocks : List (List ℕ)) (settled written : ℕ) (es : List Event) (h : Holds blocks settled written es) (image : Image) (is : IsImage es image) (lucky : IsLucky passes image) where
+module _ (blocks : List (List ℕ)) (settled written : ℕ) (es : List Event) (h : HoldsBlocks blocks settled written es) (image : Image) (is : IsImage es image) (lucky : IsLucky passes image) where
   abbrev file : List ℕ
   file = image.bytes Log
 
@@ -37,7 +37,7 @@ module _ (blocks : List (List ℕ)) (settled written : ℕ) (es : List Event) (h
   spaced = h.images file (image.torn Log) (is.left Log)
 
   no_torn_block : (i : ℕ) → IsListed (image.torn Log) (ring_place (i + 2) * 4096) 4096 → HasNone i file
-  no_torn_block i listed text block = true≢false (sym (IsBlock-sums_up block) ∙ lucky Log (ring_place (i + 2) * 4096) 4096 listed)
+  no_torn_block i listed text block = true≢false (sym (IsLogBlock-sums_up block) ∙ lucky Log (ring_place (i + 2) * 4096) 4096 listed)
 
   told : acked_of image.told ≤ settled
   told = subst (λ ms. acked_of ms ≤ settled) (sym is.told) h.acked
@@ -73,7 +73,7 @@ module _ (blocks : List (List ℕ)) (settled written : ℕ) (es : List Event) (h
   runs = find (written - settled) settled (omega (arith, h.order)) (omega arith) spaced.front
 
   -- where nothing is written behind the settled blocks, exactly these stand
-  pub filled : written ≤ settled → IsFilled blocks settled file
+  pub filled : written ≤ settled → IsLogFile blocks settled file
   filled le = record { size = spaced.size; framed = spaced.framed; whole = spaced.front; fresh = λ i after lt. fresh i (spaced.rest i after lt) (omega (arith, le, after)) }
     where
       fresh : (i : ℕ) → Place blocks written i file (image.torn Log) → written ≤ i → HasNone i file
@@ -81,7 +81,7 @@ module _ (blocks : List (List ℕ)) (settled written : ℕ) (es : List Event) (h
       fresh i (NoBlock none) behind = none
       fresh i (IsTorn listed) behind = no_torn_block i listed
 
-pub all_run : (blocks : List (List ℕ)) (settled written : ℕ) (es : List Event) → Holds blocks settled written es → AllRun blocks es
+pub all_run : (blocks : List (List ℕ)) (settled written : ℕ) (es : List Event) → HoldsBlocks blocks settled written es → AllRun blocks es
 all_run blocks settled written es h image is lucky = runs blocks settled written es h image is lucky
 
 -- A write behind the first three blocks leaves them alone.
@@ -128,7 +128,7 @@ module _ (blocks : List (List ℕ)) (settled written : ℕ) (old : List ℕ) (re
   other_place : (torn : List (ℕ × ℕ)) → ((i : ℕ) → i < 256 → i ≢ written → IsListed rest (ring_place (i + 2) * 4096) 4096 → IsListed torn (ring_place (i + 2) * 4096) 4096)
       → (i : ℕ) → i < 256 → i ≢ written → Place blocks written i old rest → Place blocks (written + 1) i (put place bytes old) torn
   other_place torn keeps i small other (Written below same) = Written (omega arith) (other_block i small other ∙ same)
-  other_place torn keeps i small other (NoBlock none) = NoBlock (λ text block. none text (subst (IsBlock (i + 2) text) (other_block i small other) block))
+  other_place torn keeps i small other (NoBlock none) = NoBlock (λ text block. none text (subst (IsLogBlock (i + 2) text) (other_block i small other) block))
   other_place torn keeps i small other (IsTorn listed) = IsTorn (keeps i small other listed)
 
   spaced_after : (torn : List (ℕ × ℕ)) → ((i : ℕ) → i < 256 → i ≢ written → IsListed rest (ring_place (i + 2) * 4096) 4096 → IsListed torn (ring_place (i + 2) * 4096) 4096)
@@ -162,9 +162,9 @@ spaced_lost blocks settled written file torn s = record { size = s.size; framed 
     one_more i (NoBlock none) = NoBlock none
     one_more i (IsTorn listed) = IsTorn listed
 
-module _ (blocks : List (List ℕ)) (settled written : ℕ) (es : List Event) (h : Holds blocks settled written es) (more : written < length blocks) where
+module _ (blocks : List (List ℕ)) (settled written : ℕ) (es : List Event) (h : HoldsBlocks blocks settled written es) (more : written < length blocks) where
   pub size_of : length (entry blocks written) ≡ 4096
-  size_of = IsBlock-length (h.numbered written more).1
+  size_of = IsLogBlock-length (h.numbered written more).1
 
   after_write : (file : List ℕ) (torn : List (ℕ × ℕ)) → Outcome (ring_place (written + 2) * 4096) (entry blocks written) (Leaves Log es) file torn → Spaced blocks settled (written + 1) file torn
   after_write file torn (Lost before) = spaced_lost blocks settled written file torn (h.images file torn before)
@@ -182,7 +182,7 @@ module _ (blocks : List (List ℕ)) (settled written : ℕ) (es : List Event) (h
   here_is = let b = h.numbered written more in block_write (written + 2) b.0 (entry blocks written) b.1
 
   -- whatever the range reads as then
-  pub holds_write : (shows : List ℕ) → Holds blocks settled (written + 1) (Write Log (ring_place (written + 2) * 4096) (entry blocks written) shows ∷ es)
+  pub holds_write : (shows : List ℕ) → HoldsBlocks blocks settled (written + 1) (Write Log (ring_place (written + 2) * 4096) (entry blocks written) shows ∷ es)
   holds_write shows = record {
     images = after_write;
     synced = h.synced;
@@ -195,8 +195,8 @@ module _ (blocks : List (List ℕ)) (settled written : ℕ) (es : List Event) (h
   }
 
 -- the file as it reads, after the write that was asked for
-pub filled_write : (blocks : List (List ℕ)) (written : ℕ) (file : List ℕ) → IsFilled blocks written file → written < 256 → length (entry blocks written) ≡ 4096
-    → IsFilled blocks (written + 1) (put (ring_place (written + 2) * 4096) (entry blocks written) file)
+pub filled_write : (blocks : List (List ℕ)) (written : ℕ) (file : List ℕ) → IsLogFile blocks written file → written < 256 → length (entry blocks written) ≡ 4096
+    → IsLogFile blocks (written + 1) (put (ring_place (written + 2) * 4096) (entry blocks written) file)
 filled_write blocks written file s room size = record {
   size = size_put file s.size written room (entry blocks written) size;
   framed = frame_put file s.size written room (entry blocks written) size s.framed;
@@ -204,11 +204,11 @@ filled_write blocks written file s room size = record {
       (λ (e : i ≡ written). subst (λ (k : ℕ). entry_at k (put (ring_place (written + 2) * 4096) (entry blocks written) file) ≡ entry blocks k) (sym e) (same_put file s.size written room (entry blocks written) size))
       (λ (ne : i ≡ written → ⊥). other_put file s.size written room (entry blocks written) size i (omega (arith, ne)) ne ∙ s.whole i (omega (arith, ne)))
       (cases_eq i written);
-  fresh = λ i after lt text block. s.fresh i (omega arith) lt text (subst (IsBlock (i + 2) text) (other_put file s.size written room (entry blocks written) size i lt (omega arith)) block);
+  fresh = λ i after lt text block. s.fresh i (omega arith) lt text (subst (IsLogBlock (i + 2) text) (other_put file s.size written room (entry blocks written) size i lt (omega arith)) block);
 }
 
-pub ready_write : (blocks : List (List ℕ)) (settled written acked : ℕ) → written < length blocks → (es : List Event) → Ready blocks settled written acked es
-    → Ready blocks settled (written + 1) acked (Write Log (ring_place (written + 2) * 4096) (entry blocks written) (entry blocks written) ∷ es)
+pub ready_write : (blocks : List (List ℕ)) (settled written acked : ℕ) → written < length blocks → (es : List Event) → LogReady blocks settled written acked es
+    → LogReady blocks settled (written + 1) acked (Write Log (ring_place (written + 2) * 4096) (entry blocks written) (entry blocks written) ∷ es)
 ready_write blocks settled written acked more es r = record {
   least = r.least;
   holds = holds_write blocks settled written es r.holds more (entry blocks written);
@@ -217,7 +217,7 @@ ready_write blocks settled written acked more es r = record {
 }
 
 -- a sync settles what was written
-pub ready_sync : (blocks : List (List ℕ)) (settled written acked : ℕ) (es : List Event) → Ready blocks settled written acked es → Ready blocks written written acked (Sync Log ∷ es)
+pub ready_sync : (blocks : List (List ℕ)) (settled written acked : ℕ) (es : List Event) → LogReady blocks settled written acked es → LogReady blocks written written acked (Sync Log ∷ es)
 ready_sync blocks settled written acked es r = record {
   least = r.least;
   holds = record {
@@ -240,7 +240,7 @@ ready_sync blocks settled written acked es r = record {
 }
 
 -- what is settled may be acknowledged
-pub ready_tell : (blocks : List (List ℕ)) (settled written acked n : ℕ) → n ≤ settled → (es : List Event) → Ready blocks settled written acked es → Ready blocks settled written n (Tell (Acked n) ∷ es)
+pub ready_tell : (blocks : List (List ℕ)) (settled written acked n : ℕ) → n ≤ settled → (es : List Event) → LogReady blocks settled written acked es → LogReady blocks settled written n (Tell (Acked n) ∷ es)
 ready_tell blocks settled written acked n le es r = record {
   least = omega arith;
   holds = record {
@@ -257,7 +257,7 @@ ready_tell blocks settled written acked n le es r = record {
   shows = r.shows;
 }
 
-pub ready_start : (blocks : List (List ℕ)) (settled written : ℕ) (es : List Event) → Ready blocks settled written 0 es → Ready blocks settled written 0 (Tell Started ∷ es)
+pub ready_start : (blocks : List (List ℕ)) (settled written : ℕ) (es : List Event) → LogReady blocks settled written 0 es → LogReady blocks settled written 0 (Tell Started ∷ es)
 ready_start blocks settled written es r = record {
   least = omega arith;
   holds = record {
@@ -274,23 +274,23 @@ ready_start blocks settled written es r = record {
   shows = r.shows;
 }
 
-ready_runs : (blocks : List (List ℕ)) (settled written acked : ℕ) (es : List Event) → Ready blocks settled written acked es → AllRun blocks es
+ready_runs : (blocks : List (List ℕ)) (settled written acked : ℕ) (es : List Event) → LogReady blocks settled written acked es → AllRun blocks es
 ready_runs blocks settled written acked es r = all_run blocks settled written es r.holds
 
-pub ready_moment : (blocks : List (List ℕ)) (settled written acked : ℕ) (es : List Event) → Ready blocks settled written acked es → Moment blocks settled acked es
+pub ready_moment : (blocks : List (List ℕ)) (settled written acked : ℕ) (es : List Event) → LogReady blocks settled written acked es → Moment blocks settled acked es
 ready_moment blocks settled written acked es r = record { runs = ready_runs blocks settled written acked es r; synced = r.holds.synced; pending = r.holds.pending; least = r.least; most = r.holds.acked }
 
 pub moment_safe : (blocks : List (List ℕ)) (settled acked : ℕ) (es : List Event) → Moment blocks settled acked es → IsCrashSafe blocks es
 moment_safe blocks settled acked es m = record { runs = m.runs; refusable = all_refusable blocks settled acked es m }
 
-pub ready_safe : (blocks : List (List ℕ)) (settled written acked : ℕ) (es : List Event) → Ready blocks settled written acked es → IsCrashSafe blocks es
+pub ready_safe : (blocks : List (List ℕ)) (settled written acked : ℕ) (es : List Event) → LogReady blocks settled written acked es → IsCrashSafe blocks es
 ready_safe blocks settled written acked es r = moment_safe blocks settled acked es (ready_moment blocks settled written acked es r)
 
 -- at least the old length is acknowledged after a new mark
 pub less_told : (blocks : List (List ℕ)) (settled acked n : ℕ) → acked ≤ n → (es : List Event) → Moment blocks settled n es → Moment blocks settled acked es
 less_told blocks settled acked n le es m = record { runs = m.runs; synced = m.synced; pending = m.pending; least = omega (arith, m.least); most = m.most }
 
-pub entry_fits : (blocks : List (List ℕ)) (settled number acked : ℕ) → number < length blocks → (bytes : List ℕ) → bytes ≡ entry blocks number → (es : List Event) → Ready blocks settled number acked es
+pub entry_fits : (blocks : List (List ℕ)) (settled number acked : ℕ) → number < length blocks → (bytes : List ℕ) → bytes ≡ entry blocks number → (es : List Event) → LogReady blocks settled number acked es
     → InFile Log (ring_place (number + 2) * 4096) (length bytes) es
 entry_fits blocks settled number acked more bytes is es r = record {
   there = r.there;
@@ -302,10 +302,10 @@ module _ (blocks : List (List ℕ)) (settled number acked : ℕ) (more : number 
   abbrev here : ℕ
   here = ring_place (number + 2) * 4096
 
-  pub write_next : (es : List Event) → Ready blocks settled number acked es → Ready blocks settled (number + 1) acked (Write Log here bytes bytes ∷ es)
-  write_next es r = subst (λ (b : List ℕ). Ready blocks settled (number + 1) acked (Write Log here b b ∷ es)) (sym is) (ready_write blocks settled number acked more es r)
+  pub write_next : (es : List Event) → LogReady blocks settled number acked es → LogReady blocks settled (number + 1) acked (Write Log here bytes bytes ∷ es)
+  write_next es r = subst (λ (b : List ℕ). LogReady blocks settled (number + 1) acked (Write Log here b b ∷ es)) (sym is) (ready_write blocks settled number acked more es r)
 
-  pub write_each : (d : Event) → IsWrite Log here bytes d → (es : List Event) → Ready blocks settled number acked es → Moment blocks settled acked (d ∷ es)
+  pub write_each : (d : Event) → IsWrite Log here bytes d → (es : List Event) → LogReady blocks settled number acked es → Moment blocks settled acked (d ∷ es)
   write_each d (shows, size, same) es r =
       subst (λ (e : Event). Moment blocks settled acked (e ∷ es)) (sym same)
       (subst (λ (b : List ℕ). Moment blocks settled acked (Write Log here b shows ∷ es)) (sym is)

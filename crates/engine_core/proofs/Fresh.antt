@@ -11,14 +11,14 @@ use Rattle.disk_model.specs.Past.{Past, At, grow}
 use Rattle.disk_model.proofs.Moments.{at_grow, at_is}
 use Rattle.disk_model.proofs.Blocks.{length-put, range-put_same, range-put_before, range-put_after}
 use Rattle.space_head.specs.declared.space.SpaceInfo.{SpaceInfo}
-use Rattle.engine_core.specs.Block.{checkpoint_head, header_head, space_word, space_words, IsBlock, IsCheckpoint, IsHeader}
-use Rattle.engine_core.specs.Log.{block_at, ring_place, IsFramed}
-use Rattle.engine_core.specs.Layer.{entry_at, HasNone, NoBlock, Spaced, IsFilled, IsEmpty, Ready}
+use Rattle.engine_core.specs.Block.{checkpoint_head, header_head, space_fields, spaces_fields, IsLogBlock, IsCheckpoint, IsHeader}
+use Rattle.engine_core.specs.Log.{log_block, ring_place, IsFramed}
+use Rattle.engine_core.specs.Layer.{entry_at, HasNone, NoBlock, Spaced, IsLogFile, IsEmpty, LogReady}
 use Rattle.disk_model.specs.Crash.{other_writes}
 use Rattle.engine_core.specs.Stands.{AreBlockWrites}
 use Rattle.engine_core.specs.Made.{IsNow, IsHeaded}
 use Rattle.engine_core.proofs.Places.{place_low, place_high}
-use Rattle.engine_core.proofs.Sums.{length-sealed, take-sealed, IsBlock-first}
+use Rattle.engine_core.proofs.Sums.{length-sealed, take-sealed, IsLogBlock-first}
 
 pub length-zeros : (n : ℕ) → length (zeros n) ≡ n
 unfolding zeros
@@ -30,9 +30,9 @@ eight_zeros n at size le fits =
     take-take 8 size (drop at (replicate n 0)) le ∙ ap (λ (l : List ℕ). take 8 l) (drop-replicate at n 0) ∙ take-replicate 8 (n - at) 0 (omega arith)
 
 -- zero bytes are no block of a number above 0
-no_block : (block text : List ℕ) (number : ℕ) → take 8 block ≡ replicate 8 0 → 0 < number → IsBlock number text block → ⊥
+no_block : (block text : List ℕ) (number : ℕ) → take 8 block ≡ replicate 8 0 → 0 < number → IsLogBlock number text block → ⊥
 no_block block text number none some is =
-    let front : to_be_bytes w64 number ≡ replicate 8 0 = sym (IsBlock-first is) ∙ none in
+    let front : to_be_bytes w64 number ≡ replicate 8 0 = sym (IsLogBlock-first is) ∙ none in
     let same : number ≡ from_be_bytes w64 (replicate 8 0) = sym (from_be_bytes-to_be_bytes_8 number is.small) ∙ ap (from_be_bytes w64) front in
     let zero : from_be_bytes w64 (replicate 8 0) ≡ 0 = refl in
     omega (arith, same, zero)
@@ -108,7 +108,7 @@ module _ (size : ℕ) (is_size : size ≡ 1060864) (checkpoint header : List ℕ
   pub long_two : length two ≡ 1060864
   long_two = length-put 0 header one fits_two ∙ long_one
 
-  first : block_at 0 two ≡ header
+  first : log_block 0 two ≡ header
   first = range-put_same 0 header one fits_two 4096 (sym (length-header h))
 
   framed : IsFramed two
@@ -117,7 +117,7 @@ module _ (size : ℕ) (is_size : size ≡ 1060864) (checkpoint header : List ℕ
     header = subst (IsHeader spaces) (sym first) h;
     checkpoint = subst (IsCheckpoint 1 2)
         (sym (range-put_after 0 header one fits_two 8192 4096 (omega (arith, length-header h)) ∙ range-put_same 8192 checkpoint (zeros size) fits_one 4096 (sym (length-checkpoint c)))) c;
-    newest = λ sequence from is. no_checkpoint (block_at 1 two) sequence from
+    newest = λ sequence from is. no_checkpoint (log_block 1 two) sequence from
         (ap (λ (l : List ℕ). take 8 l) (range-put_after 0 header one fits_two 4096 4096 (omega (arith, length-header h)) ∙ range-put_before 8192 checkpoint (zeros size) fits_one 4096 4096 (omega arith))
         ∙ eight_zeros size 4096 4096 (omega arith) (omega (arith, is_size))) is;
   }
@@ -133,15 +133,15 @@ module _ (size : ℕ) (is_size : size ≡ 1060864) (checkpoint header : List ℕ
       ∙ eight_zeros size at 4096 (omega arith) (omega (arith, is_size, high)))
       (omega arith) block
 
-  filled : IsFilled [] 0 two
+  filled : IsLogFile [] 0 two
   filled = record { size = long_two; framed = framed; whole = λ i below. absurd (omega arith); fresh = λ i after lt. none i }
 
-  pub ready_made : (es : List Event) → IsNow two es → Ready [] 0 0 0 es
+  pub ready_made : (es : List Event) → IsNow two es → LogReady [] 0 0 0 es
   ready_made es n = record {
     holds = record {
       images = λ file torn left. subst (λ (f : List ℕ). Spaced [] 0 0 f torn) (sym (n.left file torn left))
           (record { size = long_two; framed = framed; front = λ i below. absurd (omega arith); rest = λ i after lt. NoBlock (none i) });
-      synced = subst (IsFilled [] 0) (sym n.synced) filled;
+      synced = subst (IsLogFile [] 0) (sym n.synced) filled;
       pending = subst AreBlockWrites (sym n.pending) tt;
       acked = omega (arith, n.untold);
       order = omega arith;
@@ -151,11 +151,11 @@ module _ (size : ℕ) (is_size : size ≡ 1060864) (checkpoint header : List ℕ
     };
     least = omega arith;
     there = n.there;
-    shows = subst (IsFilled [] 0) (sym n.shows) filled;
+    shows = subst (IsLogFile [] 0) (sym n.shows) filled;
   }
 
   pub headed_made : (es : List Event) → IsNow two es → IsHeaded spaces es
-  headed_made es n = record { header = subst (λ (f : List ℕ). IsHeader spaces (block_at 0 f)) (sym n.shows) (subst (IsHeader spaces) (sym first) h) }
+  headed_made es n = record { header = subst (λ (f : List ℕ). IsHeader spaces (log_block 0 f)) (sym n.shows) (subst (IsHeader spaces) (sym first) h) }
 
 pub length_one : (checkpoint : List ℕ) → IsCheckpoint 1 2 checkpoint → length (put 8192 checkpoint (zeros 1060864)) ≡ 1060864
 length_one checkpoint c =
@@ -169,13 +169,13 @@ after_two {Q = Q} at block goes here wrote synced =
     let written : At (λ es. Q (Sync Log ∷ es)) _ = at_is wrote (at_grow (Write Log at block block) goes here) in
     at_is synced (at_grow (Sync Log) (λ es q. q) written)
 
-length-space_word : (s : SpaceInfo) → length (space_word s) ≡ 12
-unfolding space_word
-length-space_word s = refl
+length-space_fields : (s : SpaceInfo) → length (space_fields s) ≡ 12
+unfolding space_fields
+length-space_fields s = refl
 
-length-space_words : (spaces : List SpaceInfo) → length (space_words spaces) ≡ 12 * length spaces
+length-space_words : (spaces : List SpaceInfo) → length (spaces_fields spaces) ≡ 12 * length spaces
 length-space_words [] = refl
-length-space_words (s ∷ ss) = let rest = length-space_words ss in omega (arith, rest, length-space_word s, length-append (space_word s) (space_words ss))
+length-space_words (s ∷ ss) = let rest = length-space_words ss in omega (arith, rest, length-space_fields s, length-append (space_fields s) (spaces_fields ss))
 
 pub length-header_head : (spaces : List SpaceInfo) → length (header_head spaces) ≡ 40 + 12 * length spaces
 unfolding header_head

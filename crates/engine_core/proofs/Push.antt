@@ -3,8 +3,8 @@ use Rattle.std.proofs.Common.{◌≡◌, ℕ, ◌+◌, ◌<◌, ◌≤◌, List,
 use Rattle.std.proofs.lemmas.List.{get_or_append_left, get_or_push}
 use Rattle.std.proofs.lemmas.Bool.{cases_lt}
 use Rattle.disk_model.specs.Event.{Event}
-use Rattle.engine_core.specs.Block.{IsBlock}
-use Rattle.engine_core.specs.Layer.{entry, Place, Written, NoBlock, IsTorn, Spaced, IsFilled, AreNumbered, Ready}
+use Rattle.engine_core.specs.Block.{IsLogBlock}
+use Rattle.engine_core.specs.Layer.{entry, Place, Written, NoBlock, IsTorn, Spaced, IsLogFile, AreNumbered, LogReady}
 
 module _ (blocks : List (List ℕ)) (block : List ℕ) where
   abbrev longer : List (List ℕ)
@@ -16,7 +16,7 @@ module _ (blocks : List (List ℕ)) (block : List ℕ) where
   same_entry : (i : ℕ) → i < length blocks → entry blocks i ≡ entry longer i
   same_entry i below = sym (get_or_append_left blocks (block ∷ []) [] i below)
 
-  filled_push : (written : ℕ) (file : List ℕ) → written ≤ length blocks → IsFilled blocks written file → IsFilled longer written file
+  filled_push : (written : ℕ) (file : List ℕ) → written ≤ length blocks → IsLogFile blocks written file → IsLogFile longer written file
   filled_push written file le f = record { size = f.size; framed = f.framed; whole = λ i below. f.whole i below ∙ same_entry i (omega arith); fresh = f.fresh }
 
   same_place : (written : ℕ) (file : List ℕ) (torn : List (ℕ × ℕ)) (i : ℕ) → written ≤ length blocks → Place blocks written i file torn → Place longer written i file torn
@@ -32,17 +32,17 @@ module _ (blocks : List (List ℕ)) (block : List ℕ) where
     rest = λ i after lt. same_place written file torn i le (s.rest i after lt);
   }
 
-  module _ (text : List ℕ) (is : IsBlock (length blocks + 2) text block) (room : length blocks < 256) where
+  module _ (text : List ℕ) (is : IsLogBlock (length blocks + 2) text block) (room : length blocks < 256) where
     numbered_push : AreNumbered blocks → AreNumbered longer
     numbered_push are i below = ⊎_elim
-        (λ (lt : i < length blocks). let old = are i lt in (old.0, subst (IsBlock (i + 2) old.0) (same_entry i lt) old.1))
+        (λ (lt : i < length blocks). let old = are i lt in (old.0, subst (IsLogBlock (i + 2) old.0) (same_entry i lt) old.1))
         (λ (ge : length blocks ≤ i).
         let last : i ≡ length blocks = omega (arith, one_more) in
         let here : get_or longer i [] ≡ block = get_or_push blocks block [] i (sym last) in
-        (text, subst (λ (k : ℕ). IsBlock (k + 2) text (get_or longer i [])) (sym last) (subst (IsBlock (length blocks + 2) text) (sym here) is)))
+        (text, subst (λ (k : ℕ). IsLogBlock (k + 2) text (get_or longer i [])) (sym last) (subst (IsLogBlock (length blocks + 2) text) (sym here) is)))
         (cases_lt i (length blocks))
 
-    pub ready_push : (settled written acked : ℕ) (es : List Event) → Ready blocks settled written acked es → Ready longer settled written acked es
+    pub ready_push : (settled written acked : ℕ) (es : List Event) → LogReady blocks settled written acked es → LogReady longer settled written acked es
     ready_push settled written acked es r = record {
       holds = record {
         images = λ file torn left. same_spaced settled written file torn r.holds.order r.holds.within (r.holds.images file torn left);

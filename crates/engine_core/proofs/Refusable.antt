@@ -13,12 +13,12 @@ use Rattle.disk_model.specs.Lucky.{IsSameOrApart, AreApart, AreRefusable}
 use Rattle.disk_model.specs.declared.names.FileName.{FileName}
 use Rattle.disk_model.specs.declared.names.FileName.TheVariants.{Log}
 use Rattle.disk_model.proofs.FilesLemmas.{same_file-≡}
-use Rattle.engine_core.specs.Block.{sealed, same_bytes, sums_up, IsBlock, block_head}
+use Rattle.engine_core.specs.Block.{sealed, same_bytes, sums_up, IsLogBlock, block_head}
 use Rattle.engine_core.specs.Log.{ring_place}
 use Rattle.engine_core.specs.Stands.{passes, IsBlockWrite, AreBlockWrites, AllRefusable}
 use Rattle.engine_core.specs.Layer.{Moment}
 use Rattle.engine_core.proofs.Places.{place_high}
-use Rattle.engine_core.proofs.Sums.{IsBlock-length}
+use Rattle.engine_core.proofs.Sums.{IsLogBlock-length}
 
 same_bytes-≡ : (xs ys : List ℕ) → same_bytes xs ys ≡ true → xs ≡ ys
 same_bytes-≡ [] [] same = refl
@@ -42,9 +42,9 @@ sums_up-ends block size sums =
       sum = subst (λ (n : ℕ). drop n block ≡ to_be_bytes w32 (crc32c (take n block))) at (same_bytes-≡ _ _ sums);
     }
 
-IsBlock-ends : {number : ℕ} {text block : List ℕ} → IsBlock number text block → EndsInCrc32c block
+IsLogBlock-ends : {number : ℕ} {text block : List ℕ} → IsLogBlock number text block → EndsInCrc32c block
 unfolding sealed
-IsBlock-ends {number} {text} b = subst EndsInCrc32c (sym b.is) (ends-append (block_head number (length text) ++ text ++ b.rest))
+IsLogBlock-ends {number} {text} b = subst EndsInCrc32c (sym b.is) (ends-append (block_head number (length text) ++ text ++ b.rest))
 
 -- a block whose last byte is inverted doesn't sum up
 torn_refused : (bytes : List ℕ) → length bytes ≡ 4096 → EndsInCrc32c bytes → sums_up (torn_bytes bytes) ≡ false
@@ -55,8 +55,8 @@ torn_refused bytes size ends = by (sums_up (torn_bytes bytes)) refl
     by false is = is
 
 -- the write of a ring block
-pub block_write : (number : ℕ) (text bytes : List ℕ) → IsBlock number text bytes → IsBlockWrite (record { file = Log; at = ring_place number * 4096; bytes = bytes })
-block_write number text bytes b = record { file = refl; place = ring_place number; within = place_high number; at = refl; size = IsBlock-length b; sum = IsBlock-ends b }
+pub block_write : (number : ℕ) (text bytes : List ℕ) → IsLogBlock number text bytes → IsBlockWrite (record { file = Log; at = ring_place number * 4096; bytes = bytes })
+block_write number text bytes b = record { file = refl; place = ring_place number; within = place_high number; at = refl; size = IsLogBlock-length b; sum = IsLogBlock-ends b }
 
 pub others_are : (f : FileName) (ws : List Pending) → AreBlockWrites ws → AreBlockWrites (other_writes f ws)
 others_are f [] are = tt

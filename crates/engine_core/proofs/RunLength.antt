@@ -5,9 +5,9 @@ use Rattle.disk_model.specs.Event.{Event}
 use Rattle.disk_model.specs.Image.{Image}
 use Rattle.disk_model.specs.declared.names.FileName.TheVariants.{Log}
 use Rattle.engine_core.specs.declared.journal.Entry.{Entry}
-use Rattle.engine_core.specs.Text.{text_of}
-use Rattle.engine_core.specs.Log.{IsRunFrom, Recovers}
-use Rattle.engine_core.specs.Stands.{mtrs, Stands, Keeps}
+use Rattle.engine_core.specs.Text.{mtr_text}
+use Rattle.engine_core.specs.Log.{IsRunFrom, LogRecovers}
+use Rattle.engine_core.specs.Stands.{mtrs, LogStands, LogKeeps}
 use Rattle.disk_model.specs.Crash.{synced_bytes}
 use Rattle.engine_core.specs.Kept.{IsExact}
 use Rattle.engine_core.proofs.BlocksRead.{run_once}
@@ -16,16 +16,16 @@ length-mtrs : (journal : List Entry) → length (mtrs journal) ≡ length journa
 length-mtrs journal = length-map journal (λ (e : Entry). e.mtr)
 
 -- a run of the first so many entries has so many texts
-pub run-length : (file : List ℕ) (journal : List Entry) (count : ℕ) (texts : List (List ℕ)) → count ≤ length journal → Recovers file (take count (mtrs journal)) → IsRunFrom 2 file texts → length texts ≡ count
+pub run-length : (file : List ℕ) (journal : List Entry) (count : ℕ) (texts : List (List ℕ)) → count ≤ length journal → LogRecovers file (take count (mtrs journal)) → IsRunFrom 2 file texts → length texts ≡ count
 run-length file journal count texts le r is =
     let long = length-mtrs journal in
-    ap length (run_once 2 file texts (map text_of (take count (mtrs journal))) is r.blocks)
-    ∙ length-map (take count (mtrs journal)) text_of ∙ length-take-le count (mtrs journal) (omega (arith, long))
+    ap length (run_once 2 file texts (map mtr_text (take count (mtrs journal))) is r.blocks)
+    ∙ length-map (take count (mtrs journal)) mtr_text ∙ length-take-le count (mtrs journal) (omega (arith, long))
 
 -- The texts that a scan of a standing image gives are as many as the entries that it keeps.
-pub kept-scan : (journal : List Entry) (image : Image) (texts : List (List ℕ)) → Stands journal image → IsRunFrom 2 (image.bytes Log) texts → Keeps journal image (length texts)
+pub kept-scan : (journal : List Entry) (image : Image) (texts : List (List ℕ)) → LogStands journal image → IsRunFrom 2 (image.bytes Log) texts → LogKeeps journal image (length texts)
 kept-scan journal image texts s is =
-    subst (Keeps journal image) (sym (run-length (image.bytes Log) journal s.count texts s.within s.recovers is)) (record { within = s.within; recovers = s.recovers; acked = s.acked })
+    subst (LogKeeps journal image) (sym (run-length (image.bytes Log) journal s.count texts s.within s.recovers is)) (record { within = s.within; recovers = s.recovers; acked = s.acked })
 
 -- Where each later write is lost, the settled entries are kept.
 pub settled-scan : (journal : List Entry) (settled acked : ℕ) (es : List Event) (texts : List (List ℕ)) → settled ≤ length journal → IsExact journal settled acked es → IsRunFrom 2 (synced_bytes Log es) texts → length texts ≡ settled

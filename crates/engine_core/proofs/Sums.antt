@@ -5,7 +5,7 @@ use Rattle.std.proofs.lemmas.Bool.Decides.{nat_tests}
 use Rattle.std.proofs.lemmas.Nat.{from_be_bytes-to_be_bytes_8}
 use Rattle.std.specs.Int.{to_be_bytes, from_be_bytes, w32, w64}
 use Rattle.bytes_core.specs.Crc.{crc32c}
-use Rattle.engine_core.specs.Block.{sealed, same_bytes, sums_up, block_head, IsBlock}
+use Rattle.engine_core.specs.Block.{sealed, same_bytes, sums_up, block_head, IsLogBlock}
 
 pub same_bytes-itself : (bs : List ℕ) → same_bytes bs bs ≡ true
 same_bytes-itself [] = refl
@@ -32,12 +32,12 @@ pub length-front : (number : ℕ) (text rest : List ℕ) → length text + lengt
 length-front number text rest size =
     omega (arith, length-block_head number (length text), length-append (block_head number (length text) ++ text) rest, length-append (block_head number (length text)) text)
 
-pub IsBlock-length : {number : ℕ} {text block : List ℕ} → IsBlock number text block → length block ≡ 4096
-IsBlock-length {number} {text} b =
+pub IsLogBlock-length : {number : ℕ} {text block : List ℕ} → IsLogBlock number text block → length block ≡ 4096
+IsLogBlock-length {number} {text} b =
     omega (arith, ap length b.is, length-sealed (block_head number (length text) ++ text ++ b.rest), length-front number text b.rest b.size)
 
-pub IsBlock-sums_up : {number : ℕ} {text block : List ℕ} → IsBlock number text block → sums_up block ≡ true
-IsBlock-sums_up {number} {text} b = ap sums_up b.is ∙ sums_up-sealed (block_head number (length text) ++ text ++ b.rest) (length-front number text b.rest b.size)
+pub IsLogBlock-sums_up : {number : ℕ} {text block : List ℕ} → IsLogBlock number text block → sums_up block ≡ true
+IsLogBlock-sums_up {number} {text} b = ap sums_up b.is ∙ sums_up-sealed (block_head number (length text) ++ text ++ b.rest) (length-front number text b.rest b.size)
 
 pub take-sealed : (n : ℕ) (text : List ℕ) → n ≤ length text → take n (sealed text) ≡ take n text
 unfolding sealed
@@ -47,8 +47,8 @@ head_first : (number used : ℕ) → take 8 (block_head number used) ≡ to_be_b
 unfolding block_head
 head_first number used = refl
 
-pub IsBlock-first : {number : ℕ} {text block : List ℕ} → IsBlock number text block → take 8 block ≡ to_be_bytes w64 number
-IsBlock-first {number} {text} b =
+pub IsLogBlock-first : {number : ℕ} {text block : List ℕ} → IsLogBlock number text block → take 8 block ≡ to_be_bytes w64 number
+IsLogBlock-first {number} {text} b =
     let head = block_head number (length text) in
     let long = length-block_head number (length text) in
     ap (λ (l : List ℕ). take 8 l) b.is
@@ -58,6 +58,6 @@ IsBlock-first {number} {text} b =
     ∙ head_first number (length text)
 
 -- a block has one number
-pub IsBlock-number : {m n : ℕ} {a b block : List ℕ} → IsBlock m a block → IsBlock n b block → m ≡ n
-IsBlock-number {m} {n} x y =
-    sym (from_be_bytes-to_be_bytes_8 m x.small) ∙ ap (from_be_bytes w64) (sym (IsBlock-first x) ∙ IsBlock-first y) ∙ from_be_bytes-to_be_bytes_8 n y.small
+pub IsLogBlock-number : {m n : ℕ} {a b block : List ℕ} → IsLogBlock m a block → IsLogBlock n b block → m ≡ n
+IsLogBlock-number {m} {n} x y =
+    sym (from_be_bytes-to_be_bytes_8 m x.small) ∙ ap (from_be_bytes w64) (sym (IsLogBlock-first x) ∙ IsLogBlock-first y) ∙ from_be_bytes-to_be_bytes_8 n y.small

@@ -22,7 +22,7 @@ unfoldable pub block_head : ℕ → ℕ → List ℕ
 block_head number used = to_be_bytes w64 number ++ to_be_bytes w32 0 ++ to_be_bytes w16 used ++ to_be_bytes w16 3
 
 -- A valid ring block of this number with this text. What stands behind the text may be anything.
-pub record IsBlock (number : ℕ) (text : List ℕ) (block : List ℕ) : Type 0 where
+pub record IsLogBlock (number : ℕ) (text : List ℕ) (block : List ℕ) : Type 0 where
   pub small : number < 2 ^ 64
   pub some : 0 < length text
   pub rest : List ℕ
@@ -47,17 +47,17 @@ pub record IsCheckpoint (sequence from : ℕ) (block : List ℕ) : Type 0 where
   pub is : block ≡ sealed (checkpoint_head sequence from ++ rest)
 
 -- what the header says of each space
-unfoldable pub space_word : SpaceInfo → List ℕ
-space_word s = to_be_bytes w32 s.space ++ to_be_bytes w32 s.pages ++ to_be_bytes w32 s.key_id
+unfoldable pub space_fields : SpaceInfo → List ℕ
+space_fields s = to_be_bytes w32 s.space ++ to_be_bytes w32 s.pages ++ to_be_bytes w32 s.key_id
 
-abbrev pub space_words : List SpaceInfo → List ℕ
-space_words [] = []
-space_words (s ∷ ss) = space_word s ++ space_words ss
+abbrev pub spaces_fields : List SpaceInfo → List ℕ
+spaces_fields [] = []
+spaces_fields (s ∷ ss) = space_fields s ++ spaces_fields ss
 
 -- the first bytes of a header: format 1, pages of 16384 bytes, 256 ring blocks, the count of spaces, a salt of zero bytes, and the spaces
 unfoldable pub header_head : List SpaceInfo → List ℕ
 header_head spaces =
-    codes "KEYSTOR1" ++ to_be_bytes w32 1 ++ to_be_bytes w32 16384 ++ to_be_bytes w32 256 ++ to_be_bytes w32 (length spaces) ++ replicate 16 0 ++ space_words spaces
+    codes "KEYSTOR1" ++ to_be_bytes w32 1 ++ to_be_bytes w32 16384 ++ to_be_bytes w32 256 ++ to_be_bytes w32 (length spaces) ++ replicate 16 0 ++ spaces_fields spaces
 
 -- a valid header of a store with these spaces
 pub record IsHeader (spaces : List SpaceInfo) (block : List ℕ) : Type 0 where

@@ -8,13 +8,13 @@ use Rattle.disk_model.specs.Crash.{synced_bytes}
 use Rattle.disk_model.specs.Marks.{acked as acked_of}
 use Rattle.engine_core.specs.declared.journal.Entry.{Entry}
 use Rattle.engine_core.specs.declared.fault.State.{State}
-use Rattle.engine_core.specs.declared.fault.State.TheVariants.{Up, Down, Starved}
+use Rattle.engine_core.specs.declared.fault.State.TheVariants.{Up, Down, OutOfMemory}
 use Rattle.engine_core.specs.declared.fault.EngineFault.{EngineFault}
 use Rattle.engine_core.specs.declared.fault.EngineFault.TheVariants as fault
-use Rattle.engine_core.specs.Text.{text_of, IsSmall}
-use Rattle.engine_core.specs.Block.{IsBlock}
-use Rattle.engine_core.specs.Log.{Recovers}
-use Rattle.engine_core.specs.Layer.{Ready}
+use Rattle.engine_core.specs.Text.{mtr_text, IsSmall}
+use Rattle.engine_core.specs.Block.{IsLogBlock}
+use Rattle.engine_core.specs.Log.{LogRecovers}
+use Rattle.engine_core.specs.Layer.{LogReady}
 use Rattle.engine_core.specs.Stands.{AllStand, AllRefusable, mtrs}
 
 -- The disk, the disk as `start` left it, the journal, how many of its entries the disk holds for sure, how many were acknowledged, how many turns were made, and whether the engine takes calls.
@@ -41,7 +41,7 @@ AreEntries number (e ∷ es) = (e.lsn ≡ (number + 1) * 4096) × IsSmall e.mtr 
 -- the blocks from this number on are those of the entries
 abbrev pub AreBlocks : ℕ → List Entry → List (List ℕ) → Type 0
 AreBlocks number [] [] = Unit {0}
-AreBlocks number (e ∷ es) (b ∷ bs) = IsBlock number (text_of e.mtr) b × AreBlocks (number + 1) es bs
+AreBlocks number (e ∷ es) (b ∷ bs) = IsLogBlock number (mtr_text e.mtr) b × AreBlocks (number + 1) es bs
 AreBlocks number _ _ = ⊥
 
 -- Each image since the start stands for a beginning of the journal.
@@ -50,7 +50,7 @@ StandsSince past r = Throughout (AllStand r.journal) (past r.first) (past r.disk
 
 -- The log's file at its last sync recovers to the settled entries, and between acked and settled many were acknowledged.
 pub record IsExact (journal : List Entry) (settled acked : ℕ) (es : List Event) : Type 0 where
-  pub recovers : Recovers (synced_bytes Log es) (take settled (mtrs journal))
+  pub recovers : LogRecovers (synced_bytes Log es) (take settled (mtrs journal))
   pub least : acked ≤ acked_of (marks es)
   pub most : acked_of (marks es) ≤ settled
 
@@ -59,17 +59,17 @@ abbrev pub Somewhere : {D : Type 0} → (D → Type 0) → Type 0
 Somewhere {D} P = (d : D) × P d
 
 -- Where no memory was refused, as many were acknowledged as are settled, or the `tell` of a disk may fail.
-abbrev pub IsEvenOr : {D : Type 0} → (D → Type 0) → State → ℕ → ℕ → Type 0
-IsEvenOr may_fail_to_tell state acked settled = state ≢ Starved → (acked ≡ settled) ⊎ Somewhere may_fail_to_tell
+abbrev pub IsAckedOrUntold : {D : Type 0} → (D → Type 0) → State → ℕ → ℕ → Type 0
+IsAckedOrUntold may_fail_to_tell state acked settled = state ≢ OutOfMemory → (acked ≡ settled) ⊎ Somewhere may_fail_to_tell
 
 -- The type of an engine keeps this, by what is known of its disk: the past, and that a `tell` may fail.
 pub record IsSound {D : Type 0} (past : D → Past) (may_fail_to_tell : D → Type 0) (blocks : List (List ℕ)) (r : Running D) : Type 0 where
   pub since : StandsSince past r
   pub exact : At (IsExact r.journal r.settled r.acked) (past r.disk)
-  pub ready : r.state ≡ Up → At (Ready blocks r.settled r.settled r.acked) (past r.disk)
+  pub ready : r.state ≡ Up → At (LogReady blocks r.settled r.settled r.acked) (past r.disk)
   pub refusable : Throughout AllRefusable (past r.first) (past r.disk)
-  pub even : r.state ≡ Up → r.acked ≡ r.settled
-  pub tells : IsEvenOr may_fail_to_tell r.state r.acked r.settled
+  pub all_acked : r.state ≡ Up → r.acked ≡ r.settled
+  pub tells : IsAckedOrUntold may_fail_to_tell r.state r.acked r.settled
   pub entries : AreEntries 2 r.journal
   pub blocks_are : AreBlocks 2 r.journal blocks
   pub count : length blocks ≡ length r.journal
@@ -85,4 +85,4 @@ with_journal r journal = record { disk = r.disk; first = r.first; journal = jour
 abbrev pub up_or_refused : State → Result (Unit {0}) EngineFault
 up_or_refused Up = Ok tt
 up_or_refused (Down turn) = Err (fault.Down turn)
-up_or_refused Starved = Err fault.OutOfMemory
+up_or_refused OutOfMemory = Err fault.OutOfMemory

@@ -5,8 +5,8 @@ use Rattle.disk_model.specs.Image.{Leaves, Image, IsImage, IsLucky, IsListed}
 use Rattle.disk_model.specs.Crash.{unsynced_writes, other_writes, synced_bytes}
 use Rattle.disk_model.specs.Marks.{acked as acked_of}
 use Rattle.disk_model.specs.declared.names.FileName.TheVariants.{Log}
-use Rattle.engine_core.specs.Block.{IsBlock}
-use Rattle.engine_core.specs.Log.{block_at, ring_place, IsFramed}
+use Rattle.engine_core.specs.Block.{IsLogBlock}
+use Rattle.engine_core.specs.Log.{log_block, ring_place, IsFramed}
 use Rattle.engine_core.specs.Stands.{passes, AreBlockWrites, AllRefusable}
 
 -- the block of the i-th entry, whose number is i + 2
@@ -15,10 +15,10 @@ entry blocks i = slice_index_or blocks i []
 
 -- where it stands
 abbrev pub entry_at : ℕ → List ℕ → List ℕ
-entry_at i file = block_at (ring_place (i + 2)) file
+entry_at i file = log_block (ring_place (i + 2)) file
 
 abbrev pub HasNone : ℕ → List ℕ → Type 0
-HasNone i file = (text : List ℕ) → IsBlock (i + 2) text (entry_at i file) → ⊥
+HasNone i file = (text : List ℕ) → IsLogBlock (i + 2) text (entry_at i file) → ⊥
 
 -- a place behind the settled blocks: it holds its block, or no block of its number, or is torn
 pub data Place (blocks : List (List ℕ)) (written i : ℕ) (file : List ℕ) (torn : List (ℕ × ℕ)) : Type 0 where
@@ -34,7 +34,7 @@ pub record Spaced (blocks : List (List ℕ)) (settled written : ℕ) (file : Lis
   pub rest : (i : ℕ) → settled ≤ i → i < 256 → Place blocks written i file torn
 
 -- a file with so many blocks, and none behind them
-pub record IsFilled (blocks : List (List ℕ)) (written : ℕ) (file : List ℕ) : Type 0 where
+pub record IsLogFile (blocks : List (List ℕ)) (written : ℕ) (file : List ℕ) : Type 0 where
   pub size : length file ≡ 1060864
   pub framed : IsFramed file
   pub whole : (i : ℕ) → i < written → entry_at i file ≡ entry blocks i
@@ -42,12 +42,12 @@ pub record IsFilled (blocks : List (List ℕ)) (written : ℕ) (file : List ℕ)
 
 -- the blocks of the journal, each with its number
 abbrev pub AreNumbered : List (List ℕ) → Type 0
-AreNumbered blocks = (i : ℕ) → i < length blocks → (text : List ℕ) × IsBlock (i + 2) text (entry blocks i)
+AreNumbered blocks = (i : ℕ) → i < length blocks → (text : List ℕ) × IsLogBlock (i + 2) text (entry blocks i)
 
 -- what holds of each image, and of the file at its last sync
-pub record Holds (blocks : List (List ℕ)) (settled written : ℕ) (es : List Event) : Type 0 where
+pub record HoldsBlocks (blocks : List (List ℕ)) (settled written : ℕ) (es : List Event) : Type 0 where
   pub images : (file : List ℕ) (torn : List (ℕ × ℕ)) → Leaves Log es file torn → Spaced blocks settled written file torn
-  pub synced : IsFilled blocks settled (synced_bytes Log es)
+  pub synced : IsLogFile blocks settled (synced_bytes Log es)
   pub pending : AreBlockWrites (unsynced_writes es)
   pub acked : acked_of (marks es) ≤ settled
   pub order : settled ≤ written
@@ -56,11 +56,11 @@ pub record Holds (blocks : List (List ℕ)) (settled written : ℕ) (es : List E
   pub numbered : AreNumbered blocks
 
 -- between two calls: the file reads as the written blocks, and at least so many were acknowledged
-pub record Ready (blocks : List (List ℕ)) (settled written acked : ℕ) (es : List Event) : Type 0 where
-  pub holds : Holds blocks settled written es
+pub record LogReady (blocks : List (List ℕ)) (settled written acked : ℕ) (es : List Event) : Type 0 where
+  pub holds : HoldsBlocks blocks settled written es
   pub least : acked ≤ acked_of (marks es)
   pub there : is_there Log es ≡ true
-  pub shows : IsFilled blocks written (reads Log es)
+  pub shows : IsLogFile blocks written (reads Log es)
 
 -- an image whose run is the first so many blocks, and no more than these were acknowledged
 pub record Runs (blocks : List (List ℕ)) (image : Image) : Type 0 where
@@ -83,7 +83,7 @@ pub record IsCrashSafe (blocks : List (List ℕ)) (es : List Event) : Type 0 whe
 -- at each moment until the next sync: the run of each image, the file at its last sync, the unsynced writes, and how many were acknowledged
 pub record Moment (blocks : List (List ℕ)) (settled acked : ℕ) (es : List Event) : Type 0 where
   pub runs : AllRun blocks es
-  pub synced : IsFilled blocks settled (synced_bytes Log es)
+  pub synced : IsLogFile blocks settled (synced_bytes Log es)
   pub pending : AreBlockWrites (unsynced_writes es)
   pub least : acked ≤ acked_of (marks es)
   pub most : acked_of (marks es) ≤ settled

@@ -3,12 +3,12 @@ use Rattle.std.specs.Prelude.{◌≡◌, ℕ, ◌+◌, ◌*◌, ◌%◌, List, [
 use Rattle.disk_model.specs.Event.{range}
 use Rattle.redo_text.specs.declared.change.Change.{Change}
 use Rattle.space_head.specs.declared.space.SpaceInfo.{SpaceInfo}
-use Rattle.engine_core.specs.Text.{text_of, AreSmall}
-use Rattle.engine_core.specs.Block.{IsBlock, IsCheckpoint, IsHeader}
+use Rattle.engine_core.specs.Text.{mtr_text, AreSmall}
+use Rattle.engine_core.specs.Block.{IsLogBlock, IsCheckpoint, IsHeader}
 
 -- a file block of 4096 bytes
-abbrev pub block_at : ℕ → List ℕ → List ℕ
-block_at n file = range (n * 4096) 4096 file
+abbrev pub log_block : ℕ → List ℕ → List ℕ
+log_block n file = range (n * 4096) 4096 file
 
 -- the file block in which the ring block of this number stands: the ring has 256 blocks behind the header and two checkpoints
 unfoldable pub ring_place : ℕ → ℕ
@@ -16,19 +16,19 @@ ring_place number = 3 + number % 256
 
 -- The longest run of valid ring blocks from this number on has these texts: each stands at its place, and the next doesn't.
 abbrev pub IsRunFrom : ℕ → List ℕ → List (List ℕ) → Type 0
-IsRunFrom number file [] = (text : List ℕ) → IsBlock number text (block_at (ring_place number) file) → ⊥
-IsRunFrom number file (text ∷ texts) = IsBlock number text (block_at (ring_place number) file) × IsRunFrom (number + 1) file texts
+IsRunFrom number file [] = (text : List ℕ) → IsLogBlock number text (log_block (ring_place number) file) → ⊥
+IsRunFrom number file (text ∷ texts) = IsLogBlock number text (log_block (ring_place number) file) × IsRunFrom (number + 1) file texts
 
 -- The header and the checkpoints: checkpoint 1 says that the run begins with block 2, and the other place has none.
 pub record IsFramed (file : List ℕ) : Type 0 where
   pub spaces : List SpaceInfo
-  pub header : IsHeader spaces (block_at 0 file)
-  pub checkpoint : IsCheckpoint 1 2 (block_at 2 file)
-  pub newest : (sequence from : ℕ) → IsCheckpoint sequence from (block_at 1 file) → ⊥
+  pub header : IsHeader spaces (log_block 0 file)
+  pub checkpoint : IsCheckpoint 1 2 (log_block 2 file)
+  pub newest : (sequence from : ℕ) → IsCheckpoint sequence from (log_block 1 file) → ⊥
 
 -- The log's file recovers to this run of mini-transactions, each in one block.
-pub record Recovers (file : List ℕ) (run : List (List Change)) : Type 0 where
+pub record LogRecovers (file : List ℕ) (run : List (List Change)) : Type 0 where
   pub size : length file ≡ 1060864
   pub framed : IsFramed file
-  pub blocks : IsRunFrom 2 file (map text_of run)
+  pub blocks : IsRunFrom 2 file (map mtr_text run)
   pub small : AreSmall run

@@ -5,7 +5,7 @@ use Rattle.disk_model.specs.Image.{Leaves}
 use Rattle.disk_model.specs.declared.names.FileName.TheVariants.{Log}
 use Rattle.space_head.specs.declared.space.SpaceInfo.{SpaceInfo}
 use Rattle.engine_core.specs.Block.{IsCheckpoint, IsHeader}
-use Rattle.engine_core.specs.Log.{block_at}
+use Rattle.engine_core.specs.Log.{log_block}
 use Rattle.disk_model.specs.Crash.{unsynced_writes, synced_bytes}
 use Rattle.disk_model.specs.Marks.{acked as acked_of}
 
@@ -26,4 +26,4 @@ pub record HasCheckpoint (es : List Event) : Type 0 where
 
 -- the log's header tells these spaces
 pub record IsHeaded (spaces : List SpaceInfo) (es : List Event) : Type 0 where
-  pub header : IsHeader spaces (block_at 0 (reads Log es))
+  pub header : IsHeader spaces (log_block 0 (reads Log es))

@@ -13,7 +13,7 @@ use Rattle.store_model.specs.declared.contents.SpaceContents.{SpaceContents}
 use Rattle.store_model.specs.Fold.{fold}
 use Rattle.engine_core.specs.declared.journal.Entry.{Entry}
 use Rattle.engine_core.specs.Block.{sums_up}
-use Rattle.engine_core.specs.Log.{Recovers}
+use Rattle.engine_core.specs.Log.{LogRecovers}
 
 -- the mini-transactions of a journal
 abbrev pub mtrs : List Entry → List (List Change)
@@ -24,16 +24,16 @@ abbrev pub contents_after : ℕ → List Entry → List SpaceContents → List S
 contents_after count journal base = fold (take count (mtrs journal)) base
 
 -- The image recovers to the first so many entries of the journal, and no more than these were acknowledged by then.
-pub record Stands (journal : List Entry) (image : Image) : Type 0 where
+pub record LogStands (journal : List Entry) (image : Image) : Type 0 where
   pub count : ℕ
   pub within : count ≤ length journal
-  pub recovers : Recovers (image.bytes Log) (take count (mtrs journal))
+  pub recovers : LogRecovers (image.bytes Log) (take count (mtrs journal))
   pub acked : acked_of image.told ≤ count
 
 -- The image recovers to exactly so many entries of the journal, and no more than these were acknowledged by then.
-pub record Keeps (journal : List Entry) (image : Image) (kept : ℕ) : Type 0 where
+pub record LogKeeps (journal : List Entry) (image : Image) (kept : ℕ) : Type 0 where
   pub within : kept ≤ length journal
-  pub recovers : Recovers (image.bytes Log) (take kept (mtrs journal))
+  pub recovers : LogRecovers (image.bytes Log) (take kept (mtrs journal))
   pub acked : acked_of image.told ≤ kept
 
 -- whether a torn range passes for what it should hold: a block of the log whose checksum is right
@@ -43,11 +43,11 @@ passes _ bytes = false
 
 -- each image of this moment in which no torn range passes its checksum stands for a beginning of the journal
 abbrev pub AllStand : List Entry → List Event → Type 0
-AllStand journal es = (image : Image) → IsImage es image → IsLucky passes image → Stands journal image
+AllStand journal es = (image : Image) → IsImage es image → IsLucky passes image → LogStands journal image
 
 -- each image of this moment in which no torn range passes its checksum recovers to exactly the first so many entries
 abbrev pub AllRecover : List Entry → ℕ → List Event → Type 0
-AllRecover journal count es = (image : Image) → IsImage es image → IsLucky passes image → Recovers (image.bytes Log) (take count (mtrs journal))
+AllRecover journal count es = (image : Image) → IsImage es image → IsLucky passes image → LogRecovers (image.bytes Log) (take count (mtrs journal))
 
 -- a write of one of the log's 259 blocks: 4096 bytes at its place, which end in their checksum
 pub record IsBlockWrite (w : Pending) : Type 0 where

@@ -12,9 +12,9 @@ change_text (Touch space page) = 3 ∷ to_be_bytes w32 space ++ to_be_bytes w32 
 change_text (Floor space version) = 4 ∷ to_be_bytes w32 space ++ to_be_bytes w32 version
 change_text (Encrypt space) = 5 ∷ to_be_bytes w32 space
 
-abbrev pub text_of : List Change → List ℕ
-text_of [] = []
-text_of (c ∷ cs) = change_text c ++ text_of cs
+abbrev pub mtr_text : List Change → List ℕ
+mtr_text [] = []
+mtr_text (c ∷ cs) = change_text c ++ mtr_text cs
 
 -- a range that isn't empty and lies in the body of a page
 pub record IsRange (at size : ℕ) : Type 0 where
@@ -23,22 +23,22 @@ pub record IsRange (at size : ℕ) : Type 0 where
   pub to : at + size ≤ 16376
 
 -- A change that the format allows. Numbers have 32 bits, and types 16.
-abbrev pub IsAllowed : Change → Type 0
-IsAllowed (Put space page at bytes) = (space < 2 ^ 32) × (0 < page) × (page < 2 ^ 32) × IsRange at (length bytes)
-IsAllowed (Kind space page kind) = (space < 2 ^ 32) × (0 < page) × (page < 2 ^ 32) × (kind < 2 ^ 16) × (kind ≢ 8) × (kind ≢ 9)
-IsAllowed (Touch space page) = (space < 2 ^ 32) × (page < 2 ^ 32)
-IsAllowed (Floor space version) = (space < 2 ^ 32) × (version < 2 ^ 32)
-IsAllowed (Encrypt space) = (space < 2 ^ 32)
+abbrev pub IsAllowedInLog : Change → Type 0
+IsAllowedInLog (Put space page at bytes) = (space < 2 ^ 32) × (0 < page) × (page < 2 ^ 32) × IsRange at (length bytes)
+IsAllowedInLog (Kind space page kind) = (space < 2 ^ 32) × (0 < page) × (page < 2 ^ 32) × (kind < 2 ^ 16) × (kind ≢ 8) × (kind ≢ 9)
+IsAllowedInLog (Touch space page) = (space < 2 ^ 32) × (page < 2 ^ 32)
+IsAllowedInLog (Floor space version) = (space < 2 ^ 32) × (version < 2 ^ 32)
+IsAllowedInLog (Encrypt space) = (space < 2 ^ 32)
 
 abbrev pub AreAllowed : List Change → Type 0
 AreAllowed [] = Unit {0}
-AreAllowed (c ∷ cs) = IsAllowed c × AreAllowed cs
+AreAllowed (c ∷ cs) = IsAllowedInLog c × AreAllowed cs
 
 -- a mini-transaction that one block holds
 pub record IsSmall (mtr : List Change) : Type 0 where
   pub allowed : AreAllowed mtr
-  pub some : 0 < length (text_of mtr)
-  pub most : length (text_of mtr) ≤ 4076
+  pub some : 0 < length (mtr_text mtr)
+  pub most : length (mtr_text mtr) ≤ 4076
 
 abbrev pub AreSmall : List (List Change) → Type 0
 AreSmall [] = Unit {0}

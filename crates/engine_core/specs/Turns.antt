@@ -5,8 +5,8 @@ abbrev pub turns_after : ℕ → ℕ → ℕ
 turns_after turns more = min (turns + more) (2 ^ 64 - 1)
 
 -- so many pending blocks take a write each and one sync, and none takes nothing
-abbrev pub turns_of : ℕ → ℕ
-turns_of pending = if nat_eq pending 0 then 0 else pending + 1
+abbrev pub sync_turns : ℕ → ℕ
+sync_turns pending = if nat_eq pending 0 then 0 else pending + 1
 
 -- one of the next so many turns
 pub record IsTurnOf (count before turn : ℕ) : Type 0 where

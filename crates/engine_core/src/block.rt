@@ -1,6 +1,6 @@
 // The bytes of a ring block.
 ghost use Rattle.std.specs.Prelude.{◌≡◌, ◌+◌, ◌<◌, ◌≤◌, length, IfOk};
-ghost use Rattle.engine_core.specs.Block.{block_head, IsBlock, sealed, zero_rest};
+ghost use Rattle.engine_core.specs.Block.{block_head, IsLogBlock, sealed, zero_rest};
 
 use bytes_core::crc32c;
 use std::alloc::{AllocError, Global};
@@ -63,7 +63,7 @@ pub fn zero_bytes(alloc: Global, n: usize) -> Result<Vec<u8>, AllocError>
 pub fn ring_block(alloc: Global, number: u64, text: &[u8]) -> Result<Block, AllocError>
     requires some { 0 < length text.now }
     requires most { length text.now ≤ 4076 }
-    ensures { IfOk result (λ b. IsBlock number text.now b) }
+    ensures { IfOk result (λ b. IsLogBlock number text.now b) }
 {
     let mut block = head_bytes(alloc, number, text.len() as u16)?;
     block.extend_from_slice(text)?;

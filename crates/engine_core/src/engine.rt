@@ -3,11 +3,11 @@ ghost use Rattle.std.specs.Prelude.{◌-◌, ◌≡◌, ◌≢◌, ◌⊎◌, �
 ghost use Rattle.cause_core.specs.Counts.{Rose};
 ghost use Rattle.disk_model.specs.Event.{Event};
 ghost use Rattle.disk_model.specs.Past.{Later, At, Throughout};
-ghost use Rattle.engine_core.specs.Turns.{turns_after, turns_of};
+ghost use Rattle.engine_core.specs.Turns.{turns_after, sync_turns};
 ghost use Rattle.engine_core.specs.Text.{IsSmall};
-ghost use Rattle.engine_core.specs.Layer.{Ready};
+ghost use Rattle.engine_core.specs.Layer.{LogReady};
 ghost use Rattle.engine_core.specs.Stands.{AllStand, AllRecover, AllRefusable};
-ghost use Rattle.engine_core.specs.Kept.{up_or_refused, IsEvenOr};
+ghost use Rattle.engine_core.specs.Kept.{up_or_refused, IsAckedOrUntold};
 
 use crate::log::{PlainLog, append, tell_acked, tell_started, write_out};
 use crate::{Author, EngineFault, Entry, Journal, Receipt, StartFault, State};
@@ -64,11 +64,11 @@ fn after_fault(e: DiskError, turns: u64) -> (State, EngineFault)
     ensures failed { e ≡ DiskError.Failed → result ≡ (State.Down turns, EngineFault.DiskFault turns) }
     ensures down { result.0 ≢ State.Up }
     ensures why { (turn : ℕ) → result.1 ≡ EngineFault.DiskFault turn → e ≡ DiskError.Failed }
-    ensures refused { e ≡ DiskError.NoMemory → result ≡ (State.Starved, EngineFault.OutOfMemory) }
+    ensures refused { e ≡ DiskError.NoMemory → result ≡ (State.OutOfMemory, EngineFault.OutOfMemory) }
 {
     match e {
         DiskError::Failed => (State::Down(turns), EngineFault::DiskFault { turn: turns }),
-        DiskError::NoMemory => (State::Starved, EngineFault::OutOfMemory),
+        DiskError::NoMemory => (State::OutOfMemory, EngineFault::OutOfMemory),
     }
 }
 
@@ -80,7 +80,7 @@ fn check_up(state: State) -> Result<(), EngineFault>
     match state {
         State::Up => Ok(()),
         State::Down(turn) => Err(EngineFault::Down { turn }),
-        State::Starved => Err(EngineFault::OutOfMemory),
+        State::OutOfMemory => Err(EngineFault::OutOfMemory),
     }
 }
 
@@ -91,7 +91,7 @@ impl<D: Disk + Drop> Engine<D> {
     /// and takes the snapshot from which on each image stands for a beginning of the journal. A
     /// refusal hands back the disk.
     pub fn start(alloc: Global, disk: D) -> Result<Engine<D>, StartRefusal<D>>
-        requires { At (Ready [] 0 0 0) (D.past disk) }
+        requires { At (LogReady [] 0 0 0) (D.past disk) }
         ensures ok { IfOk result (λ e. (e.journal ≡ []) × (e.first ≡ e.disk) × (e.settled ≡ 0) × (e.acked ≡ 0) × (e.turns ≡ 0) × (e.state ≡ State.Up)) }
         ensures stands { IfOk result (λ e. StandsSince D.past e) }
         ensures begun { IfOk result (λ e. Throughout (AllStand []) (D.past disk) (D.past e.disk)) }
@@ -176,16 +176,16 @@ impl<D: Disk + Drop> Engine<D> {
         ensures up { IfErr (up_or_refused self.old.state) (λ e. (result ≡ Err e) × (self.new ≡ self.old)) }
         ensures fault { (turn : ℕ) → result ≡ Err (EngineFault.DiskFault turn) → (self.new.state ≡ State.Down turn) × (turn ≡ self.new.turns) × Rose (D.faults self.old.disk) (D.faults self.new.disk) }
         ensures down { (turn : ℕ) → result ≡ Err (EngineFault.Down turn) → self.old.state ≡ State.Down turn }
-        ensures starved { result ≡ Err EngineFault.OutOfMemory → (self.new.state ≡ State.Starved) × ((self.old.state ≡ State.Starved) ⊎ Rose (D.wants self.old.disk) (D.wants self.new.disk)) }
-        ensures turns { OnOk result (self.new.turns ≡ turns_after self.old.turns (turns_of (length self.old.journal - self.old.settled))) }
-        ensures turn { (turn : ℕ) → result ≡ Err (EngineFault.DiskFault turn) → turn ≤ turns_after self.old.turns (turns_of (length self.old.journal - self.old.settled)) }
+        ensures memory { result ≡ Err EngineFault.OutOfMemory → (self.new.state ≡ State.OutOfMemory) × ((self.old.state ≡ State.OutOfMemory) ⊎ Rose (D.wants self.old.disk) (D.wants self.new.disk)) }
+        ensures turns { OnOk result (self.new.turns ≡ turns_after self.old.turns (sync_turns (length self.old.journal - self.old.settled))) }
+        ensures turn { (turn : ℕ) → result ≡ Err (EngineFault.DiskFault turn) → turn ≤ turns_after self.old.turns (sync_turns (length self.old.journal - self.old.settled)) }
         ensures later { D.is_later self.old.disk self.new.disk }
         ensures tells { (turn : ℕ) → result ≡ Err (EngineFault.DiskFault turn) → (self.new.settled ≡ self.old.settled) ⊎ Somewhere D.may_fail_to_tell }
         ensures unacked { OnErr result (self.new.acked ≡ self.old.acked) }
         ensures settled { OnErr result ((self.new.settled ≡ self.old.settled) ⊎ (self.new.settled ≡ length self.new.journal)) }
         ensures stands { StandsSince D.past self.new }
         ensures exact { At (IsExact self.new.journal self.new.settled self.new.acked) (D.past self.new.disk) }
-        ensures even { IsEvenOr D.may_fail_to_tell self.new.state self.new.acked self.new.settled }
+        ensures all_acked { IsAckedOrUntold D.may_fail_to_tell self.new.state self.new.acked self.new.settled }
     {
         check_up(self.state)?;
         if let Err(e) = write_out(&mut self.disk, &mut self.turns, &self.log) {
@@ -250,10 +250,10 @@ impl<D: Disk + Drop> Engine<D> {
         ensures stand { At (AllStand self.journal) (D.past self.disk) }
         ensures exact { At (IsExact self.journal self.settled self.acked) (D.past self.disk) }
         ensures order { self.settled ≤ length self.journal }
-        ensures even { self.state ≡ State.Up → self.acked ≡ self.settled }
+        ensures all_acked { self.state ≡ State.Up → self.acked ≡ self.settled }
 
         // Where they differ, memory was refused, or a disk's `tell` may fail.
-        ensures tells { IsEvenOr D.may_fail_to_tell self.state self.acked self.settled }
+        ensures tells { IsAckedOrUntold D.may_fail_to_tell self.state self.acked self.settled }
 
         // A crash whose torn writes have their last byte inverted is lucky, now and at each moment since `start`.
         ensures refusable { At AllRefusable (D.past self.disk) }

@@ -10,7 +10,7 @@ pub enum State {
     /// The disk failed at this turn, counted from `start`.
     Down(u64),
     /// The disk was refused memory.
-    Starved,
+    OutOfMemory,
 }
 
 /// Why a call of the engine is refused.

@@ -3,8 +3,8 @@ ghost use Rattle.std.specs.Prelude.{◌≡◌, [], ◌+◌, ◌<◌, ◌≤◌, 
 ghost use Rattle.cause_core.specs.Counts.{Rose};
 ghost use Rattle.disk_model.specs.Event.{zeros};
 ghost use Rattle.disk_model.specs.Past.{At, HasCause, HasWant};
-ghost use Rattle.engine_core.specs.Block.{IsCheckpoint, IsHeader, checkpoint_head, header_head, space_word, space_words};
-ghost use Rattle.engine_core.specs.Layer.{IsEmpty, Ready};
+ghost use Rattle.engine_core.specs.Block.{IsCheckpoint, IsHeader, checkpoint_head, header_head, space_fields, spaces_fields};
+ghost use Rattle.engine_core.specs.Layer.{IsEmpty, LogReady};
 ghost use Rattle.engine_core.specs.Made.{IsNow, IsHeaded, HasCheckpoint};
 
 use crate::StartFault;
@@ -39,9 +39,9 @@ fn checkpoint_block(alloc: Global, sequence: u64, from: u64) -> Result<Block, Al
     Ok(block)
 }
 
-#[tactic(auto, unfolding(crate::specs::Block::space_word))]
+#[tactic(auto, unfolding(crate::specs::Block::space_fields))]
 fn push_space(text: &mut Vec<u8>, space: &SpaceInfo) -> Result<(), AllocError>
-    ensures { OnOk result (text.new.items ≡ text.old.items ++ space_word space.now) }
+    ensures { OnOk result (text.new.items ≡ text.old.items ++ space_fields space.now) }
 {
     text.extend_from_slice(&space.space.to_be_bytes())?;
     text.extend_from_slice(&space.pages.to_be_bytes())?;
@@ -50,7 +50,7 @@ fn push_space(text: &mut Vec<u8>, space: &SpaceInfo) -> Result<(), AllocError>
 }
 
 fn push_spaces(text: &mut Vec<u8>, spaces: &[SpaceInfo]) -> Result<(), AllocError>
-    ensures { OnOk result (text.new.items ≡ text.old.items ++ space_words spaces.now) }
+    ensures { OnOk result (text.new.items ≡ text.old.items ++ spaces_fields spaces.now) }
 {
     for space in spaces {
         push_space(text, space)?;
@@ -112,7 +112,7 @@ fn write_checkpoint<D: Disk>(disk: &mut D, block: &Block) -> Result<(), DiskErro
 fn write_header<D: Disk>(disk: &mut D, block: &Block, spaces: &[SpaceInfo]) -> Result<(), DiskError>
     requires now { At HasCheckpoint (D.past disk.old) }
     requires header { IsHeader spaces.now block.now }
-    ensures ok { OnOk result (At (Ready [] 0 0 0) (D.past disk.new)) }
+    ensures ok { OnOk result (At (LogReady [] 0 0 0) (D.past disk.new)) }
     ensures header { OnOk result (At (IsHeaded spaces.now) (D.past disk.new)) }
     ensures cause { HasCause (D.faults disk.old) (D.faults disk.new) result }
     ensures want { HasWant (D.wants disk.old) (D.wants disk.new) result }
@@ -128,7 +128,7 @@ fn write_header<D: Disk>(disk: &mut D, block: &Block, spaces: &[SpaceInfo]) -> R
 pub fn create<D: Disk>(alloc: Global, disk: &mut D, spaces: &[SpaceInfo]) -> Result<(), StartFault>
     requires empty { At IsEmpty (D.past disk.old) }
     requires few { length spaces.now ≤ 16 }
-    ensures ok { OnOk result (At (Ready [] 0 0 0) (D.past disk.new)) }
+    ensures ok { OnOk result (At (LogReady [] 0 0 0) (D.past disk.new)) }
     ensures header { OnOk result (At (IsHeaded spaces.now) (D.past disk.new)) }
     ensures cause { result ≡ Err StartFault.DiskFault → Rose (D.faults disk.old) (D.faults disk.new) }
     ensures later { D.is_later disk.old disk.new }

@@ -10,7 +10,7 @@
 //! 2. The log's file at its last sync, which is what a crash leaves that loses each later write,
 //!    recovers to exactly the settled entries, and from `acked` to `settled` many were acknowledged
 //!    (`IsExact`). The two are equal, but where memory was refused or a `tell` of the disk failed
-//!    (`IsEvenOr`). With nothing pending each image has exactly the settled entries (`AllRecover`).
+//!    (`IsAckedOrUntold`). With nothing pending each image has exactly the settled entries (`AllRecover`).
 //! 3. `commit` adds one entry, with its place and its LSN, or changes nothing.
 //! 4. `sync` acknowledges the whole journal, after the log's sync and not before, and changes
 //!    nothing of the journal. Its turns are a write for each pending block and one sync.

@@ -1,10 +1,10 @@
 // The log's file: the device calls, one to a function.
 ghost use Rattle.std.specs.Prelude.{◌^◌, ◌-◌, ◌∷◌, ◌++◌, ℕ, List, OnOk, ◌≡◌, ◌+◌, ◌<◌, ◌≤◌, [], length, OnErr, IsErrOf};
 ghost use Rattle.disk_model.specs.Past.{At, Step, HasCause, HasWant};
-ghost use Rattle.engine_core.specs.Turns.{turns_after, turns_of, IsTurnOf};
-ghost use Rattle.engine_core.specs.Layer.{Ready, Moment, IsCrashSafe};
-ghost use Rattle.engine_core.specs.Text.{text_of, IsSmall};
-ghost use Rattle.engine_core.specs.Block.{IsBlock};
+ghost use Rattle.engine_core.specs.Turns.{turns_after, sync_turns, IsTurnOf};
+ghost use Rattle.engine_core.specs.Layer.{LogReady, Moment, IsCrashSafe};
+ghost use Rattle.engine_core.specs.Text.{mtr_text, IsSmall};
+ghost use Rattle.engine_core.specs.Block.{IsLogBlock};
 ghost use Rattle.engine_core.specs.Log.{ring_place};
 
 use crate::block::{Block, ring_block};
@@ -27,7 +27,7 @@ pub struct PlainLog {
 pub fn append(alloc: Global, log: &mut PlainLog, mtr: &Mtr) -> Result<(), AllocError>
     requires small { IsSmall mtr.now }
     requires room { length log.old.blocks.items ≤ 256 }
-    ensures ok { OnOk result ((block : List ℕ) × (log.new.blocks.items ≡ log.old.blocks.items ++ block ∷ []) × IsBlock (length log.old.blocks.items + 2) (text_of mtr.now) block) }
+    ensures ok { OnOk result ((block : List ℕ) × (log.new.blocks.items ≡ log.old.blocks.items ++ block ∷ []) × IsLogBlock (length log.old.blocks.items + 2) (mtr_text mtr.now) block) }
     ensures err { OnErr result (log.new.blocks.items ≡ log.old.blocks.items) }
     ensures settled { log.new.settled ≡ log.old.settled }
     ensures acked { log.new.acked ≡ log.old.acked }
@@ -48,10 +48,10 @@ pub fn write_block<D: Disk>(
     log: &PlainLog,
     i: usize,
 ) -> Result<(), DiskError>
-    requires ready { At (Ready log.now.blocks.items log.now.settled i log.now.acked) (D.past disk.old) }
+    requires ready { At (LogReady log.now.blocks.items log.now.settled i log.now.acked) (D.past disk.old) }
     requires more { i < length log.now.blocks.items }
     requires room { length log.now.blocks.items ≤ 256 }
-    ensures step { Step (Moment log.now.blocks.items log.now.settled log.now.acked) (Ready log.now.blocks.items log.now.settled (i + 1) log.now.acked) (D.past disk.old) (D.past disk.new) result }
+    ensures step { Step (Moment log.now.blocks.items log.now.settled log.now.acked) (LogReady log.now.blocks.items log.now.settled (i + 1) log.now.acked) (D.past disk.old) (D.past disk.new) result }
     ensures cause { HasCause (D.faults disk.old) (D.faults disk.new) result }
     ensures want { HasWant (D.wants disk.old) (D.wants disk.new) result }
     ensures later { D.is_later disk.old disk.new }
@@ -72,11 +72,11 @@ pub fn write_pending<D: Disk>(
     turns: &mut u64,
     log: &PlainLog,
 ) -> Result<(), DiskError>
-    requires ready { At (Ready log.now.blocks.items log.now.settled log.now.settled log.now.acked) (D.past disk.old) }
+    requires ready { At (LogReady log.now.blocks.items log.now.settled log.now.settled log.now.acked) (D.past disk.old) }
     requires room { length log.now.blocks.items ≤ 256 }
     requires order { log.now.settled ≤ length log.now.blocks.items }
     requires counted { turns.old < 2 ^ 64 }
-    ensures step { Step (Moment log.now.blocks.items log.now.settled log.now.acked) (Ready log.now.blocks.items log.now.settled (length log.now.blocks.items) log.now.acked) (D.past disk.old) (D.past disk.new) result }
+    ensures step { Step (Moment log.now.blocks.items log.now.settled log.now.acked) (LogReady log.now.blocks.items log.now.settled (length log.now.blocks.items) log.now.acked) (D.past disk.old) (D.past disk.new) result }
     ensures cause { HasCause (D.faults disk.old) (D.faults disk.new) result }
     ensures want { HasWant (D.wants disk.old) (D.wants disk.new) result }
     ensures later { D.is_later disk.old disk.new }
@@ -90,8 +90,8 @@ pub fn write_pending<D: Disk>(
 }
 
 fn sync_log<D: Disk>(disk: &mut D, turns: &mut u64, log: &PlainLog) -> Result<(), DiskError>
-    requires { At (Ready log.now.blocks.items log.now.settled (length log.now.blocks.items) log.now.acked) (D.past disk.old) }
-    ensures step { Step (IsCrashSafe log.now.blocks.items) (Ready log.now.blocks.items (length log.now.blocks.items) (length log.now.blocks.items) log.now.acked) (D.past disk.old) (D.past disk.new) result }
+    requires { At (LogReady log.now.blocks.items log.now.settled (length log.now.blocks.items) log.now.acked) (D.past disk.old) }
+    ensures step { Step (IsCrashSafe log.now.blocks.items) (LogReady log.now.blocks.items (length log.now.blocks.items) (length log.now.blocks.items) log.now.acked) (D.past disk.old) (D.past disk.new) result }
     ensures cause { HasCause (D.faults disk.old) (D.faults disk.new) result }
     ensures want { HasWant (D.wants disk.old) (D.wants disk.new) result }
     ensures later { D.is_later disk.old disk.new }
@@ -105,17 +105,17 @@ fn sync_log<D: Disk>(disk: &mut D, turns: &mut u64, log: &PlainLog) -> Result<()
 
 /// Writes out what is pending and syncs the log. Where nothing is pending nothing is done.
 pub fn write_out<D: Disk>(disk: &mut D, turns: &mut u64, log: &PlainLog) -> Result<(), DiskError>
-    requires ready { At (Ready log.now.blocks.items log.now.settled log.now.settled log.now.acked) (D.past disk.old) }
+    requires ready { At (LogReady log.now.blocks.items log.now.settled log.now.settled log.now.acked) (D.past disk.old) }
     requires room { length log.now.blocks.items ≤ 256 }
     requires order { log.now.settled ≤ length log.now.blocks.items }
     requires counted { turns.old < 2 ^ 64 }
-    ensures step { Step (IsCrashSafe log.now.blocks.items) (Ready log.now.blocks.items (length log.now.blocks.items) (length log.now.blocks.items) log.now.acked) (D.past disk.old) (D.past disk.new) result }
+    ensures step { Step (IsCrashSafe log.now.blocks.items) (LogReady log.now.blocks.items (length log.now.blocks.items) (length log.now.blocks.items) log.now.acked) (D.past disk.old) (D.past disk.new) result }
     ensures cause { HasCause (D.faults disk.old) (D.faults disk.new) result }
     ensures want { HasWant (D.wants disk.old) (D.wants disk.new) result }
     ensures later { D.is_later disk.old disk.new }
     ensures kept { OnErr result (At (Moment log.now.blocks.items log.now.settled log.now.acked) (D.past disk.new)) }
-    ensures turns { OnOk result (turns.new ≡ turns_after turns.old (turns_of (length log.now.blocks.items - log.now.settled))) }
-    ensures failed { OnErr result (IsTurnOf (turns_of (length log.now.blocks.items - log.now.settled)) turns.old turns.new) }
+    ensures turns { OnOk result (turns.new ≡ turns_after turns.old (sync_turns (length log.now.blocks.items - log.now.settled))) }
+    ensures failed { OnErr result (IsTurnOf (sync_turns (length log.now.blocks.items - log.now.settled)) turns.old turns.new) }
 {
     if log.settled == log.blocks.len() {
         return Ok(());
@@ -127,8 +127,8 @@ pub fn write_out<D: Disk>(disk: &mut D, turns: &mut u64, log: &PlainLog) -> Resu
 /// Acknowledges the settled blocks.
 pub fn tell_acked<D: Disk>(disk: &mut D, log: &PlainLog) -> Result<(), DiskError>
     requires order { log.now.acked ≤ log.now.settled }
-    requires ready { At (Ready log.now.blocks.items log.now.settled log.now.settled log.now.acked) (D.past disk.old) }
-    ensures step { Step (Moment log.now.blocks.items log.now.settled log.now.acked) (Ready log.now.blocks.items log.now.settled log.now.settled log.now.settled) (D.past disk.old) (D.past disk.new) result }
+    requires ready { At (LogReady log.now.blocks.items log.now.settled log.now.settled log.now.acked) (D.past disk.old) }
+    ensures step { Step (Moment log.now.blocks.items log.now.settled log.now.acked) (LogReady log.now.blocks.items log.now.settled log.now.settled log.now.settled) (D.past disk.old) (D.past disk.new) result }
     ensures cause { HasCause (D.faults disk.old) (D.faults disk.new) result }
     ensures want { HasWant (D.wants disk.old) (D.wants disk.new) result }
     ensures later { D.is_later disk.old disk.new }
@@ -139,8 +139,8 @@ pub fn tell_acked<D: Disk>(disk: &mut D, log: &PlainLog) -> Result<(), DiskError
 
 /// Says that a session begins.
 pub fn tell_started<D: Disk>(disk: &mut D) -> Result<(), DiskError>
-    requires { At (Ready [] 0 0 0) (D.past disk.old) }
-    ensures step { Step (IsCrashSafe []) (Ready [] 0 0 0) (D.past disk.old) (D.past disk.new) result }
+    requires { At (LogReady [] 0 0 0) (D.past disk.old) }
+    ensures step { Step (IsCrashSafe []) (LogReady [] 0 0 0) (D.past disk.old) (D.past disk.new) result }
     ensures cause { HasCause (D.faults disk.old) (D.faults disk.new) result }
     ensures want { HasWant (D.wants disk.old) (D.wants disk.new) result }
     ensures later { D.is_later disk.old disk.new }

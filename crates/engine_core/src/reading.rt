@@ -7,8 +7,8 @@ ghost use Rattle.disk_model.specs.Past.{At, HasCause, HasWant};
 ghost use Rattle.disk_model.specs.declared.names.FileName.TheVariants.{Log};
 ghost use Rattle.std.specs.Int.{to_be_bytes, w32};
 ghost use Rattle.bytes_core.specs.Crc.{crc32c};
-ghost use Rattle.engine_core.specs.Block.{IsBlock, block_head};
-ghost use Rattle.engine_core.specs.Log.{IsRunFrom, block_at, ring_place};
+ghost use Rattle.engine_core.specs.Block.{IsLogBlock, block_head};
+ghost use Rattle.engine_core.specs.Log.{IsRunFrom, log_block, ring_place};
 
 use crate::StartFault;
 use crate::log::ring_place;
@@ -47,8 +47,8 @@ fn has_sum(front: &[u8], sum: &[u8]) -> bool
 /// The text of a ring block of 4096 bytes, if it is a valid block of this number.
 pub fn read_block(block: &[u8], number: u64) -> Option<&[u8]>
     requires { length block.now ≡ 4096 }
-    ensures found { IfSome result (λ text. IsBlock number text.now block.now) }
-    ensures none { IfNone result ((text : List ℕ) → IsBlock number text block.now → ⊥) }
+    ensures found { IfSome result (λ text. IsLogBlock number text.now block.now) }
+    ensures none { IfNone result ((text : List ℕ) → IsLogBlock number text block.now → ⊥) }
 {
     let (front, sum) = block.split_at(4092);
     let (head, body) = front.split_at(16);
@@ -70,7 +70,7 @@ pub fn read_block(block: &[u8], number: u64) -> Option<&[u8]>
 fn read_ring_block<D: Disk>(disk: &mut D, number: u64, buffer: &mut [u8]) -> Result<(), DiskError>
     requires inside { At (InFile Log 0 1060864) (D.past disk.old) }
     requires size { length buffer.old ≡ 4096 }
-    ensures block { OnOk result (At (λ es. buffer.new ≡ block_at (ring_place number) (reads Log es)) (D.past disk.old)) }
+    ensures block { OnOk result (At (λ es. buffer.new ≡ log_block (ring_place number) (reads Log es)) (D.past disk.old)) }
     ensures same { D.past disk.new ≡ D.past disk.old }
     ensures cause { HasCause (D.faults disk.old) (D.faults disk.new) result }
     ensures want { HasWant (D.wants disk.old) (D.wants disk.new) result }

@@ -1,6 +1,6 @@
 // The text of a mini-transaction.
 ghost use Rattle.std.specs.Prelude.{◌≡◌, ◌∷◌, ◌++◌, ◌<◌, ◌^◌, length, IfOk, OnOk};
-ghost use Rattle.engine_core.specs.Text.{change_text, text_of, IsAllowed, AreAllowed};
+ghost use Rattle.engine_core.specs.Text.{change_text, mtr_text, IsAllowedInLog, AreAllowed};
 ghost use Rattle.std.specs.Int.{to_be_bytes, w32};
 
 use std::alloc::{AllocError, Global};
@@ -41,7 +41,7 @@ fn push_kind(text: &mut Vec<u8>, space: u32, page: u32, kind: u16) -> Result<(),
 
 // Adds the text of one change.
 fn push_change(text: &mut Vec<u8>, change: &Change) -> Result<(), AllocError>
-    requires { IsAllowed change.now }
+    requires { IsAllowedInLog change.now }
     ensures { OnOk result (text.new.items ≡ text.old.items ++ change_text change.now) }
 {
     match change {
@@ -64,7 +64,7 @@ fn push_change(text: &mut Vec<u8>, change: &Change) -> Result<(), AllocError>
 /// The text of a mini-transaction.
 pub fn mtr_text(alloc: Global, mtr: &Mtr) -> Result<Vec<u8>, AllocError>
     requires { AreAllowed mtr.now }
-    ensures { IfOk result (λ v. v.items ≡ text_of mtr.now) }
+    ensures { IfOk result (λ v. v.items ≡ mtr_text mtr.now) }
 {
     let mut text = Vec::new(alloc);
     for change in mtr.changes() {

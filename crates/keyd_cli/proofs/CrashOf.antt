@@ -14,7 +14,7 @@ use Rattle.disk_model.specs.declared.calls.Choice.TheVariants.{Lost}
 use Rattle.disk_model.proofs.FilesLemmas.{file_in-none}
 use Rattle.engine_core.specs.declared.journal.Entry.{Entry}
 use Rattle.engine_core.specs.Log.{IsRunFrom}
-use Rattle.engine_core.specs.Stands.{AllStand, AllRefusable, Stands}
+use Rattle.engine_core.specs.Stands.{AllStand, AllRefusable, LogStands}
 use Rattle.engine_core.specs.Kept.{IsExact}
 use Rattle.engine_core.proofs.Crashes.{crash-stands}
 use Rattle.engine_core.proofs.RunLength.{settled-scan}
@@ -25,8 +25,8 @@ use Rattle.disk_model.specs.Turns.{later_turn, turns_in, faults_in, are_planned}
 use Rattle.disk_model.specs.Image.{IsLucky}
 use Rattle.disk_model.specs.declared.calls.DiskCall.{DiskCall}
 use Rattle.engine_core.specs.declared.fault.State.{State}
-use Rattle.engine_core.specs.declared.fault.State.TheVariants.{Up, Starved}
-use Rattle.engine_core.specs.Stands.{AllRecover, Keeps, passes}
+use Rattle.engine_core.specs.declared.fault.State.TheVariants.{Up, OutOfMemory}
+use Rattle.engine_core.specs.Stands.{AllRecover, LogKeeps, passes}
 use Rattle.keyd_cli.specs.declared.act.Statement.{Statement}
 use Rattle.keyd_cli.specs.declared.plan.DrillPlan.{DrillPlan}
 use Rattle.keyd_cli.specs.declared.drill.Drilled.{Drilled}
@@ -63,7 +63,7 @@ module _ (journal : List Entry) (choices : List Choice) (es : List Event) (after
   -- the image has the log that a scan reads
   pub crash-inside : calls_since after ≡ [] → AllStand journal es → InFile Log 0 1060864 (events after)
   crash-inside none all =
-      let s : Stands journal (crash_image choices es) = crash-stands journal choices es (events after) refusable crash all in
+      let s : LogStands journal (crash_image choices es) = crash-stands journal choices es (events after) refusable crash all in
       let size : length (reads Log (events after)) ≡ 1060864 = ap length (crash.reads_as Log) ∙ s.recovers.size in
       record { there = begun-there after none size; within = omega (arith, size) }
 
@@ -72,8 +72,8 @@ module _ (journal : List Entry) (choices : List Choice) (es : List Event) (after
       let same : reads Log (events after) ≡ synced_bytes Log es = crash.reads_as Log ∙ left-lost choices some lost Log (unsynced_writes es) (synced_bytes Log es) in
       settled-scan journal settled acked es texts le exact (subst (λ (file : List ℕ). IsRunFrom 2 file texts) same run)
 
-up_not_starved : Up ≡ Starved → ⊥
-up_not_starved is = subst IsUp is tt
+up_not_out_of_memory : Up ≡ OutOfMemory → ⊥
+up_not_out_of_memory is = subst IsUp is tt
   where
     IsUp : State → Type 0
     IsUp Up = Unit {0}
@@ -102,13 +102,13 @@ module _ (plan : DrillPlan) (statements : List Statement) (first : DiskContents)
       → HasRun statements is_whole d.journal d.replies.items
       → AreAckedWithin d.end.acked d.replies.items
       → ((begun : ℕ) → d.end.disk.contents.log.stop ≡ stop_after begun plan.stop → d.end.stopped ≡ stopped_by begun (turns_in (calls_since d.end.disk.contents)) plan.stop)
-      → (is_whole ≡ false → (1 ≤ d.end.disk.contents.log.faults) × (state ≢ Starved))
+      → (is_whole ≡ false → (1 ≤ d.end.disk.contents.log.faults) × (state ≢ OutOfMemory))
       → (is_whole ≡ true → state ≡ Up)
       → IsExact d.journal settled d.end.acked (events d.end.disk.contents)
       → settled ≤ length d.journal
       → (state ≡ Up → AllRecover d.journal settled (events d.end.disk.contents))
-      → (state ≢ Starved → d.end.acked ≡ settled)
-      → Keeps d.journal (crash_image plan.choices.items (events d.end.disk.contents)) d.end.kept
+      → (state ≢ OutOfMemory → d.end.acked ≡ settled)
+      → LogKeeps d.journal (crash_image plan.choices.items (events d.end.disk.contents)) d.end.kept
       → IsLucky passes (crash_image plan.choices.items (events d.end.disk.contents))
       → ((settled : ℕ) → settled ≤ length d.journal → AllRecover d.journal settled (events d.end.disk.contents) → d.end.kept ≡ settled)
       → ((settled acked : ℕ) → settled ≤ length d.journal → AreLost plan.choices.items → IsExact d.journal settled acked (events d.end.disk.contents) → d.end.kept ≡ settled)
@@ -117,7 +117,7 @@ module _ (plan : DrillPlan) (statements : List Statement) (first : DiskContents)
       → IsDrilled plan statements d
   drilled settled state is_whole run replied stopped_is cause up exact order all even keeps lucky if_settled if_lost count rest =
       let stopped : d.end.stopped ≡ stopped_by first.log.turns (turns_in (calls_since d.end.disk.contents)) plan.stop = stopped_is first.log.turns (later.plan.stop ∙ begins.stop) in
-      let fed : state ≢ Starved = not_starved is_whole refl in
+      let fed : state ≢ OutOfMemory = not_out_of_memory is_whole refl in
       let same : d.end.acked ≡ settled = even fed in
       let told : acked_of (marks (events d.end.disk.contents)) ≡ d.end.acked = omega (arith, exact.least, exact.most, same) in
       record {
@@ -136,13 +136,13 @@ module _ (plan : DrillPlan) (statements : List Statement) (first : DiskContents)
         acked = told;
         order = omega (arith, told, keeps.acked);
         within = omega (arith, keeps.within, count);
-        even = λ cases. by cases stopped same is_whole refl;
+        kept_is_acked = λ cases. by cases stopped same is_whole refl;
         rest = rest;
       }
     where
-      not_starved : (b : Bool) → is_whole ≡ b → state ≢ Starved
-      not_starved true is = λ starved. up_not_starved (sym (up is) ∙ starved)
-      not_starved false is = (cause is).1
+      not_out_of_memory : (b : Bool) → is_whole ≡ b → state ≢ OutOfMemory
+      not_out_of_memory true is = λ no_memory. up_not_out_of_memory (sym (up is) ∙ no_memory)
+      not_out_of_memory false is = (cause is).1
 
       stopped_none : d.end.stopped ≡ stopped_by first.log.turns (turns_in (calls_since d.end.disk.contents)) plan.stop → d.end.stopped ≡ None → stopped_by first.log.turns (turns_in (calls_since d.end.disk.contents)) plan.stop ≡ None
       stopped_none stopped none = sym stopped ∙ none

@@ -2,7 +2,7 @@
 use Rattle.std.proofs.Common.{◌≡◌, ℕ, ◌+◌, ◌<◌, ◌≤◌, ◌^◌, ◌++◌, length, arith, ap, List, [], ◌∷◌, refl, if◌then◌else◌}
 use Rattle.std.proofs.lemmas.List.{append-nil}
 use Rattle.redo_text.specs.declared.change.Change.TheVariants.{Put}
-use Rattle.engine_core.specs.Text.{text_of}
+use Rattle.engine_core.specs.Text.{mtr_text}
 use Rattle.keyd_cli.specs.declared.act.Act.{Act}
 use Rattle.keyd_cli.specs.declared.act.Act.TheVariants.{Mtr, Sync}
 use Rattle.keyd_cli.specs.declared.act.Statement.{Statement}
@@ -11,7 +11,7 @@ use Rattle.keyd_cli.specs.Reads.{Reads, ReadNone, ReadSkipped, ReadAct, is_mtr, 
 use Rattle.keyd_cli.specs.Session.{IsSmallAct, AreRunnable}
 use Rattle.keyd_cli.proofs.ReadsLemmas.{count_more}
 
-length-put_text : (space page at : ℕ) (bytes : List ℕ) → length (text_of (Put space page at bytes ∷ [])) ≡ 17 + length bytes
+length-put_text : (space page at : ℕ) (bytes : List ℕ) → length (mtr_text (Put space page at bytes ∷ [])) ≡ 17 + length bytes
 length-put_text space page at bytes = omega (arith, ap length (append-nil bytes))
 
 small_act : (space pages : ℕ) (line : List ℕ) (act : Act) → space < 2 ^ 32 → pages < 2 ^ 32 → IsAct space pages line act → IsSmallAct act

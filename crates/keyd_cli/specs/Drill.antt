@@ -12,9 +12,9 @@ use Rattle.disk_model.specs.declared.contents.DiskContents.{DiskContents}
 use Rattle.disk_model.specs.declared.calls.Choice.{Choice}
 use Rattle.disk_model.specs.declared.calls.Choice.TheVariants.{Lost}
 use Rattle.space_head.specs.declared.space.SpaceInfo.{SpaceInfo}
-use Rattle.engine_core.specs.Layer.{Ready}
+use Rattle.engine_core.specs.Layer.{LogReady}
 use Rattle.engine_core.specs.Made.{IsHeaded}
-use Rattle.engine_core.specs.Stands.{Keeps, passes}
+use Rattle.engine_core.specs.Stands.{LogKeeps, passes}
 use Rattle.keyd_cli.specs.declared.words.SpaceWords.{SpaceWords}
 use Rattle.keyd_cli.specs.declared.plan.DrillPlan.{DrillPlan}
 use Rattle.keyd_cli.specs.declared.act.Statement.{Statement}
@@ -37,7 +37,7 @@ stopped_by begun turns (Some turn) = if nat_le (later_turn begun turn) turns the
 
 -- The disk as the session begins: the store has this space and no used page, and from the session's stop on each turn is to fail.
 pub record Begins (space : SpaceWords) (turn : Option ℕ) (first : DiskContents) : Type 0 where
-  pub empty : Ready [] 0 0 0 (events first)
+  pub empty : LogReady [] 0 0 0 (events first)
   pub headed : IsHeaded (info_of space ∷ []) (events first)
   pub failing : first.log.failing.items ≡ []
   pub stop : first.log.stop ≡ stop_after first.log.turns turn
@@ -59,10 +59,10 @@ pub record IsDrilled (plan : DrillPlan) (statements : List Statement) (d : Drill
   pub whole : d.end.stopped ≡ None → is_whole ≡ true
   pub replied : AreAckedWithin d.end.acked d.replies.items
   pub count : d.end.journal ≡ length d.journal
-  pub keeps : Keeps d.journal (crash_image plan.choices.items (events d.end.disk.contents)) d.end.kept
+  pub keeps : LogKeeps d.journal (crash_image plan.choices.items (events d.end.disk.contents)) d.end.kept
   pub lucky : IsLucky passes (crash_image plan.choices.items (events d.end.disk.contents))
   pub acked : acked_of (marks (events d.end.disk.contents)) ≡ d.end.acked
   pub order : d.end.acked ≤ d.end.kept
   pub within : d.end.kept ≤ d.end.journal
-  pub even : (d.end.stopped ≡ None) ⊎ AreLost plan.choices.items → d.end.kept ≡ d.end.acked
+  pub kept_is_acked : (d.end.stopped ≡ None) ⊎ AreLost plan.choices.items → d.end.kept ≡ d.end.acked
   pub rest : d.end.rest ≡ None

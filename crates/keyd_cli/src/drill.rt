@@ -6,10 +6,10 @@ ghost use Rattle.disk_model.specs.Image.{IsLucky};
 ghost use Rattle.disk_model.specs.Past.{At};
 ghost use Rattle.disk_model.specs.Turns.{turns_in};
 ghost use Rattle.disk_model.specs.Log.{IsLaterLog};
-ghost use Rattle.engine_core.specs.Layer.{Ready};
+ghost use Rattle.engine_core.specs.Layer.{LogReady};
 ghost use Rattle.engine_core.specs.Made.{IsHeaded};
 ghost use Rattle.engine_core.specs.Kept.{IsExact};
-ghost use Rattle.engine_core.specs.Stands.{AllStand, AllRecover, AllRefusable, Keeps, passes, contents_after};
+ghost use Rattle.engine_core.specs.Stands.{AllStand, AllRecover, AllRefusable, LogKeeps, passes, contents_after};
 ghost use Rattle.engine_core.specs.declared.fault.State.TheVariants as state;
 ghost use Rattle.store_model.specs.Fold.{empty};
 ghost use Rattle.store_model.specs.Report.{report_text};
@@ -53,7 +53,7 @@ fn space_info(space: &SpaceWords) -> SpaceInfo
 
 // The empty store on a memory disk, of which no turn is to fail, so that only memory can be refused.
 fn created(alloc: Global, space: &SpaceWords) -> Result<MemDisk, OutOfMemory>
-    ensures empty { IfOk result (λ disk. Ready [] 0 0 0 (events disk.contents)) }
+    ensures empty { IfOk result (λ disk. LogReady [] 0 0 0 (events disk.contents)) }
     ensures headed { IfOk result (λ disk. IsHeaded (info_of space.now ∷ []) (events disk.contents)) }
     ensures failing { IfOk result (λ disk. disk.contents.log.failing.items ≡ []) }
     ensures stop { IfOk result (λ disk. disk.contents.log.stop ≡ None) }
@@ -93,7 +93,7 @@ fn kept(alloc: Global, halted: &Halted<MemDisk>, choices: &[Choice]) -> Result<u
     requires choices { 0 < length choices.now }
     requires stands { AllStand halted.now.journal (events halted.now.disk.contents) }
     requires refusable { AllRefusable (events halted.now.disk.contents) }
-    ensures keeps { IfOk result (Keeps halted.now.journal (crash_image choices.now (events halted.now.disk.contents))) }
+    ensures keeps { IfOk result (LogKeeps halted.now.journal (crash_image choices.now (events halted.now.disk.contents))) }
     ensures lucky { IfOk result (λ _. IsLucky passes (crash_image choices.now (events halted.now.disk.contents))) }
     ensures settled { IfOk result (λ n. (settled : ℕ) → settled ≤ length halted.now.journal → AllRecover halted.now.journal settled (events halted.now.disk.contents) → n ≡ settled) }
     ensures lost { IfOk result (λ n. (settled acked : ℕ) → settled ≤ length halted.now.journal → AreLost choices.now → IsExact halted.now.journal settled acked (events halted.now.disk.contents) → n ≡ settled) }
@@ -107,7 +107,7 @@ fn kept(alloc: Global, halted: &Halted<MemDisk>, choices: &[Choice]) -> Result<u
 
 // A session on the store. No call of a disk in memory fails at the start, so that only memory can be refused.
 fn started(alloc: Global, disk: MemDisk) -> Result<Engine<MemDisk>, OutOfMemory>
-    requires { Ready [] 0 0 0 (events disk.contents) }
+    requires { LogReady [] 0 0 0 (events disk.contents) }
     ensures journal { IfOk result (λ e. e.journal ≡ []) }
     ensures acked { IfOk result (λ e. e.acked ≡ 0) }
     ensures state { IfOk result (λ e. e.state ≡ state.Up) }

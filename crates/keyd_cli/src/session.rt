@@ -22,7 +22,7 @@ fn answer<D: Disk + Drop>(
     ensures acked { IfOk result (λ o. engine.new.acked ≡ acked_after o engine.old.acked (length engine.new.journal)) }
     ensures later { D.is_later engine.old.disk engine.new.disk }
     ensures first { engine.new.first ≡ engine.old.first }
-    ensures cause { IfOk result (λ o. o ≡ None → (1 ≤ D.faults engine.new.disk) × (engine.new.state ≢ state.Starved)) }
+    ensures cause { IfOk result (λ o. o ≡ None → (1 ≤ D.faults engine.new.disk) × (engine.new.state ≢ state.OutOfMemory)) }
     ensures done { IfOk result (λ o. MatchOption o ((engine.new.journal ≡ engine.old.journal) × (engine.new.state ≢ state.Up)) (λ reply. (engine.new.journal ≡ engine.old.journal ++ entry_of (length engine.old.journal) statement.line statement.act) × (reply ≡ reply_to (length engine.old.journal) statement) × (engine.new.state ≡ state.Up))) }
 {
     let line = statement.line;
@@ -70,7 +70,7 @@ pub fn run_statements<D: Disk + Drop>(
     ensures ran { IfOk result (λ r. HasRun statements.items r.is_whole engine.new.journal r.replies.items) }
     ensures acked { IfOk result (λ r. AreAckedWithin engine.new.acked r.replies.items) }
     ensures later { IfOk result (λ _. D.is_later engine.old.disk engine.new.disk) }
-    ensures cause { IfOk result (λ r. r.is_whole ≡ false → (1 ≤ D.faults engine.new.disk) × (engine.new.state ≢ state.Starved)) }
+    ensures cause { IfOk result (λ r. r.is_whole ≡ false → (1 ≤ D.faults engine.new.disk) × (engine.new.state ≢ state.OutOfMemory)) }
     ensures whole { IfOk result (λ r. r.is_whole ≡ true → engine.new.state ≡ state.Up) }
     ensures stopped { IfOk result (λ r. r.is_whole ≡ false → engine.new.state ≢ state.Up) }
 {

@@ -4,7 +4,7 @@ use Rattle.disk_model.specs.Past.{At}
 use Rattle.disk_model.proofs.Moments.{one_more, ended_by, begins, at_each, at_is, at_last, finished}
 use Rattle.engine_core.proofs.Events.{ready_safe, ready_moment, safe_alone, on_err_always}
 use Rattle.engine_core.proofs.TurnCounts.{turns_same, none_of}
-use Rattle.engine_core.specs.Layer.{IsCrashSafe, Ready, Moment}
+use Rattle.engine_core.specs.Layer.{IsCrashSafe, LogReady, Moment}
 use Rattle.engine_core.proofs.log.write_out.Goals as goal
 
 pub returns-then-log-len-clause-step : goal.returns-then-log-len-clause-step
@@ -14,7 +14,7 @@ returns-then-log-len-clause-step g c =
     let acked = c.args.log.now.acked in
     let all : settled ≡ length blocks = search rules in
     finished (begins (IsCrashSafe blocks) _ (at_each (ready_safe blocks settled settled acked) c.requires.ready))
-    (subst (λ n. At (Ready blocks n n acked) (g.D.Disk.past c.args.disk.now)) all c.requires.ready)
+    (subst (λ n. At (LogReady blocks n n acked) (g.D.Disk.past c.args.disk.now)) all c.requires.ready)
 
 pub returns-in_err-write_pending-clause-step : goal.returns-in_err-write_pending-clause-step
 returns-in_err-write_pending-clause-step g c =

@@ -4,7 +4,7 @@ use Rattle.disk_model.specs.Past.{At}
 use Rattle.engine_core.proofs.Events.{ready_moment}
 use Rattle.engine_core.specs.Turns.{turns_after}
 use Rattle.engine_core.proofs.TurnCounts.{turns_same, turns_more}
-use Rattle.engine_core.specs.Layer.{Moment, Ready}
+use Rattle.engine_core.specs.Layer.{Moment, LogReady}
 use Rattle.engine_core.proofs.log.write_pending.Goals as goal
 
 pub loop-i-init : goal.loop-i-init
@@ -40,4 +40,4 @@ returns-clause-step g c =
     let long : c.len-i-end.result ≡ length c.args.log.now.blocks.items = search rules in
     let order : c.args.log.now.settled ≤ c.len-i-end.result = omega (arith, long) in
     let all : c.loop-i.i ≡ length c.args.log.now.blocks.items = omega (arith, c.loop-i.auto.i-end order, long) in
-    finished c.loop-i.invariant.moments (subst (λ n. At (Ready c.args.log.now.blocks.items c.args.log.now.settled n c.args.log.now.acked) (g.D.Disk.past c.loop-i.disk)) all c.loop-i.invariant.ready)
+    finished c.loop-i.invariant.moments (subst (λ n. At (LogReady c.args.log.now.blocks.items c.args.log.now.settled n c.args.log.now.acked) (g.D.Disk.past c.loop-i.disk)) all c.loop-i.invariant.ready)

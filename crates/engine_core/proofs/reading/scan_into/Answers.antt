@@ -2,7 +2,7 @@ use Rattle.std.proofs.Common.{◌≡◌, ◌+◌, [], ◌∷◌, length, ap, sym
 use Rattle.disk_model.proofs.Moments.{at_is, at_both, at_each}
 use Rattle.disk_model.specs.Event.{reads}
 use Rattle.disk_model.specs.declared.names.FileName.TheVariants.{Log}
-use Rattle.engine_core.specs.Block.{IsBlock}
+use Rattle.engine_core.specs.Block.{IsLogBlock}
 use Rattle.engine_core.proofs.BlocksRead.{scan_ends, scan_more, has_full}
 use Rattle.engine_core.proofs.reading.scan_into.Goals as goal
 
@@ -16,7 +16,7 @@ returns-in_default-clause-run g c =
 
 pub loop-i-preserved : goal.loop-i-preserved
 loop-i-preserved g c =
-    let block : IsBlock (c.loop-i.i + 2) c.in_ok-piece.piece c.read_ring_block.new.buffer = rw c.in_ok-piece.ensures c.in-Some.ensures.found in
+    let block : IsLogBlock (c.loop-i.i + 2) c.in_ok-piece.piece c.read_ring_block.new.buffer = rw c.in_ok-piece.ensures c.in-Some.ensures.found in
     record {
       same = c.in_ok-read_ring_block.ensures.same ∙ c.loop-i.invariant.same;
       count = omega (arith, ap length c.in-Ok.ensures.items, length-append c.loop-i.texts.items (c.in_ok-piece.piece ∷ []), c.loop-i.invariant.count);

@@ -6,8 +6,8 @@ use Rattle.disk_model.specs.Image.{IsLucky}
 use Rattle.disk_model.specs.declared.calls.Choice.{Choice}
 use Rattle.disk_model.specs.declared.memory.MemDisk.{MemDisk}
 use Rattle.engine_core.specs.declared.journal.Entry.{Entry}
-use Rattle.engine_core.specs.declared.fault.State.TheVariants.{Starved}
-use Rattle.engine_core.specs.Stands.{AllRecover, AllRefusable, Keeps, passes}
+use Rattle.engine_core.specs.declared.fault.State.TheVariants.{OutOfMemory}
+use Rattle.engine_core.specs.Stands.{AllRecover, AllRefusable, LogKeeps, passes}
 use Rattle.engine_core.specs.Kept.{IsExact}
 use Rattle.keyd_cli.specs.Session.{HasRun, AreAckedWithin}
 use Rattle.keyd_cli.specs.Drill.{AreLost}
@@ -32,13 +32,13 @@ returns c =
     (subst (λ (journal : List Entry). HasRun c.args.statements.items c.in_ok-ran.ran.is_whole journal c.in_ok-ran.ran.replies.items) (sym j) ran.ran)
     (subst (λ (acked : ℕ). AreAckedWithin acked c.in_ok-ran.ran.replies.items) (sym a) ran.acked)
     c.stopped_at.ensures
-    (λ is. subst (λ (disk : MemDisk). (1 ≤ disk.contents.log.faults) × (e.state ≢ Starved)) (sym k) (ran.cause is))
+    (λ is. subst (λ (disk : MemDisk). (1 ≤ disk.contents.log.faults) × (e.state ≢ OutOfMemory)) (sym k) (ran.cause is))
     ran.whole
     (subst (λ (acked : ℕ). IsExact c.halt-halted.result.journal e.settled acked (events c.halt-halted.result.disk.contents)) (sym a) (moved (λ (journal : List Entry) (disk : MemDisk). IsExact journal e.settled e.acked (events disk.contents)) j k (halted.exact.here _ refl)))
     (subst (λ (journal : List Entry). e.settled ≤ length journal) (sym j) halted.order)
     (λ up. moved (λ (journal : List Entry) (disk : MemDisk). AllRecover journal e.settled (events disk.contents)) j k ((halted.settled up).here _ refl))
     (λ fed. a ∙ ⊎_elim (λ same. same) (λ fails. absurd fails.1) (halted.tells fed))
-    (subst (λ (choices : List Choice). Keeps c.halt-halted.result.journal (crash_image choices (events c.halt-halted.result.disk.contents)) c.in_ok-kept.kept) c.deref.ensures.value c.in_ok-kept.ensures.keeps)
+    (subst (λ (choices : List Choice). LogKeeps c.halt-halted.result.journal (crash_image choices (events c.halt-halted.result.disk.contents)) c.in_ok-kept.kept) c.deref.ensures.value c.in_ok-kept.ensures.keeps)
     (subst (λ (choices : List Choice). IsLucky passes (crash_image choices (events c.halt-halted.result.disk.contents))) c.deref.ensures.value c.in_ok-kept.ensures.lucky)
     c.in_ok-kept.ensures.settled
     (λ settled acked order lost exact. c.in_ok-kept.ensures.lost settled acked order (subst AreLost (sym c.deref.ensures.value) lost) exact)

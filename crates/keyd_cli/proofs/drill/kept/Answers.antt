@@ -4,7 +4,7 @@ use Rattle.disk_model.specs.Image.{InFile}
 use Rattle.disk_model.specs.Contents.{events}
 use Rattle.disk_model.specs.Crash.{crash_image}
 use Rattle.disk_model.specs.declared.names.FileName.TheVariants.{Log}
-use Rattle.engine_core.specs.Stands.{Keeps, passes}
+use Rattle.engine_core.specs.Stands.{LogKeeps, passes}
 use Rattle.engine_core.proofs.Crashes.{crash-keeps, crash-settled}
 use Rattle.disk_model.proofs.Lucky.{crash_is_lucky}
 use Rattle.keyd_cli.proofs.CrashOf.{crash-inside, crash-lost}
@@ -17,7 +17,7 @@ scan-requires c =
 
 pub returns-in-Ok-clause-keeps : goal.returns-in-Ok-clause-keeps
 returns-in-Ok-clause-keeps c =
-    subst (Keeps c.args.halted.now.journal (crash_image c.args.choices.now (events c.args.halted.now.disk.contents))) (sym (c.len.ensures ∙ c.in-Ok.texts.ok.0))
+    subst (LogKeeps c.args.halted.now.journal (crash_image c.args.choices.now (events c.args.halted.now.disk.contents))) (sym (c.len.ensures ∙ c.in-Ok.texts.ok.0))
     (crash-keeps c.args.halted.now.journal c.args.choices.now (events c.args.halted.now.disk.contents) (events c.in_ok-image.image.contents) c.requires.refusable c.in_ok-image.ensures.crash c.requires.stands c.in-Ok.texts.items (c.in-Ok.ensures.run.here _ refl))
 
 pub returns-in-Ok-clause-lucky : goal.returns-in-Ok-clause-lucky

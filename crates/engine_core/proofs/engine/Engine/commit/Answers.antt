@@ -1,6 +1,6 @@
 use Rattle.std.proofs.Common.{◌≡◌, ◌+◌, ◌<◌, length, subst, arith, rules}
-use Rattle.engine_core.specs.Text.{text_of}
-use Rattle.engine_core.specs.Block.{IsBlock}
+use Rattle.engine_core.specs.Text.{mtr_text}
+use Rattle.engine_core.specs.Block.{IsLogBlock}
 use Rattle.engine_core.proofs.Keeping.{sound_push}
 use Rattle.engine_core.proofs.engine.Engine.commit.Goals as goal
 
@@ -13,7 +13,7 @@ invariant_of-self-in-Ok-push g c =
     let long : c.len.result ≡ length journal = search rules in
     let room : length journal < 256 = search rules in
     let appended = c.in-Ok.ensures.ok in
-    let number : IsBlock (length journal + 2) (text_of c.args.mtr) appended.0 = subst (λ k. IsBlock (k + 2) (text_of c.args.mtr) appended.0) c.self.invariant.count appended.2 in
+    let number : IsLogBlock (length journal + 2) (mtr_text c.args.mtr) appended.0 = subst (λ k. IsLogBlock (k + 2) (mtr_text c.args.mtr) appended.0) c.self.invariant.count appended.2 in
     rw (c.in-Ok-push.ensures.items, appended.1, c.in-Ok.ensures.settled, c.in-Ok.ensures.acked)
     (sound_push g.D.Disk.past g.D.Disk.may_fail_to_tell _ _ _ appended.0 c.self.invariant number c.requires.small (omega (arith, long)) room)
 

@@ -16,7 +16,7 @@ pub invariant_of-self : goal.invariant_of-self
 invariant_of-self g c =
     let e = c.in-Err.ensures in
     sound_after g.D.Disk.past g.D.Disk.may_fail_to_tell _ c.self.inside.log.blocks.items c.write_out.new.disk c.self.inside.log.settled c.self.inside.log.acked c.write_out.new.turns c.after_fault-state.result.0
-    c.self.invariant e.step.moments c.self.invariant.order e.kept (λ up. absurd (c.after_fault-state.ensures.down up)) (λ up. absurd (c.after_fault-state.ensures.down up)) (λ fed. inl (c.self.invariant.even c.in_ok-check_up.ensures.up)) c.self.invariant.told
+    c.self.invariant e.step.moments c.self.invariant.order e.kept (λ up. absurd (c.after_fault-state.ensures.down up)) (λ up. absurd (c.after_fault-state.ensures.down up)) (λ fed. inl (c.self.invariant.all_acked c.in_ok-check_up.ensures.up)) c.self.invariant.told
 
 pub returns-in-Err-clause-stands : goal.returns-in-Err-clause-stands
 returns-in-Err-clause-stands g c = (invariant_of-self g c).since
@@ -70,14 +70,14 @@ returns-in-Err-tell_acked-clause-exact g c = (invariant_of-self-in-Err-tell_acke
 pub returns-clause-exact : goal.returns-clause-exact
 returns-clause-exact g c = (invariant_of-self-2 g c).exact
 
-pub returns-in-Err-clause-even : goal.returns-in-Err-clause-even
-returns-in-Err-clause-even g c = (invariant_of-self g c).tells
+pub returns-in-Err-clause-all_acked : goal.returns-in-Err-clause-all_acked
+returns-in-Err-clause-all_acked g c = (invariant_of-self g c).tells
 
-pub returns-in-Err-tell_acked-clause-even : goal.returns-in-Err-tell_acked-clause-even
-returns-in-Err-tell_acked-clause-even g c = (invariant_of-self-in-Err-tell_acked g c).tells
+pub returns-in-Err-tell_acked-clause-all_acked : goal.returns-in-Err-tell_acked-clause-all_acked
+returns-in-Err-tell_acked-clause-all_acked g c = (invariant_of-self-in-Err-tell_acked g c).tells
 
-pub returns-clause-even : goal.returns-clause-even
-returns-clause-even g c = (invariant_of-self-2 g c).tells
+pub returns-clause-all_acked : goal.returns-clause-all_acked
+returns-clause-all_acked g c = (invariant_of-self-2 g c).tells
 
 pub returns-in-Err-tell_acked-clause-tells : goal.returns-in-Err-tell_acked-clause-tells
 returns-in-Err-tell_acked-clause-tells g c = λ turn is.
