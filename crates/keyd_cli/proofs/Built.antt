@@ -5,8 +5,8 @@ use Rattle.std.proofs.lemmas.Bool.{cases_lt}
 use Rattle.std.proofs.lemmas.List.{same_from_push, length-append, take-append-le, take_at, get_or_at, get_or_append_left}
 use Rattle.keyd_cli.specs.declared.act.Act.{Act}
 use Rattle.keyd_cli.specs.declared.act.Statement.{Statement}
-use Rattle.keyd_cli.specs.Schedule.{words_of, IsSkipped, IsAct, IsSync, IsMtr}
-use Rattle.keyd_cli.specs.Reads.{Reads, ReadNone, ReadSkipped, ReadAct, is_mtr, mtr_count, HasRoom, IsSchedule, IsNotBuilt}
+use Rattle.keyd_cli.specs.Schedule.{words_of, IsNoStatement, IsAct, IsSync, IsMtr}
+use Rattle.keyd_cli.specs.Reads.{ReadsLines, ReadNone, ReadSkipped, ReadAct, is_mtr, mtr_count, HasRoom, IsSchedule, IsNotBuilt}
 use Rattle.keyd_cli.proofs.ReadsLemmas.{count_more, one_act}
 
 -- the first word of a text that begins with `#`
@@ -21,7 +21,7 @@ no_words : {words : List (List ℕ)} → words_of [] ≡ codes "mtr" ∷ words �
 no_words {words} is = let n : 0 ≡ 3 = ap (λ ws. length (get_or ws 0 [])) is in omega (arith, n)
 
 -- a line that is skipped is no act
-skipped_or_act : (space pages : ℕ) (line : List ℕ) (act : Act) → IsSkipped line → IsAct space pages line act → ⊥
+skipped_or_act : (space pages : ℕ) (line : List ℕ) (act : Act) → IsNoStatement line → IsAct space pages line act → ⊥
 skipped_or_act space pages line act (inl empty) (IsSync is) = let n : 0 ≡ 4 = ap length (sym empty ∙ is) in omega (arith, n)
 skipped_or_act space pages line act (inl empty) (IsMtr k p at bytes is) = no_words (sym (ap words_of empty) ∙ is.numbers.words)
 skipped_or_act space pages line act (inr comment) (IsSync is) = let byte : 35 ≡ 115 = ap (λ t. get_or t 0 0) (sym comment.1 ∙ is) in omega (arith, byte)
@@ -40,7 +40,7 @@ act_counts space pages line other n k ss ts a b x y same count =
     ∙ sym (count_more ts (ts ++ (record { line = k; act = b } ∷ [])) k b refl)
 
 -- lines are read with one count of mini-transactions
-same_counts : (space pages : ℕ) (lines others : List (List ℕ)) (ss ts : List Statement) → Reads space pages lines ss → Reads space pages others ts → lines ≡ others → mtr_count ss ≡ mtr_count ts
+same_counts : (space pages : ℕ) (lines others : List (List ℕ)) (ss ts : List Statement) → ReadsLines space pages lines ss → ReadsLines space pages others ts → lines ≡ others → mtr_count ss ≡ mtr_count ts
 same_counts space pages lines others ss ts ReadNone ReadNone is = refl
 same_counts space pages lines others ss ts ReadNone (ReadSkipped more us line r skipped) is = absurd (none_is_more more line is)
 same_counts space pages lines others ss ts ReadNone (ReadAct more us line act r x room) is = absurd (none_is_more more line is)
@@ -49,7 +49,7 @@ same_counts space pages lines others ss ts (ReadAct more us line act r x room) R
 same_counts space pages lines others ss ts (ReadSkipped more us line r skipped) (ReadSkipped less vs last q passed) is =
     same_counts space pages more less us vs r q (same_from_push more less line last is).0
 same_counts space pages lines others ss ts (ReadSkipped more us line r skipped) (ReadAct less vs last act q x room) is =
-    absurd (skipped_or_act space pages last act (subst IsSkipped (same_from_push more less line last is).1 skipped) x)
+    absurd (skipped_or_act space pages last act (subst IsNoStatement (same_from_push more less line last is).1 skipped) x)
 same_counts space pages lines others ss ts (ReadAct more us line act r x room) (ReadSkipped less vs last q passed) is =
     absurd (skipped_or_act space pages last act passed (subst (λ l. IsAct space pages l act) (same_from_push more less line last is).1 x))
 same_counts space pages lines others ss ts (ReadAct more us line act r x room) (ReadAct less vs last other q y free) is =
@@ -58,8 +58,8 @@ same_counts space pages lines others ss ts (ReadAct more us line act r x room) (
 
 -- these statements stand before the n-th line, which is refused
 record IsRefused (space pages : ℕ) (lines : List (List ℕ)) (n : ℕ) (statements : List Statement) : Type 0 where
-  pub reads : Reads space pages (take n lines) statements
-  pub kept : IsSkipped (get_or lines n []) → ⊥
+  pub reads : ReadsLines space pages (take n lines) statements
+  pub kept : IsNoStatement (get_or lines n []) → ⊥
   pub refused : (act : Act) → IsAct space pages (get_or lines n []) act → HasRoom (mtr_count statements) act → ⊥
 
 -- a refused line that isn't the last one is refused without the last one too
@@ -67,15 +67,15 @@ earlier : (space pages : ℕ) (lines : List (List ℕ)) (line : List ℕ) (n : �
 earlier space pages lines line n ss low at =
     let same : get_or (lines ++ (line ∷ [])) n [] ≡ get_or lines n [] = get_or_append_left lines (line ∷ []) [] n low in
     record {
-      reads = subst (λ ls. Reads space pages ls ss) (take-append-le n lines (line ∷ []) (omega (arith, low))) at.reads;
-      kept = subst (λ l. IsSkipped l → ⊥) same at.kept;
+      reads = subst (λ ls. ReadsLines space pages ls ss) (take-append-le n lines (line ∷ []) (omega (arith, low))) at.reads;
+      kept = subst (λ l. IsNoStatement l → ⊥) same at.kept;
       refused = subst (λ l. (act : Act) → IsAct space pages l act → HasRoom (mtr_count ss) act → ⊥) same at.refused;
     }
 
 -- the refused line is the last one
 record IsLast (space pages : ℕ) (lines : List (List ℕ)) (line : List ℕ) (ss : List Statement) : Type 0 where
-  pub reads : Reads space pages lines ss
-  pub kept : IsSkipped line → ⊥
+  pub reads : ReadsLines space pages lines ss
+  pub kept : IsNoStatement line → ⊥
   pub refused : (act : Act) → IsAct space pages line act → HasRoom (mtr_count ss) act → ⊥
 
 last_one : (space pages : ℕ) (lines : List (List ℕ)) (line : List ℕ) (n : ℕ) (ss : List Statement) → n < length (lines ++ (line ∷ [])) → length lines ≤ n → IsRefused space pages (lines ++ (line ∷ [])) n ss
@@ -84,18 +84,18 @@ last_one space pages lines line n ss low high at =
     let size : length lines ≡ n = omega (arith, low, high, length-append lines (line ∷ [])) in
     let same : get_or (lines ++ (line ∷ [])) n [] ≡ line = get_or_at lines line [] [] n size in
     record {
-      reads = subst (λ ls. Reads space pages ls ss) (take_at lines (line ∷ []) n size) at.reads;
-      kept = subst (λ l. IsSkipped l → ⊥) same at.kept;
+      reads = subst (λ ls. ReadsLines space pages ls ss) (take_at lines (line ∷ []) n size) at.reads;
+      kept = subst (λ l. IsNoStatement l → ⊥) same at.kept;
       refused = subst (λ l. (act : Act) → IsAct space pages l act → HasRoom (mtr_count ss) act → ⊥) same at.refused;
     }
 
-last_not_act : (space pages : ℕ) (lines : List (List ℕ)) (line : List ℕ) (ss us : List Statement) (act : Act) → Reads space pages lines us → IsAct space pages line act → HasRoom (mtr_count us) act
+last_not_act : (space pages : ℕ) (lines : List (List ℕ)) (line : List ℕ) (ss us : List Statement) (act : Act) → ReadsLines space pages lines us → IsAct space pages line act → HasRoom (mtr_count us) act
     → IsLast space pages lines line ss → ⊥
 last_not_act space pages lines line ss us act r x room at =
     at.refused act x (subst (λ c. HasRoom c act) (same_counts space pages lines lines us ss r at.reads refl) room)
 
 -- no line of lines that are read is refused
-none_refused : (space pages : ℕ) (lines : List (List ℕ)) (us : List Statement) → Reads space pages lines us → (n : ℕ) (ss : List Statement) → n < length lines → IsRefused space pages lines n ss → ⊥
+none_refused : (space pages : ℕ) (lines : List (List ℕ)) (us : List Statement) → ReadsLines space pages lines us → (n : ℕ) (ss : List Statement) → n < length lines → IsRefused space pages lines n ss → ⊥
 none_refused space pages lines us ReadNone n ss low at = omega (arith, low)
 none_refused space pages lines us (ReadSkipped more vs line r skipped) n ss low at = elim (cases_lt n (length more)) [
   | inl before ↦ none_refused space pages more vs r n ss before (earlier space pages more line n ss before at)
@@ -113,9 +113,9 @@ built-not_refused space pages text statements line is not =
     let whole = not.before ++ (not.line ∷ not.behind) in
     let low : n < length whole = omega (arith, length-append not.before (not.line ∷ not.behind)) in
     let same : not.line ≡ get_or whole n [] = sym (get_or_at not.before not.line not.behind [] n refl) in
-    none_refused space pages whole statements (subst (λ ls. Reads space pages ls statements) not.lines is) n not.statements low
+    none_refused space pages whole statements (subst (λ ls. ReadsLines space pages ls statements) not.lines is) n not.statements low
     (record {
-      reads = subst (λ ls. Reads space pages ls not.statements) (sym (take_at not.before (not.line ∷ not.behind) n refl)) not.reads;
-      kept = subst (λ l. IsSkipped l → ⊥) same not.kept;
+      reads = subst (λ ls. ReadsLines space pages ls not.statements) (sym (take_at not.before (not.line ∷ not.behind) n refl)) not.reads;
+      kept = subst (λ l. IsNoStatement l → ⊥) same not.kept;
       refused = subst (λ l. (act : Act) → IsAct space pages l act → HasRoom (mtr_count not.statements) act → ⊥) same not.refused;
     })

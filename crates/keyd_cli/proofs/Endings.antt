@@ -10,19 +10,19 @@ use Rattle.keyd_cli.specs.declared.plan.DrillPlan.{DrillPlan}
 use Rattle.keyd_cli.specs.declared.drill.Drilled.{Drilled}
 use Rattle.keyd_cli.specs.declared.status.Status.{Status}
 use Rattle.keyd_cli.specs.declared.status.Status.TheVariants as status
-use Rattle.keyd_cli.specs.Words.{Word, name_of, ArePairs, option_words, times, IsDrill}
+use Rattle.keyd_cli.specs.Words.{Word, flag_word, ArePairs, option_words, occurrences, IsDrill}
 use Rattle.keyd_cli.specs.PlanOf.{IsPlan}
 use Rattle.keyd_cli.specs.Keys.{values_of}
-use Rattle.keyd_cli.specs.Ends.{IsKeyed, IsKeyEnd, IsInputEnd, IsReady, IsCutShort, IsEnd, Counts, drill_text}
+use Rattle.keyd_cli.specs.Ends.{IsKeyed, IsKeyEnd, IsInputEnd, IsCommandDrilled, IsCutShort, IsEnd, OutsideCounts, drill_text}
 
--- an option has as many values as it stands times
-pub values-count : (f : Flag) (ws : List Word) → ArePairs ws → length (values_of f ws) ≡ times f ws
+-- an option has as many values as it stands occurrences
+pub values-count : (f : Flag) (ws : List Word) → ArePairs ws → length (values_of f ws) ≡ occurrences f ws
 unfolding ArePairs option_words values_of
 values-count f [] pairs = refl
 values-count f (w ∷ []) pairs = absurd pairs
-values-count f (w ∷ v ∷ ws) pairs = by (values-count f ws pairs.1) (bytes_eq w (name_of f)) (sum_by-cons (λ word. cond (bytes_eq word (name_of f)) 1 0) w (option_words ws))
+values-count f (w ∷ v ∷ ws) pairs = by (values-count f ws pairs.1) (bytes_eq w (flag_word f)) (sum_by-cons (λ word. cond (bytes_eq word (flag_word f)) 1 0) w (option_words ws))
   where
-    by : length (values_of f ws) ≡ times f ws → (b : Bool) → times f (w ∷ v ∷ ws) ≡ cond b 1 0 + times f ws → length (if b then v ∷ values_of f ws else values_of f ws) ≡ times f (w ∷ v ∷ ws)
+    by : length (values_of f ws) ≡ occurrences f ws → (b : Bool) → occurrences f (w ∷ v ∷ ws) ≡ cond b 1 0 + occurrences f ws → length (if b then v ∷ values_of f ws else values_of f ws) ≡ occurrences f (w ∷ v ∷ ws)
     by earlier true split = omega (arith, earlier, split)
     by earlier false split = omega (arith, earlier, split)
 
@@ -31,7 +31,7 @@ pub handed : {T E : Type 0} (P : E → Type 0) (r : Result T E) (x : E) → IsEr
 handed P (Ok v) x is p = absurd is
 handed P (Err e) x is p = subst P (sym is) p
 
-module _ (words : List Word) (files : Option Files) (left given : Option (List ℕ)) (before now : Counts) where
+module _ (words : List Word) (files : Option Files) (left given : Option (List ℕ)) (before now : OutsideCounts) where
   pub memory-end : IsEnd words files left given given before now status.OutOfMemory
   memory-end = inl refl
 
@@ -59,7 +59,7 @@ module _ (words : List Word) (files : Option Files) (left given : Option (List �
   input-end plan status.FileFault is keyed asked end = absurd end
   input-end plan status.OutFault is keyed asked end = absurd end
 
-  pub print-end : (plan : DrillPlan) (d : Drilled) (text : List ℕ) (given' : Option (List ℕ)) (s : Status) → IsReady words files left plan d → text ≡ drill_text plan d
+  pub print-end : (plan : DrillPlan) (d : Drilled) (text : List ℕ) (given' : Option (List ℕ)) (s : Status) → IsCommandDrilled words files left plan d → text ≡ drill_text plan d
       → IsPartlyGiven text given given' × ((s ≡ status.OutOfMemory) ⊎ ((s ≡ status.OutFault) × Rose before.output now.output)) → IsEnd words files left given given' before now s
   print-end plan d text given' s ready is (partly, why) = by (record { plan = plan; drilled = d; ready = ready; partly = subst (λ t. IsPartlyGiven t given given') is partly }) why
     where

@@ -5,8 +5,8 @@ use Rattle.std.proofs.lemmas.List.Sums.{sum_by_push, count_by-le-length}
 use Rattle.std.proofs.lemmas.List.Splits.{length-slice_split}
 use Rattle.keyd_cli.specs.declared.act.Act.{Act}
 use Rattle.keyd_cli.specs.declared.act.Statement.{Statement}
-use Rattle.keyd_cli.specs.Schedule.{lines_of, words_of, IsSkipped, IsAct, IsSync, IsMtr}
-use Rattle.keyd_cli.specs.Reads.{Reads, ReadSkipped, ReadAct, is_mtr, mtr_count, HasRoom, IsNotBuilt}
+use Rattle.keyd_cli.specs.Schedule.{schedule_lines, words_of, IsNoStatement, IsAct, IsSync, IsMtr}
+use Rattle.keyd_cli.specs.Reads.{ReadsLines, ReadSkipped, ReadAct, is_mtr, mtr_count, HasRoom, IsNotBuilt}
 
 -- the n-th line, where so many are read
 pub record AtLine (all : List (List ℕ)) (n : ℕ) (line : List ℕ) (rest : List (List ℕ)) : Type 0 where
@@ -37,32 +37,32 @@ all_read all n left is none most =
     take_all n all (omega (arith, size))
 
 -- a text of so many bytes has at most one line more
-pub few_lines : (text : List ℕ) → length (lines_of text) ≤ length text + 1
+pub few_lines : (text : List ℕ) → length (schedule_lines text) ≤ length text + 1
 few_lines text = omega (arith, length-slice_split (λ b. b == 10) text, count_by-le-length (λ b. b == 10) text)
 
 pub skipped_more : (space pages : ℕ) (all : List (List ℕ)) (n : ℕ) (line : List ℕ) (rest : List (List ℕ)) (statements : List Statement) → AtLine all n line rest
-    → Reads space pages (take n all) statements → IsSkipped line → Reads space pages (take (n + 1) all) statements
+    → ReadsLines space pages (take n all) statements → IsNoStatement line → ReadsLines space pages (take (n + 1) all) statements
 skipped_more space pages all n line rest statements at reads skipped =
-    subst (λ ls. Reads space pages ls statements) (sym at.more) (ReadSkipped (take n all) statements line reads skipped)
+    subst (λ ls. ReadsLines space pages ls statements) (sym at.more) (ReadSkipped (take n all) statements line reads skipped)
 
 pub act_more : (space pages : ℕ) (all : List (List ℕ)) (n : ℕ) (line : List ℕ) (rest : List (List ℕ)) (statements more : List Statement) (act : Act) → AtLine all n line rest
-    → Reads space pages (take n all) statements → IsAct space pages line act → HasRoom (mtr_count statements) act
-    → more ≡ statements ++ (record { line = n + 1; act = act } ∷ []) → Reads space pages (take (n + 1) all) more
+    → ReadsLines space pages (take n all) statements → IsAct space pages line act → HasRoom (mtr_count statements) act
+    → more ≡ statements ++ (record { line = n + 1; act = act } ∷ []) → ReadsLines space pages (take (n + 1) all) more
 act_more space pages all n line rest statements more act at reads is room grown =
     let read = ReadAct (take n all) statements line act reads is room in
     let number : length (take n all) + 1 ≡ n + 1 = ap (λ k. k + 1) at.size in
     let same : statements ++ (record { line = length (take n all) + 1; act = act } ∷ []) ≡ more =
     ap (λ k. statements ++ (record { line = k; act = act } ∷ [])) number ∙ sym grown in
-    subst (λ ss. Reads space pages (take (n + 1) all) ss) same (subst (λ ls. Reads space pages ls (statements ++ (record { line = length (take n all) + 1; act = act } ∷ []))) (sym at.more) read)
+    subst (λ ss. ReadsLines space pages (take (n + 1) all) ss) same (subst (λ ls. ReadsLines space pages ls (statements ++ (record { line = length (take n all) + 1; act = act } ∷ []))) (sym at.more) read)
 
 pub count_more : (statements more : List Statement) (n : ℕ) (act : Act) → more ≡ statements ++ (record { line = n; act = act } ∷ []) → mtr_count more ≡ mtr_count statements + (if is_mtr act then 1 else 0)
 count_more statements more n act grown = ap mtr_count grown ∙ sum_by_push (λ s. cond (is_mtr s.act) 1 0) statements (record { line = n; act = act })
 
-pub refused_at : (space pages : ℕ) (text : List ℕ) (n : ℕ) (line : List ℕ) (rest : List (List ℕ)) (statements : List Statement) → AtLine (lines_of text) n line rest
-    → Reads space pages (take n (lines_of text)) statements → (IsSkipped line → ⊥) → ((act : Act) → IsAct space pages line act → HasRoom (mtr_count statements) act → ⊥)
+pub refused_at : (space pages : ℕ) (text : List ℕ) (n : ℕ) (line : List ℕ) (rest : List (List ℕ)) (statements : List Statement) → AtLine (schedule_lines text) n line rest
+    → ReadsLines space pages (take n (schedule_lines text)) statements → (IsNoStatement line → ⊥) → ((act : Act) → IsAct space pages line act → HasRoom (mtr_count statements) act → ⊥)
     → IsNotBuilt space pages text (n + 1)
 refused_at space pages text n line rest statements at reads kept refused = record {
-  before = take n (lines_of text);
+  before = take n (schedule_lines text);
   line = line;
   behind = rest;
   statements = statements;

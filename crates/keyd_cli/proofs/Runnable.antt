@@ -7,7 +7,7 @@ use Rattle.keyd_cli.specs.declared.act.Act.{Act}
 use Rattle.keyd_cli.specs.declared.act.Act.TheVariants.{Mtr, Sync}
 use Rattle.keyd_cli.specs.declared.act.Statement.{Statement}
 use Rattle.keyd_cli.specs.Schedule.{IsAct, IsSync, IsMtr}
-use Rattle.keyd_cli.specs.Reads.{Reads, ReadNone, ReadSkipped, ReadAct, is_mtr, mtr_count, HasRoom, IsSchedule}
+use Rattle.keyd_cli.specs.Reads.{ReadsLines, ReadNone, ReadSkipped, ReadAct, is_mtr, mtr_count, HasRoom, IsSchedule}
 use Rattle.keyd_cli.specs.Session.{IsSmallAct, AreRunnable}
 use Rattle.keyd_cli.proofs.ReadsLemmas.{count_more}
 
@@ -32,7 +32,7 @@ one_more : (mtrs : ℕ) (act : Act) → mtrs ≤ 256 → HasRoom mtrs act → mt
 one_more mtrs (Mtr session mtr) few room = let low : mtrs ≤ 255 = room refl in omega (arith, low)
 one_more mtrs Sync few room = omega (arith, few)
 
-reads-runnable : (space pages : ℕ) (lines : List (List ℕ)) (statements : List Statement) → space < 2 ^ 32 → pages < 2 ^ 32 → Reads space pages lines statements → AreRunnable statements × (mtr_count statements ≤ 256)
+reads-runnable : (space pages : ℕ) (lines : List (List ℕ)) (statements : List Statement) → space < 2 ^ 32 → pages < 2 ^ 32 → ReadsLines space pages lines statements → AreRunnable statements × (mtr_count statements ≤ 256)
 reads-runnable space pages lines statements space_to pages_to ReadNone = (tt, omega arith)
 reads-runnable space pages lines statements space_to pages_to (ReadSkipped before done line reads is) = reads-runnable space pages before done space_to pages_to reads
 reads-runnable space pages lines statements space_to pages_to (ReadAct before done line act reads is room) =

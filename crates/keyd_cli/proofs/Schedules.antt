@@ -4,7 +4,7 @@ use Rattle.std.proofs.lemmas.Fmt.{decimal_injective}
 use Rattle.hex.specs.Hex.{decode_of}
 use Rattle.redo_text.specs.declared.change.Change.{Change}
 use Rattle.redo_text.specs.declared.change.Change.TheVariants.{Put}
-use Rattle.keyd_cli.specs.Schedule.{AreNumbers, IsPutLine, IsAct, IsSync, IsMtr, IsSkipped}
+use Rattle.keyd_cli.specs.Schedule.{AreNumbers, IsPutLine, IsAct, IsSync, IsMtr, IsNoStatement}
 use Rattle.keyd_cli.specs.declared.act.Act.{Act}
 use Rattle.keyd_cli.specs.declared.act.Act.TheVariants.{Mtr}
 
@@ -39,7 +39,7 @@ put_is space pages line k p at hex bytes mtr a decoded fits is =
     subst (λ m. IsAct space pages line (Mtr k m)) (sym is)
     (IsMtr k p at bytes (record { hex = hex; numbers = a; digits = decoded; some = fits.0; within = fits.1; short = fits.2 }))
 
-pub not_skipped : (line : List ℕ) → 0 < length line → (get_or line 0 0 ≡ 35 → ⊥) → IsSkipped line → ⊥
+pub not_skipped : (line : List ℕ) → 0 < length line → (get_or line 0 0 ≡ 35 → ⊥) → IsNoStatement line → ⊥
 not_skipped line some other (inl empty) = let n : length line ≡ 0 = ap length empty in omega (arith, some, n)
 not_skipped line some other (inr comment) = other (ap (λ t. get_or t 0 0) comment.1)
 

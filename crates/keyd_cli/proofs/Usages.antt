@@ -4,7 +4,7 @@ use Rattle.std.proofs.lemmas.List.{take_more, take_all}
 use mathlib.Core.List.{append_assoc}
 use Rattle.keyd_cli.specs.declared.words.Flag.{Flag}
 use Rattle.keyd_cli.specs.declared.words.Flag.TheVariants.{KeyFile, Space}
-use Rattle.keyd_cli.specs.Words.{Word, name_of, most_of, IsValue, times, ArePairs, AreOptions, IsDrill, CanBegin, IsUsage}
+use Rattle.keyd_cli.specs.Words.{Word, flag_word, most_of, IsValue, occurrences, ArePairs, AreOptions, IsDrill, CanBegin, IsUsage}
 use Rattle.keyd_cli.proofs.Options.{options_begin, option_begins, begun_shorter, options_more, unknown_option, option_too_often, unfit_value, unknown_command, usage_at, usage_end, no_options, pairs_rest}
 
 no_words : IsDrill [] → ⊥
@@ -32,13 +32,13 @@ begun_at n opts are = subst CanBegin (sym (front_of n opts)) (options_begin (tak
 within_words : (n : ℕ) (opts : List Word) → n < length opts → n + 1 < length (codes "drill" ∷ opts)
 within_words n opts low = omega (arith, low)
 
-pub usage_unknown : (n : ℕ) (opts : List Word) → n < length opts → AreOptions (take n opts) → ((f : Flag) → get_or opts n [] ≢ name_of f)
+pub usage_unknown : (n : ℕ) (opts : List Word) → n < length opts → AreOptions (take n opts) → ((f : Flag) → get_or opts n [] ≢ flag_word f)
     → IsUsage (codes "drill" ∷ opts) (n + 1)
 usage_unknown n opts low are unnamed =
     usage_at (codes "drill" ∷ opts) (n + 1) (within_words n opts low) (begun_at n opts are)
     (λ begun. unknown_option (take n opts) (get_or opts n []) [] are unnamed (subst CanBegin (more_of n opts low) begun))
 
-pub usage_often : (n : ℕ) (opts : List Word) (f : Flag) → n < length opts → AreOptions (take n opts) → get_or opts n [] ≡ name_of f → most_of f ≤ times f (take n opts)
+pub usage_often : (n : ℕ) (opts : List Word) (f : Flag) → n < length opts → AreOptions (take n opts) → get_or opts n [] ≡ flag_word f → most_of f ≤ occurrences f (take n opts)
     → IsUsage (codes "drill" ∷ opts) (n + 1)
 usage_often n opts f low are named full =
     usage_at (codes "drill" ∷ opts) (n + 1) (within_words n opts low) (begun_at n opts are)
@@ -51,12 +51,12 @@ two_more n opts low =
     ∙ append_assoc (take n opts) (get_or opts n [] ∷ []) (get_or opts (n + 1) [] ∷ [])
 
 -- the form is kept over one option more
-pub kept_more : (n : ℕ) (opts : List Word) (f : Flag) → n + 1 < length opts → AreOptions (take n opts) → get_or opts n [] ≡ name_of f → times f (take n opts) < most_of f
+pub kept_more : (n : ℕ) (opts : List Word) (f : Flag) → n + 1 < length opts → AreOptions (take n opts) → get_or opts n [] ≡ flag_word f → occurrences f (take n opts) < most_of f
     → IsValue f (get_or opts (n + 1) []) → AreOptions (take (n + 2) opts)
 kept_more n opts f low are named room is =
     subst AreOptions (sym (two_more n opts low)) (options_more (take n opts) f (get_or opts n []) (get_or opts (n + 1) []) are named is room)
 
-pub usage_value : (n : ℕ) (opts : List Word) (f : Flag) → n + 1 < length opts → AreOptions (take n opts) → get_or opts n [] ≡ name_of f → times f (take n opts) < most_of f
+pub usage_value : (n : ℕ) (opts : List Word) (f : Flag) → n + 1 < length opts → AreOptions (take n opts) → get_or opts n [] ≡ flag_word f → occurrences f (take n opts) < most_of f
     → (IsValue f (get_or opts (n + 1) []) → ⊥) → IsUsage (codes "drill" ∷ opts) (n + 2)
 usage_value n opts f low are named room unfit =
     let words = codes "drill" ∷ opts in
@@ -78,7 +78,7 @@ lone_word opts n word are whole drill =
     pairs_rest (take n opts) (word ∷ []) are.pairs (subst ArePairs whole pairs)
 
 -- an option's word ends the list
-pub usage_missing : (n : ℕ) (opts : List Word) (f : Flag) → n + 1 ≡ length opts → AreOptions (take n opts) → get_or opts n [] ≡ name_of f → times f (take n opts) < most_of f
+pub usage_missing : (n : ℕ) (opts : List Word) (f : Flag) → n + 1 ≡ length opts → AreOptions (take n opts) → get_or opts n [] ≡ flag_word f → occurrences f (take n opts) < most_of f
     → IsUsage (codes "drill" ∷ opts) (length (codes "drill" ∷ opts))
 usage_missing n opts f end are named room =
     let whole : opts ≡ take n opts ++ (get_or opts n [] ∷ []) = sym (take_all (n + 1) opts (omega (arith, end))) ∙ take_more opts n [] (omega (arith, end)) in
@@ -87,11 +87,11 @@ usage_missing n opts f end are named room =
     usage_end (codes "drill" ∷ opts) begun (λ drill. lone_word opts n (get_or opts n []) are whole drill)
 
 -- an option that has to stand doesn't
-pub usage_needed : (opts : List Word) (f : Flag) → AreOptions opts → times f opts ≡ 0 → (IsDrill (codes "drill" ∷ opts) → 1 ≤ times f opts) → IsUsage (codes "drill" ∷ opts) (length (codes "drill" ∷ opts))
+pub usage_needed : (opts : List Word) (f : Flag) → AreOptions opts → occurrences f opts ≡ 0 → (IsDrill (codes "drill" ∷ opts) → 1 ≤ occurrences f opts) → IsUsage (codes "drill" ∷ opts) (length (codes "drill" ∷ opts))
 usage_needed opts f are none needed = usage_end (codes "drill" ∷ opts) (options_begin opts are) (λ drill. omega (arith, none, needed drill))
 
-pub needs_key_file : (opts : List Word) → IsDrill (codes "drill" ∷ opts) → 1 ≤ times KeyFile opts
-needs_key_file opts drill = subst (λ ws. 1 ≤ times KeyFile ws) (same_options opts drill) drill.has_key_file
+pub needs_key_file : (opts : List Word) → IsDrill (codes "drill" ∷ opts) → 1 ≤ occurrences KeyFile opts
+needs_key_file opts drill = subst (λ ws. 1 ≤ occurrences KeyFile ws) (same_options opts drill) drill.has_key_file
 
-pub needs_space : (opts : List Word) → IsDrill (codes "drill" ∷ opts) → 1 ≤ times Space opts
-needs_space opts drill = subst (λ ws. 1 ≤ times Space ws) (same_options opts drill) drill.has_space
+pub needs_space : (opts : List Word) → IsDrill (codes "drill" ∷ opts) → 1 ≤ occurrences Space opts
+needs_space opts drill = subst (λ ws. 1 ≤ occurrences Space ws) (same_options opts drill) drill.has_space

@@ -80,7 +80,7 @@ drill_text plan d =
 -- ---- the command
 
 -- The words are a list of `drill`, its key files load, its schedule was drilled.
-pub record IsReady (words : List Word) (files : Option Files) (left : Option (List ℕ)) (plan : DrillPlan) (d : Drilled) : Type 0 where
+pub record IsCommandDrilled (words : List Word) (files : Option Files) (left : Option (List ℕ)) (plan : DrillPlan) (d : Drilled) : Type 0 where
   pub words_are : IsDrill words
   pub asked : IsPlan (drop 1 words) plan
   pub keyed : IsKeyed (drop 1 words) files
@@ -90,7 +90,7 @@ pub record IsReady (words : List Word) (files : Option Files) (left : Option (Li
 pub record IsDone (words : List Word) (files : Option Files) (left given given' : Option (List ℕ)) (journal : List Entry) (replies : List Reply) (drill : List DrillEnd) : Type 0 where
   pub plan : DrillPlan
   pub drilled : Drilled
-  pub ready : IsReady words files left plan drilled
+  pub ready : IsCommandDrilled words files left plan drilled
   pub printed : given' ≡ extended (drill_text plan drilled) given
   pub journal_is : journal ≡ drilled.journal
   pub replies_are : replies ≡ drilled.replies.items
@@ -100,11 +100,11 @@ pub record IsDone (words : List Word) (files : Option Files) (left given given' 
 pub record IsCutShort (words : List Word) (files : Option Files) (left given given' : Option (List ℕ)) : Type 0 where
   pub plan : DrillPlan
   pub drilled : Drilled
-  pub ready : IsReady words files left plan drilled
+  pub ready : IsCommandDrilled words files left plan drilled
   pub partly : IsPartlyGiven (drill_text plan drilled) given given'
 
 -- The counts of faults of the library, the input and the output, and the library's count of absences.
-pub record Counts : Type 0 where
+pub record OutsideCounts : Type 0 where
   pub library : ℕ
   pub absences : ℕ
   pub input : ℕ
@@ -115,7 +115,7 @@ abbrev pub IsPastKeys : List Word → Option Files → (DrillPlan → Type 0) �
 IsPastKeys words files P = IsDrill words × IsKeyed (drop 1 words) files × ((plan : DrillPlan) × IsPlan (drop 1 words) plan × P plan)
 
 -- Why the command isn't done. But for a fault of the output, or where it was refused memory, the output was given nothing.
-abbrev pub IsEnd : List Word → Option Files → Option (List ℕ) → Option (List ℕ) → Option (List ℕ) → Counts → Counts → Status → Type 0
+abbrev pub IsEnd : List Word → Option Files → Option (List ℕ) → Option (List ℕ) → Option (List ℕ) → OutsideCounts → OutsideCounts → Status → Type 0
 IsEnd words files left given given' before now (status.Usage i) = IsUsage words i × (given' ≡ given)
 IsEnd words files left given given' before now (status.KeyFile index fault) = IsDrill words × IsKeyEnd (drop 1 words) files before.library now.library before.absences now.absences (status.KeyFile index fault) × (given' ≡ given)
 IsEnd words files left given given' before now (status.Missing name) = IsDrill words × IsKeyEnd (drop 1 words) files before.library now.library before.absences now.absences (status.Missing name) × (given' ≡ given)
@@ -130,7 +130,7 @@ IsEnd words files left given given' before now status.Done = ⊥
 -- ---- what is enough to be done
 
 -- no count rose from the one to the other
-pub record NoneRose (before now : Counts) : Type 0 where
+pub record NoneRose (before now : OutsideCounts) : Type 0 where
   pub library : Rose before.library now.library → ⊥
   pub absences : Rose before.absences now.absences → ⊥
   pub input : Rose before.input now.input → ⊥

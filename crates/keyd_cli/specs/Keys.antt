@@ -9,14 +9,14 @@ use Rattle.key_ring.specs.Ring.{RingEntry}
 use Rattle.key_file.specs.Loaded.{LoadsFrom}
 use Rattle.keyd_cli.specs.declared.words.Flag.{Flag}
 use Rattle.keyd_cli.specs.declared.words.Flag.TheVariants as flag
-use Rattle.keyd_cli.specs.Words.{Word, name_of}
+use Rattle.keyd_cli.specs.Words.{Word, flag_word}
 use Rattle.keyd_cli.specs.Plan.{value_in}
 
 -- the values of an option, in the order in which they stand
 unfoldable pub values_of : Flag → List Word → List Word
 values_of f [] = []
 values_of f (word ∷ []) = []
-values_of f (word ∷ value ∷ words) = if bytes_eq word (name_of f) then value ∷ values_of f words else values_of f words
+values_of f (word ∷ value ∷ words) = if bytes_eq word (flag_word f) then value ∷ values_of f words else values_of f words
 
 -- the digest of a value, by default SHA-1
 abbrev pub digest_named : Option Word → KeyDigest

@@ -3,7 +3,7 @@ use Rattle.std.specs.Prelude.{◌≡◌, ℕ, ◌+◌, ◌≤◌, Bool, true, fa
 use Rattle.keyd_cli.specs.declared.act.Act.{Act}
 use Rattle.keyd_cli.specs.declared.act.Act.TheVariants.{Mtr, Sync}
 use Rattle.keyd_cli.specs.declared.act.Statement.{Statement}
-use Rattle.keyd_cli.specs.Schedule.{lines_of, IsSkipped, IsAct}
+use Rattle.keyd_cli.specs.Schedule.{schedule_lines, IsNoStatement, IsAct}
 
 abbrev pub is_mtr : Act → Bool
 is_mtr (Mtr session mtr) = true
@@ -18,15 +18,15 @@ abbrev pub HasRoom : ℕ → Act → Type 0
 HasRoom mtrs act = is_mtr act ≡ true → mtrs ≤ 255
 
 -- These lines are these statements, each with its line's number, from 1 on.
-pub data Reads (space pages : ℕ) : List (List ℕ) → List Statement → Type 0 where
-  ReadNone : Reads space pages [] []
-  ReadSkipped : (lines : List (List ℕ)) (statements : List Statement) (line : List ℕ) → Reads space pages lines statements → IsSkipped line → Reads space pages (lines ++ (line ∷ [])) statements
-  ReadAct : (lines : List (List ℕ)) (statements : List Statement) (line : List ℕ) (act : Act) → Reads space pages lines statements → IsAct space pages line act → HasRoom (mtr_count statements) act
-      → Reads space pages (lines ++ (line ∷ [])) (statements ++ (record { line = length lines + 1; act = act } ∷ []))
+pub data ReadsLines (space pages : ℕ) : List (List ℕ) → List Statement → Type 0 where
+  ReadNone : ReadsLines space pages [] []
+  ReadSkipped : (lines : List (List ℕ)) (statements : List Statement) (line : List ℕ) → ReadsLines space pages lines statements → IsNoStatement line → ReadsLines space pages (lines ++ (line ∷ [])) statements
+  ReadAct : (lines : List (List ℕ)) (statements : List Statement) (line : List ℕ) (act : Act) → ReadsLines space pages lines statements → IsAct space pages line act → HasRoom (mtr_count statements) act
+      → ReadsLines space pages (lines ++ (line ∷ [])) (statements ++ (record { line = length lines + 1; act = act } ∷ []))
 
 -- the text is a schedule of these statements
 abbrev pub IsSchedule : ℕ → ℕ → List ℕ → List Statement → Type 0
-IsSchedule space pages text statements = Reads space pages (lines_of text) statements
+IsSchedule space pages text statements = ReadsLines space pages (schedule_lines text) statements
 
 -- The first line that isn't skipped and is no statement that there is room for has this number.
 pub record IsNotBuilt (space pages : ℕ) (text : List ℕ) (number : ℕ) : Type 0 where
@@ -34,8 +34,8 @@ pub record IsNotBuilt (space pages : ℕ) (text : List ℕ) (number : ℕ) : Typ
   pub line : List ℕ
   pub behind : List (List ℕ)
   pub statements : List Statement
-  pub lines : lines_of text ≡ before ++ (line ∷ behind)
+  pub lines : schedule_lines text ≡ before ++ (line ∷ behind)
   pub place : number ≡ length before + 1
-  pub reads : Reads space pages before statements
-  pub kept : IsSkipped line → ⊥
+  pub reads : ReadsLines space pages before statements
+  pub kept : IsNoStatement line → ⊥
   pub refused : (act : Act) → IsAct space pages line act → HasRoom (mtr_count statements) act → ⊥

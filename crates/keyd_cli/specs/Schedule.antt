@@ -7,8 +7,8 @@ use Rattle.keyd_cli.specs.declared.act.Act.{Act}
 use Rattle.keyd_cli.specs.declared.act.Act.TheVariants.{Mtr, Sync}
 use Rattle.keyd_cli.specs.Parts.{parts_of}
 
-abbrev pub lines_of : List ℕ → List (List ℕ)
-lines_of text = parts_of 10 text
+abbrev pub schedule_lines : List ℕ → List (List ℕ)
+schedule_lines text = parts_of 10 text
 
 abbrev pub words_of : List ℕ → List (List ℕ)
 words_of line = parts_of 32 line
@@ -39,5 +39,5 @@ pub data IsAct (space pages : ℕ) (line : List ℕ) : Act → Type 0 where
   IsMtr : (session page at : ℕ) (bytes : List ℕ) → IsPutLine space pages line session page at bytes → IsAct space pages line (Mtr session (Put space page at bytes ∷ []))
 
 -- an empty line, or a comment
-abbrev pub IsSkipped : List ℕ → Type 0
-IsSkipped line = (line ≡ []) ⊎ ((rest : List ℕ) × (line ≡ 35 ∷ rest))
+abbrev pub IsNoStatement : List ℕ → Type 0
+IsNoStatement line = (line ≡ []) ⊎ ((rest : List ℕ) × (line ≡ 35 ∷ rest))

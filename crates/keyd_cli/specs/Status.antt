@@ -4,14 +4,14 @@ use Rattle.keyd_cli.specs.declared.status.Status.{Status}
 use Rattle.keyd_cli.specs.declared.status.Status.TheVariants.{Done, Usage, KeyFile, Missing, ScriptTooLarge, NotBuilt, InputFault, FileFault, OutFault, OutOfMemory}
 
 -- what the program ends with
-abbrev pub number_of : Status → ℕ
-number_of Done = 0
-number_of (Usage index) = 2
-number_of (KeyFile index fault) = 3
-number_of (Missing name) = 3
-number_of ScriptTooLarge = 4
-number_of (NotBuilt line) = 4
-number_of InputFault = 7
-number_of FileFault = 7
-number_of OutFault = 7
-number_of OutOfMemory = 8
+abbrev pub keyd_exit_code : Status → ℕ
+keyd_exit_code Done = 0
+keyd_exit_code (Usage index) = 2
+keyd_exit_code (KeyFile index fault) = 3
+keyd_exit_code (Missing name) = 3
+keyd_exit_code ScriptTooLarge = 4
+keyd_exit_code (NotBuilt line) = 4
+keyd_exit_code InputFault = 7
+keyd_exit_code FileFault = 7
+keyd_exit_code OutFault = 7
+keyd_exit_code OutOfMemory = 8

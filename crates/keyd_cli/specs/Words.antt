@@ -11,13 +11,13 @@ abbrev pub Word : Type 0
 Word = List ℕ
 
 -- an option's word
-unfoldable pub name_of : Flag → Word
-name_of KeyFile = codes "--key-file"
-name_of FileKey = codes "--filekey"
-name_of Digest = codes "--digest"
-name_of Space = codes "--space"
-name_of Stop = codes "--stop"
-name_of Choice = codes "--choice"
+unfoldable pub flag_word : Flag → Word
+flag_word KeyFile = codes "--key-file"
+flag_word FileKey = codes "--filekey"
+flag_word Digest = codes "--digest"
+flag_word Space = codes "--space"
+flag_word Stop = codes "--stop"
+flag_word Choice = codes "--choice"
 
 -- how often an option may stand
 unfoldable pub most_of : Flag → ℕ
@@ -35,11 +35,11 @@ pub record AreParts (value a b c : Word) : Type 0 where
   pub third_free : All IsNoColon c
 
 -- ID:PAGES:KEY:plain
-abbrev pub space_word : ℕ → ℕ → ℕ → Word
-space_word id pages key = decimal id ++ (58 ∷ (decimal pages ++ (58 ∷ (decimal key ++ codes ":plain"))))
+abbrev pub space_value : ℕ → ℕ → ℕ → Word
+space_value id pages key = decimal id ++ (58 ∷ (decimal pages ++ (58 ∷ (decimal key ++ codes ":plain"))))
 
 pub record IsSpace (value : Word) (id pages key : ℕ) : Type 0 where
-  pub spelled : value ≡ space_word id pages key
+  pub spelled : value ≡ space_value id pages key
   pub id_from : 1 ≤ id
   pub id_to : id ≤ 4294967279
   pub pages_from : 2 ≤ pages
@@ -47,8 +47,8 @@ pub record IsSpace (value : Word) (id pages key : ℕ) : Type 0 where
   pub key_from : 1 ≤ key
   pub key_to : key ≤ 4294967295
 
-abbrev pub IsStop : Word → ℕ → Type 0
-IsStop value turn = IsNumber value 1 1000000 turn
+abbrev pub IsStopTurn : Word → ℕ → Type 0
+IsStopTurn value turn = IsNumber value 1 1000000 turn
 
 -- l lost, k kept, t torn
 abbrev pub IsLetter : ℕ → Type 0
@@ -65,14 +65,14 @@ IsValue KeyFile value = Unit {0}
 IsValue FileKey value = Unit {0}
 IsValue Digest value = (value ≡ codes "sha1") ⊎ (value ≡ codes "sha256")
 IsValue Space value = (id : ℕ) × (pages : ℕ) × (key : ℕ) × IsSpace value id pages key
-IsValue Stop value = (turn : ℕ) × IsStop value turn
+IsValue Stop value = (turn : ℕ) × IsStopTurn value turn
 IsValue Choice value = IsChoice value
 
 -- an option's word and its value, two by two
 unfoldable pub ArePairs : List Word → Type 0
 ArePairs [] = Unit {0}
 ArePairs (word ∷ []) = ⊥
-ArePairs (word ∷ value ∷ words) = ((f : Flag) × (word ≡ name_of f) × IsValue f value) × ArePairs words
+ArePairs (word ∷ value ∷ words) = ((f : Flag) × (word ≡ flag_word f) × IsValue f value) × ArePairs words
 
 -- every second word, from the first on
 unfoldable pub option_words : List Word → List Word
@@ -81,21 +81,21 @@ option_words (word ∷ []) = word ∷ []
 option_words (word ∷ value ∷ words) = word ∷ option_words words
 
 -- how often an option's word stands among them
-abbrev pub times : Flag → List Word → ℕ
-times f words = count_by (λ word. bytes_eq word (name_of f)) (option_words words)
+abbrev pub occurrences : Flag → List Word → ℕ
+occurrences f words = count_by (λ word. bytes_eq word (flag_word f)) (option_words words)
 
 -- Options and their values in any order, none too often.
 pub record AreOptions (words : List Word) : Type 0 where
   pub pairs : ArePairs words
-  pub limits : (f : Flag) → times f words ≤ most_of f
+  pub limits : (f : Flag) → occurrences f words ≤ most_of f
 
 -- a list of words of `drill`
 pub record IsDrill (words : List Word) : Type 0 where
   pub options : List Word
   pub begins : words ≡ codes "drill" ∷ options
   pub are : AreOptions options
-  pub has_key_file : 1 ≤ times KeyFile options
-  pub has_space : 1 ≤ times Space options
+  pub has_key_file : 1 ≤ occurrences KeyFile options
+  pub has_space : 1 ≤ occurrences Space options
 
 -- some list of words of `drill` begins with these
 pub record CanBegin (words : List Word) : Type 0 where

@@ -6,7 +6,7 @@ ghost use Rattle.cause_core.specs.Counts.{Rose};
 ghost use Rattle.keyd_cli.specs.declared.status.Status.TheVariants as status;
 ghost use Rattle.keyd_cli.specs.Words.{IsDrill, IsUsage, AreOptions};
 ghost use Rattle.keyd_cli.specs.Reads.{IsSchedule, IsNotBuilt};
-ghost use Rattle.keyd_cli.specs.Ends.{load_status, IsKeyed, IsKeyEnd, IsInput, IsInputEnd, IsInputDrilled, IsReady, IsDone, IsEnd, NoneRose, IsComplete, drill_text};
+ghost use Rattle.keyd_cli.specs.Ends.{load_status, IsKeyed, IsKeyEnd, IsInput, IsInputEnd, IsInputDrilled, IsCommandDrilled, IsDone, IsEnd, NoneRose, IsComplete, drill_text};
 ghost use Rattle.keyd_cli.specs.PlanOf.{IsFitting};
 
 use crate::act::Statement;

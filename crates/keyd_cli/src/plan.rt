@@ -1,7 +1,7 @@
 // What the words of `drill` ask for.
 ghost use Rattle.std.specs.Prelude.{◌≡◌, ◌≤◌, ◌<◌, [], map, length, string_bytes, IfOk, Some, None, ◌⊎◌, MatchOption};
 ghost use Rattle.keyd_cli.specs.Printed.{letter_of};
-ghost use Rattle.keyd_cli.specs.Words.{AreOptions, IsChoice, times};
+ghost use Rattle.keyd_cli.specs.Words.{AreOptions, IsChoice, occurrences};
 ghost use Rattle.keyd_cli.specs.Plan.{value_in, IsSpaceIn, IsStopIn, AreChoicesIn};
 ghost use Rattle.keyd_cli.specs.PlanOf.{IsPlan, IsFitting};
 
@@ -60,7 +60,7 @@ fn choices_of(alloc: Global, value: &str) -> Result<Vec<Choice>, OutOfMemory>
 // The space, which stands among the options.
 fn space_in(options: &[String]) -> SpaceWords
     requires are { AreOptions (map string_bytes options.now) }
-    requires space { 1 ≤ times Flag.Space (map string_bytes options.now) }
+    requires space { 1 ≤ occurrences Flag.Space (map string_bytes options.now) }
     ensures { IsSpaceIn (map string_bytes options.now) result }
 {
     let Some(value) = value_of(options, Flag::Space) else {
@@ -96,7 +96,7 @@ fn choices_in(alloc: Global, options: &[String]) -> Result<Vec<Choice>, OutOfMem
 /// The plan of options that follow the command.
 pub fn plan_of(alloc: Global, options: &[String]) -> Result<DrillPlan, OutOfMemory>
     requires are { AreOptions (map string_bytes options.now) }
-    requires space { 1 ≤ times Flag.Space (map string_bytes options.now) }
+    requires space { 1 ≤ occurrences Flag.Space (map string_bytes options.now) }
     ensures plan { IfOk result (IsPlan (map string_bytes options.now)) }
     ensures fits { IfOk result IsFitting }
 {

@@ -115,25 +115,25 @@ fn put_act(alloc: Global, line: &[u8], plan: &SpaceWords) -> Result<Option<Act>,
 
 // What a line is.
 #[derive(Drop)]
-enum LineIs {
+enum LineKind {
     Skipped,
     Act(Act),
     Other,
 }
 
-fn read_line(alloc: Global, line: &[u8], plan: &SpaceWords) -> Result<LineIs, OutOfMemory>
+fn read_line(alloc: Global, line: &[u8], plan: &SpaceWords) -> Result<LineKind, OutOfMemory>
     requires { 2 ≤ plan.now.pages }
     ensures { IfOk result (IsLine plan.now.space plan.now.pages line.now) }
 {
     if line.is_empty() || line[0] == b'#' {
-        return Ok(LineIs::Skipped);
+        return Ok(LineKind::Skipped);
     }
     if line == b"sync".as_slice() {
-        return Ok(LineIs::Act(Act::Sync));
+        return Ok(LineKind::Act(Act::Sync));
     }
     match put_act(alloc, line, plan)? {
-        Some(act) => Ok(LineIs::Act(act)),
-        None => Ok(LineIs::Other),
+        Some(act) => Ok(LineKind::Act(act)),
+        None => Ok(LineKind::Other),
     }
 }
 
@@ -180,8 +180,8 @@ pub fn read_schedule(
             return Err(ScheduleFault::OutOfMemory);
         };
         match line {
-            LineIs::Skipped => {}
-            LineIs::Act(act) => {
+            LineKind::Skipped => {}
+            LineKind::Act(act) => {
                 let Some(count) = counted(&act, mtrs) else {
                     return Err(ScheduleFault::NotBuilt(number));
                 };
@@ -191,7 +191,7 @@ pub fn read_schedule(
                     return Err(ScheduleFault::OutOfMemory);
                 };
             }
-            LineIs::Other => return Err(ScheduleFault::NotBuilt(number)),
+            LineKind::Other => return Err(ScheduleFault::NotBuilt(number)),
         }
     }
     Ok(statements)

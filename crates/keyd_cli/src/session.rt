@@ -49,7 +49,7 @@ fn answer<D: Disk + Drop>(
 
 /// What was done of a session's statements.
 #[derive(Drop)]
-pub struct Ran {
+pub struct SessionOutcome {
     /// The replies to the statements that were done.
     pub replies: Vec<Reply>,
     /// Whether all were done. Else the disk was stopped in the next one.
@@ -61,7 +61,7 @@ pub fn run_statements<D: Disk + Drop>(
     alloc: Global,
     engine: &mut Engine<D>,
     statements: Vec<Statement>,
-) -> Result<Ran, OutOfMemory>
+) -> Result<SessionOutcome, OutOfMemory>
     requires small { AreRunnable statements.items }
     requires room { mtr_count statements.items ≤ 256 }
     requires empty { engine.old.journal ≡ [] }
@@ -77,14 +77,14 @@ pub fn run_statements<D: Disk + Drop>(
     let mut replies = Vec::new(alloc);
     for statement in statements {
         let Some(reply) = answer(engine, statement)? else {
-            return Ok(Ran {
+            return Ok(SessionOutcome {
                 replies,
                 is_whole: false,
             });
         };
         replies.push(reply)?;
     }
-    Ok(Ran {
+    Ok(SessionOutcome {
         replies,
         is_whole: true,
     })

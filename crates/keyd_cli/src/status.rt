@@ -1,6 +1,6 @@
 // How a command ends.
 ghost use Rattle.std.specs.Prelude.{◌≡◌};
-ghost use Rattle.keyd_cli.specs.Status.{number_of};
+ghost use Rattle.keyd_cli.specs.Status.{keyd_exit_code};
 
 use cause_core::OutOfMemory;
 use key_file::{KeyFault, Name};
@@ -55,7 +55,7 @@ impl From<OutOfMemory> for Status {
 impl Status {
     /// The number that the program ends with.
     pub fn number(&self) -> u8
-        ensures { result ≡ number_of self.now }
+        ensures { result ≡ keyd_exit_code self.now }
     {
         match self {
             Status::Done => 0,

@@ -1,7 +1,7 @@
 // The words of `drill`.
 ghost use Rattle.std.specs.Prelude.{◌≡◌, ◌≢◌, ◌↔◌, IsTrue, MatchOption, All, OnOk, IfErr, map, string_bytes, length, ◌<◌, ◌%◌, ◌==◌, ◌&&◌, [], ◌∷◌, slice_index_or, codes};
 ghost use Rattle.std.specs.Str.{bytes_eq};
-ghost use Rattle.keyd_cli.specs.Words.{IsSpace, IsStop, IsChoice, AreParts, times, name_of, IsDrill, IsUsage};
+ghost use Rattle.keyd_cli.specs.Words.{IsSpace, IsStopTurn, IsChoice, AreParts, occurrences, flag_word, IsDrill, IsUsage};
 
 use crate::number::number_within;
 use crate::parts::cut_at;
@@ -19,12 +19,12 @@ pub enum Flag {
 
 impl Flag {
     ghost use Rattle.std.specs.Prelude.{IsTrue, ◌↔◌};
-    ghost use Rattle.keyd_cli.specs.Words.{name_of, most_of, IsValue};
+    ghost use Rattle.keyd_cli.specs.Words.{flag_word, most_of, IsValue};
 
     // The option that a word names.
-    #[tactic(auto, unfolding(crate::specs::Words::name_of))]
+    #[tactic(auto, unfolding(crate::specs::Words::flag_word))]
     fn named(word: &str) -> Option<Flag>
-        ensures { MatchOption result ((f : _) → word.now ≢ name_of f) (λ f. word.now ≡ name_of f) }
+        ensures { MatchOption result ((f : _) → word.now ≢ flag_word f) (λ f. word.now ≡ flag_word f) }
     {
         match word {
             "--key-file" => Some(Flag::KeyFile),
@@ -37,9 +37,9 @@ impl Flag {
         }
     }
 
-    #[tactic(auto, unfolding(crate::specs::Words::name_of))]
+    #[tactic(auto, unfolding(crate::specs::Words::flag_word))]
     pub fn name(self) -> &'static str
-        ensures { result.now ≡ name_of self }
+        ensures { result.now ≡ flag_word self }
     {
         match self {
             Flag::KeyFile => "--key-file",
@@ -79,7 +79,7 @@ impl Flag {
 
 // The turn that a stop names.
 pub fn stop_of(value: &str) -> Option<u32>
-    ensures { MatchOption result ((turn : _) → IsStop value.now turn → ⊥) (λ turn. IsStop value.now turn) }
+    ensures { MatchOption result ((turn : _) → IsStopTurn value.now turn → ⊥) (λ turn. IsStopTurn value.now turn) }
 {
     number_within(value.as_bytes(), 1, 1_000_000)
 }
@@ -142,14 +142,14 @@ pub fn space_of(value: &str) -> Option<SpaceWords>
 // Whether an option's word stands at this place among options and their values.
 fn stands_at(options: &[String], i: usize, flag: Flag) -> bool
     requires { i < length options.now }
-    ensures { result ≡ ((i % 2 == 0) && bytes_eq (slice_index_or (map string_bytes options.now) i []) (name_of flag)) }
+    ensures { result ≡ ((i % 2 == 0) && bytes_eq (slice_index_or (map string_bytes options.now) i []) (flag_word flag)) }
 {
     i % 2 == 0 && options[i].as_str() == flag.name()
 }
 
 // How often an option stands among options and their values, two by two.
 fn times_of(options: &[String], flag: Flag) -> usize
-    ensures { result ≡ times flag (map string_bytes options.now) }
+    ensures { result ≡ occurrences flag (map string_bytes options.now) }
 {
     let mut count = 0;
     for i in 0..options.len() {

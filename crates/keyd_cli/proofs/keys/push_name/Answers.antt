@@ -2,7 +2,7 @@ use Rattle.std.proofs.Common.{rules, ◌≡◌, ◌+◌, ◌<◌, [], ◌∷◌,
 use Rattle.std.proofs.lemmas.List.{length-map, map-append}
 use Rattle.std.proofs.Common.{append_assoc}
 use Rattle.keyd_cli.specs.declared.words.Flag.TheVariants.{KeyFile}
-use Rattle.keyd_cli.specs.Words.{name_of}
+use Rattle.keyd_cli.specs.Words.{flag_word}
 use Rattle.keyd_cli.specs.Keys.{values_of}
 use Rattle.keyd_cli.proofs.Values.{word_is}
 use Rattle.keyd_cli.proofs.KeyNames.{values_here, values_behind}
@@ -14,7 +14,7 @@ returns-then-ne c =
     let ws = map string_bytes strings in
     let low : c.args.at + 1 < length ws = omega (arith, length-map strings string_bytes, c.requires) in
     let word = word_is string_bytes strings c.args.at c.index-options-at.result c.as_str.result.now (omega (arith, c.requires)) c.index-options-at.is c.as_str.ensures.value in
-    let other : get_or ws c.args.at [] ≡ name_of KeyFile → ⊥ =
+    let other : get_or ws c.args.at [] ≡ flag_word KeyFile → ⊥ =
     λ named. let same : c.as_str.result.now ≡ c.name.result.now = sym word ∙ named ∙ sym c.name.ensures in search (rules, c.ne.ensures, c.if-ne.true, same) in
     ap (λ vs. map string_bytes c.args.names.now.items ++ vs) (sym (values_behind KeyFile ws c.args.at low other))
 
@@ -26,7 +26,7 @@ returns c =
     let word = word_is string_bytes strings c.args.at c.index-options-at.result c.as_str.result.now (omega (arith, c.requires)) c.index-options-at.is c.as_str.ensures.value in
     let value = word_is string_bytes strings (c.args.at + 1) c.index-options-at-2.result c.as_str-2.result.now c.requires c.index-options-at-2.is c.as_str-2.ensures.value in
     let same : c.as_str.result.now ≡ c.name.result.now = search (rules, c.ne.ensures, c.if-ne.false) in
-    let named : get_or ws c.args.at [] ≡ name_of KeyFile = word ∙ same ∙ c.name.ensures in
+    let named : get_or ws c.args.at [] ≡ flag_word KeyFile = word ∙ same ∙ c.name.ensures in
     let name : string_bytes c.in_ok-name.name ≡ get_or ws (c.args.at + 1) [] = c.in_ok-name.ensures.ok ∙ sym value in
     let rest = values_of KeyFile (drop (c.args.at + 2) ws) in
     let grown : map string_bytes c.push.new.self.items ≡ map string_bytes c.args.names.now.items ++ (string_bytes c.in_ok-name.name ∷ []) = ap (map string_bytes) c.in_ok-push.ensures.items ∙ map-append string_bytes c.args.names.now.items (c.in_ok-name.name ∷ []) in

@@ -2,12 +2,12 @@ use Rattle.std.proofs.Common.{◌≡◌, ℕ, ◌+◌, sym, ◌∙◌, ap, subst
 use Rattle.keyd_cli.specs.declared.act.Act.{Act}
 use Rattle.keyd_cli.specs.declared.schedule.ScheduleFault.{ScheduleFault}
 use Rattle.keyd_cli.specs.declared.schedule.ScheduleFault.TheVariants.{NotBuilt}
-use Rattle.keyd_cli.specs.declared.schedule.LineIs.{LineIs}
-use Rattle.keyd_cli.specs.declared.schedule.LineIs.TheVariants.{Skipped, Other}
-use Rattle.keyd_cli.specs.declared.schedule.LineIs.TheVariants as line_is
+use Rattle.keyd_cli.specs.declared.schedule.LineKind.{LineKind}
+use Rattle.keyd_cli.specs.declared.schedule.LineKind.TheVariants.{Skipped, Other}
+use Rattle.keyd_cli.specs.declared.schedule.LineKind.TheVariants as line_kind
 use Rattle.keyd_cli.specs.Lines.{IsLine}
-use Rattle.keyd_cli.specs.Schedule.{lines_of, IsAct, IsSkipped}
-use Rattle.keyd_cli.specs.Reads.{Reads, ReadNone, mtr_count, is_mtr, HasRoom, IsNotBuilt}
+use Rattle.keyd_cli.specs.Schedule.{schedule_lines, IsAct, IsNoStatement}
+use Rattle.keyd_cli.specs.Reads.{ReadsLines, ReadNone, mtr_count, is_mtr, HasRoom, IsNotBuilt}
 use Rattle.keyd_cli.proofs.ReadsLemmas.{at_line, all_read, few_lines, skipped_more, act_more, count_more, refused_at, one_act}
 use Rattle.keyd_cli.proofs.schedule.read_schedule.Goals as goal
 
@@ -15,7 +15,7 @@ pub loop-line-init : goal.loop-line-init
 loop-line-init c = record {
   left = c.new-lines.ensures;
   low = omega arith;
-  reads = subst (λ ss. Reads c.args.plan.now.space c.args.plan.now.pages [] ss) (sym c.new-statements.ensures.items) ReadNone;
+  reads = subst (λ ss. ReadsLines c.args.plan.now.space c.args.plan.now.pages [] ss) (sym c.new-statements.ensures.items) ReadNone;
   count = ap mtr_count (sym c.new-statements.ensures.items);
   room = omega arith;
 }
@@ -24,7 +24,7 @@ pub overflow_add-number : goal.overflow_add-number
 overflow_add-number c = let few = few_lines c.args.text.now in omega (arith, few, c.loop-line.invariant.low, c.requires.size)
 
 -- what the line is, by the variant that was found
-as_found : (space pages : ℕ) (line : List ℕ) (found is : LineIs) → found ≡ is → IsLine space pages line found → IsLine space pages line is
+as_found : (space pages : ℕ) (line : List ℕ) (found is : LineKind) → found ≡ is → IsLine space pages line found → IsLine space pages line is
 as_found space pages line found is same read = subst (IsLine space pages line) same read
 
 same_number : {V : Type 0} (m n : ℕ) → ◌≡◌ {A = Result V ScheduleFault} (Err (NotBuilt m)) (Err (NotBuilt n)) → m ≡ n
@@ -38,9 +38,9 @@ pub loop-line-preserved-in-Skipped : goal.loop-line-preserved-in-Skipped
 loop-line-preserved-in-Skipped c =
     let i = c.loop-line.invariant in
     let plan = c.args.plan.now in
-    let all = lines_of c.args.text.now in
+    let all = schedule_lines c.args.text.now in
     let at = at_line all c.loop-line.number c.in-Some.line.now c.next.new.self c.loop-line.lines i.left c.in-Some.ensures i.low in
-    let skipped : IsSkipped c.in-Some.line.now = as_found plan.space plan.pages c.in-Some.line.now c.in-Ok.line Skipped c.in-Skipped.is c.in-Ok.ensures in
+    let skipped : IsNoStatement c.in-Some.line.now = as_found plan.space plan.pages c.in-Some.line.now c.in-Ok.line Skipped c.in-Skipped.is c.in-Ok.ensures in
     record {
       left = sym at.left;
       low = omega (arith, at.low);
@@ -54,8 +54,8 @@ returns-in_default-counted-clause-not_built c line same =
     let i = c.loop-line.invariant in
     let plan = c.args.plan.now in
     let text = c.args.text.now in
-    let at = at_line (lines_of text) c.loop-line.number c.in-Some.line.now c.next.new.self c.loop-line.lines i.left c.in-Some.ensures i.low in
-    let read = as_found plan.space plan.pages c.in-Some.line.now c.in-Ok.line (line_is.Act c.in-Act.act) c.in-Act.is c.in-Ok.ensures in
+    let at = at_line (schedule_lines text) c.loop-line.number c.in-Some.line.now c.next.new.self c.loop-line.lines i.left c.in-Some.ensures i.low in
+    let read = as_found plan.space plan.pages c.in-Some.line.now c.in-Ok.line (line_kind.Act c.in-Act.act) c.in-Act.is c.in-Ok.ensures in
     let none = c.in_default-counted.ensures.none in
     let refused : (act : Act) → IsAct plan.space plan.pages c.in-Some.line.now act → HasRoom (mtr_count c.loop-line.statements.items) act → ⊥ =
     λ act is room.
@@ -68,9 +68,9 @@ pub loop-line-preserved : goal.loop-line-preserved
 loop-line-preserved c =
     let i = c.loop-line.invariant in
     let plan = c.args.plan.now in
-    let all = lines_of c.args.text.now in
+    let all = schedule_lines c.args.text.now in
     let at = at_line all c.loop-line.number c.in-Some.line.now c.next.new.self c.loop-line.lines i.left c.in-Some.ensures i.low in
-    let read = as_found plan.space plan.pages c.in-Some.line.now c.in-Ok.line (line_is.Act c.in-Act.act) c.in-Act.is c.in-Ok.ensures in
+    let read = as_found plan.space plan.pages c.in-Some.line.now c.in-Ok.line (line_kind.Act c.in-Act.act) c.in-Act.is c.in-Ok.ensures in
     let some = c.in-Some-counted.ensures.some in
     let statements = c.loop-line.statements.items in
     let more = c.push.new.self.items in
@@ -88,7 +88,7 @@ returns-in-Other-clause-not_built c line same =
     let i = c.loop-line.invariant in
     let plan = c.args.plan.now in
     let text = c.args.text.now in
-    let at = at_line (lines_of text) c.loop-line.number c.in-Some.line.now c.next.new.self c.loop-line.lines i.left c.in-Some.ensures i.low in
+    let at = at_line (schedule_lines text) c.loop-line.number c.in-Some.line.now c.next.new.self c.loop-line.lines i.left c.in-Some.ensures i.low in
     let read = as_found plan.space plan.pages c.in-Some.line.now c.in-Ok.line Other c.in-Other.is c.in-Ok.ensures in
     subst (λ n. IsNotBuilt plan.space plan.pages text n) (same_number (c.loop-line.number + 1) line same)
     (refused_at plan.space plan.pages text c.loop-line.number c.in-Some.line.now c.next.new.self c.loop-line.statements.items at i.reads read.0 (λ act is room. read.1 act is))
@@ -97,5 +97,5 @@ pub returns-clause-ok : goal.returns-clause-ok
 returns-clause-ok c =
     let i = c.loop-line.invariant in
     let plan = c.args.plan.now in
-    let all = lines_of c.args.text.now in
-    subst (λ ls. Reads plan.space plan.pages ls c.loop-line.statements.items) (all_read all c.loop-line.number c.loop-line.lines i.left c.in_default.ensures.0 i.low) i.reads
+    let all = schedule_lines c.args.text.now in
+    subst (λ ls. ReadsLines plan.space plan.pages ls c.loop-line.statements.items) (all_read all c.loop-line.number c.loop-line.lines i.left c.in_default.ensures.0 i.low) i.reads
