@@ -6,7 +6,7 @@ use Rattle.std.proofs.lemmas.List.Concat.{flat_map-append}
 use Rattle.std.proofs.lemmas.List.FromFn.{filter_of_map_range_with_len_more}
 use Rattle.std.proofs.lemmas.List.Sums.{sum_by-cons}
 use Rattle.std.proofs.lemmas.Bool.{lt-ltb}
-use Rattle.innochecksum_cli.specs.Pages.{Page, is_of_kind}
+use Rattle.innochecksum_cli.specs.Pages.{FilePage, is_of_kind}
 use Rattle.innochecksum_cli.specs.Lines.{kind_line, kind_lines}
 
 any_by_count : (b rest : Bool) (n : ℕ) → rest ≡ ltb 0 n → (b || rest) ≡ ltb 0 (cond b 1 0 + n)
@@ -25,12 +25,12 @@ flat_map_bit : (f : ℕ → List ℕ) (xs : List ℕ) (b : Bool) (i : ℕ) → f
 flat_map_bit f xs true i = flat_map-append f xs (i ∷ []) ∙ ap (λ (t : List ℕ). flat_map f xs ++ t) (append-nil (f i))
 flat_map_bit f xs false i = ap (flat_map f) (append-nil xs) ∙ sym (append-nil (flat_map f xs))
 
-pub kind_lines_none : (pages : List Page) → kind_lines 0 pages ≡ []
+pub kind_lines_none : (pages : List FilePage) → kind_lines 0 pages ≡ []
 unfolding kind_lines
 kind_lines_none pages = refl
 
 -- one type more: its line, where some page has it
-pub kind_lines_more : (pages : List Page) (i : ℕ)
+pub kind_lines_more : (pages : List FilePage) (i : ℕ)
     → kind_lines (i + 1) pages ≡ kind_lines i pages ++ cond (ltb 0 (count_by (is_of_kind i) pages)) (kind_line i (count_by (is_of_kind i) pages)) []
 unfolding kind_lines
 kind_lines_more pages i =

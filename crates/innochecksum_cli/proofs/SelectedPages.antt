@@ -6,21 +6,21 @@ use Rattle.std.proofs.Math.Nat.{mul-le-mul_left}
 use Rattle.std.proofs.lemmas.List.FromFn.{get_or-map-range_with_len, length-map-range_with_len}
 use Rattle.io_core.specs.Stream.{IsPartlyGiven, extended}
 use Rattle.io_core.proofs.Streams.{given_then}
-use Rattle.innochecksum_cli.specs.Pages.{Page, is_mismatch, page_at, whole_pages}
+use Rattle.innochecksum_cli.specs.Pages.{FilePage, is_mismatch, nth_page, whole_pages}
 use Rattle.innochecksum_cli.specs.Lines.{line_of_page, stopped_line}
-use Rattle.innochecksum_cli.specs.Looks.{IsLooked}
+use Rattle.innochecksum_cli.specs.Looks.{IsPageScan}
 use Rattle.innochecksum_cli.specs.Tallies.{IsTally}
 use Rattle.innochecksum_cli.specs.Inspection.{Agrees, Report, mismatches, report_of, selected}
 use Rattle.innochecksum_cli.specs.declared.options.Options.{Options}
 use Rattle.innochecksum_cli.specs.declared.tally.Tally.{Tally}
-use Rattle.innochecksum_cli.specs.declared.looks.Looked.{Looked}
+use Rattle.innochecksum_cli.specs.declared.looks.PageScan.{PageScan}
 use Rattle.innochecksum_cli.specs.declared.status.CheckStatus.TheVariants.{Mismatch}
 use Rattle.innochecksum_cli.proofs.Fronts.{extended-nil, front_given, part_given}
 use Rattle.innochecksum_cli.proofs.Reports.{few_push, lines, lines_push, report_after, report_front, report_stop}
 
 pub length-whole_pages : (size : ℕ) (file : List ℕ) → length (whole_pages size file) ≡ length file / size
 unfolding whole_pages
-length-whole_pages size file = length-map-range_with_len (page_at size file) 0 (length file / size)
+length-whole_pages size file = length-map-range_with_len (nth_page size file) 0 (length file / size)
 
 pub length-selected : (o : Options) (size : ℕ) (file : List ℕ) → length (selected o (whole_pages size file)) ≡ min (o.last + 1) (length file / size) - o.first
 length-selected o size file =
@@ -29,13 +29,13 @@ length-selected o size file =
     let back = length-drop o.first (take (o.last + 1) (whole_pages size file)) in
     omega (arith, whole, front, back)
 
-get_or-whole_pages : (size : ℕ) (file : List ℕ) (n : ℕ) (d : Page) → n < length file / size → get_or (whole_pages size file) n d ≡ page_at size file n
+get_or-whole_pages : (size : ℕ) (file : List ℕ) (n : ℕ) (d : FilePage) → n < length file / size → get_or (whole_pages size file) n d ≡ nth_page size file n
 unfolding whole_pages
-get_or-whole_pages size file n d below = get_or-map-range_with_len (page_at size file) 0 (length file / size) n n d below (omega arith)
+get_or-whole_pages size file n d below = get_or-map-range_with_len (nth_page size file) 0 (length file / size) n n d below (omega arith)
 
 -- the page after the first k of those that are asked for
-pub get_or-selected : (o : Options) (size : ℕ) (file : List ℕ) (k n : ℕ) (d : Page) → o.first + k ≡ n → n < min (o.last + 1) (length file / size)
-    → get_or (selected o (whole_pages size file)) k d ≡ page_at size file n
+pub get_or-selected : (o : Options) (size : ℕ) (file : List ℕ) (k n : ℕ) (d : FilePage) → o.first + k ≡ n → n < min (o.last + 1) (length file / size)
+    → get_or (selected o (whole_pages size file)) k d ≡ nth_page size file n
 get_or-selected o size file k n d is below =
     get_or-drop o.first (take (o.last + 1) (whole_pages size file)) k d
     ∙ ap (λ (i : ℕ). get_or (take (o.last + 1) (whole_pages size file)) i d) is
@@ -44,16 +44,16 @@ get_or-selected o size file k n d is below =
 
 -- the first k pages, this one, and those after it
 pub selected_split : (o : Options) (size : ℕ) (file : List ℕ) (k n : ℕ) → o.first + k ≡ n → n < min (o.last + 1) (length file / size)
-    → (rest : List Page) × (selected o (whole_pages size file) ≡ (take k (selected o (whole_pages size file)) ++ page_at size file n ∷ []) ++ rest)
-    × (take (k + 1) (selected o (whole_pages size file)) ≡ take k (selected o (whole_pages size file)) ++ page_at size file n ∷ [])
+    → (rest : List FilePage) × (selected o (whole_pages size file) ≡ (take k (selected o (whole_pages size file)) ++ nth_page size file n ∷ []) ++ rest)
+    × (take (k + 1) (selected o (whole_pages size file)) ≡ take k (selected o (whole_pages size file)) ++ nth_page size file n ∷ [])
 selected_split o size file k n is below =
     let all = selected o (whole_pages size file) in
-    let page = page_at size file n in
+    let page = nth_page size file n in
     let long = length-selected o size file in
     let inside : k < length all = omega (arith, long, is, below) in
     let more : take (k + 1) all ≡ take k all ++ page ∷ [] =
-    take_more all k page inside ∙ ap (λ (p : Page). take k all ++ p ∷ []) (get_or-selected o size file k n page is below) in
-    (drop (k + 1) all, sym (take-append-drop (k + 1) all) ∙ ap (λ (l : List Page). l ++ drop (k + 1) all) more, more)
+    take_more all k page inside ∙ ap (λ (p : FilePage). take k all ++ p ∷ []) (get_or-selected o size file k n page is below) in
+    (drop (k + 1) all, sym (take-append-drop (k + 1) all) ∙ ap (λ (l : List FilePage). l ++ drop (k + 1) all) more, more)
 
 -- The first k of the pages that are asked for were looked at.
 pub record Seen (o : Options) (size : ℕ) (file : List ℕ) (k : ℕ) (tally : Tally) (before now : Option (List ℕ)) : Type 0 where
@@ -72,8 +72,8 @@ pub seen_none : (o : Options) (size : ℕ) (file : List ℕ) (k : ℕ) (tally : 
 seen_none o size file k tally given none tallies = subst (λ (j : ℕ). Seen o size file j tally given given) (sym none) (record { tally_is = tallies; few = omega arith; given = extended-nil given })
 
 -- the page at a number is what was read
-page_is : (size : ℕ) (file : List ℕ) (n : ℕ) (bytes : List ℕ) → bytes ≡ take size (drop (n * size) file) → ◌≡◌ {A = Page} (record { number = n; bytes = bytes }) (page_at size file n)
-page_is size file n bytes is = ap (λ (b : List ℕ). let page : Page = record { number = n; bytes = b } in page) is
+page_is : (size : ℕ) (file : List ℕ) (n : ℕ) (bytes : List ℕ) → bytes ≡ take size (drop (n * size) file) → ◌≡◌ {A = FilePage} (record { number = n; bytes = bytes }) (nth_page size file n)
+page_is size file n bytes is = ap (λ (b : List ℕ). let page : FilePage = record { number = n; bytes = b } in page) is
 
 -- a page within the file
 pub page_room : (number size n : ℕ) → number < n / size → (number + 1) * size ≤ n
@@ -86,7 +86,7 @@ seen_partly o size file k tally before now count rest seen =
     let all = selected o (whole_pages size file) in
     let t = report_front o (take k all) (drop k all) count rest seen.few in
     front_given (lines (take k all)) t.0 (report_of o all count rest).text before now
-    (ap (λ (l : List Page). (report_of o l count rest).text) (sym (take-append-drop k all)) ∙ t.1) seen.given
+    (ap (λ (l : List FilePage). (report_of o l count rest).text) (sym (take-append-drop k all)) ∙ t.1) seen.given
 
 -- a fault while the line of a page is given
 pub look_partly : (o : Options) (size : ℕ) (file : List ℕ) (k n : ℕ) (bytes : List ℕ) (tally : Tally) (before mid now : Option (List ℕ)) (count rest : ℕ)
@@ -95,30 +95,30 @@ pub look_partly : (o : Options) (size : ℕ) (file : List ℕ) (k n : ℕ) (byte
     → IsPartlyGiven (report_of o (selected o (whole_pages size file)) count rest).text before now
 look_partly o size file k n bytes tally before mid now count rest seen place below is part =
     let all = selected o (whole_pages size file) in
-    let page = page_at size file n in
+    let page = nth_page size file n in
     let parts = selected_split o size file k n place below in
     let t = report_after o (take k all) page parts.0 count rest seen.few in
     part_given (lines (take k all)) (line_of_page page) t.0 (report_of o all count rest).text before mid now
-    (ap (λ (l : List Page). (report_of o l count rest).text) parts.1 ∙ t.1) seen.given
-    (subst (λ (p : Page). IsPartlyGiven (line_of_page p) mid now) (page_is size file n bytes is) part)
+    (ap (λ (l : List FilePage). (report_of o l count rest).text) parts.1 ∙ t.1) seen.given
+    (subst (λ (p : FilePage). IsPartlyGiven (line_of_page p) mid now) (page_is size file n bytes is) part)
 
 pub look_next : (o : Options) (size : ℕ) (file : List ℕ) (k n : ℕ) (bytes : List ℕ) (tally tally' : Tally) (before mid now : Option (List ℕ))
     → Seen o size file k tally before mid → o.first + k ≡ n → n < min (o.last + 1) (length file / size) → length file < 2 ^ 64 → bytes ≡ take size (drop (n * size) file)
-    → ((pages : List Page) → length pages + 1 < 2 ^ 64 → IsTally pages tally → IsTally (pages ++ record { number = n; bytes = bytes } ∷ []) tally')
+    → ((pages : List FilePage) → length pages + 1 < 2 ^ 64 → IsTally pages tally → IsTally (pages ++ record { number = n; bytes = bytes } ∷ []) tally')
     → now ≡ extended (line_of_page (record { number = n; bytes = bytes })) mid → Looks o size file (k + 1) tally' before now
 look_next o size file k n bytes tally tally' before mid now seen place below fits is counts line =
     let all = selected o (whole_pages size file) in
-    let page = page_at size file n in
+    let page = nth_page size file n in
     let parts = selected_split o size file k n place below in
     let same = page_is size file n bytes is in
     let long = length-take k all in
     let short : length (take k all) + 1 < 2 ^ 64 = omega (arith, long, place, below, fits) in
-    let tallied = subst (λ (p : Page). IsTally (take k all ++ p ∷ []) tally') same (counts (take k all) short seen.tally_is) in
-    let given = given_then before mid now (lines (take k all)) (line_of_page page) seen.given (subst (λ (p : Page). now ≡ extended (line_of_page p) mid) same line) in
+    let tallied = subst (λ (p : FilePage). IsTally (take k all ++ p ∷ []) tally') same (counts (take k all) short seen.tally_is) in
+    let given = given_then before mid now (lines (take k all)) (line_of_page page) seen.given (subst (λ (p : FilePage). now ≡ extended (line_of_page p) mid) same line) in
     let most = few_push (take k all) page in
     record {
-      tally_is = subst (λ (l : List Page). IsTally l tally') (sym parts.2) tallied;
-      most = subst (λ (l : List Page). length (mismatches l) ≤ o.allowed + 1) (sym parts.2) (omega (arith, most, seen.few));
+      tally_is = subst (λ (l : List FilePage). IsTally l tally') (sym parts.2) tallied;
+      most = subst (λ (l : List FilePage). length (mismatches l) ≤ o.allowed + 1) (sym parts.2) (omega (arith, most, seen.few));
       given = given ∙ ap (λ (t : List ℕ). extended t before) (sym (ap lines parts.2 ∙ lines_push (take k all) page));
     }
 
@@ -143,7 +143,7 @@ looks_stop o size file k tally before now count rest looks past =
     let most = looks.most in
     let many : length (mismatches (take k all)) ≡ o.allowed + 1 = omega (arith, is_count, long, most, past) in (
       omega (arith, is_count, long, many),
-      ap (λ (l : List Page). report_of o l count rest) (sym (take-append-drop k all)) ∙ report_stop o (take k all) (drop k all) count rest many,
+      ap (λ (l : List FilePage). report_of o l count rest) (sym (take-append-drop k all)) ∙ report_stop o (take k all) (drop k all) count rest many,
     )
 
 -- a fault while it is said that the look stops
@@ -169,17 +169,17 @@ stop_agrees o size file k tally before mid now count rest looks past line =
     )
 
 -- all that is asked for was looked at
-pub seen_all : (o : Options) (size : ℕ) (file : List ℕ) (k : ℕ) (looked : Looked) (before now : Option (List ℕ)) → Seen o size file k looked.tally before now
+pub seen_all : (o : Options) (size : ℕ) (file : List ℕ) (k : ℕ) (looked : PageScan) (before now : Option (List ℕ)) → Seen o size file k looked.tally before now
     → min (o.last + 1) (length file / size) ≤ o.first + k → looked.whole ≡ length file / size → looked.rest ≡ length file % size
-    → IsLooked (selected o (whole_pages size file)) (length file / size) (length file % size) o.allowed before now looked
+    → IsPageScan (selected o (whole_pages size file)) (length file / size) (length file % size) o.allowed before now looked
 seen_all o size file k looked before now seen done whole rest =
     let all = selected o (whole_pages size file) in
     let long = length-selected o size file in
     let whole_list : take k all ≡ all = take_all k all (omega (arith, long, done)) in
     record {
-      tally = subst (λ (l : List Page). IsTally l looked.tally) whole_list seen.tally_is;
+      tally = subst (λ (l : List FilePage). IsTally l looked.tally) whole_list seen.tally_is;
       whole = whole;
       rest_is = rest;
-      few = subst (λ (l : List Page). length (mismatches l) ≤ o.allowed) whole_list seen.few;
-      given = subst (λ (l : List Page). now ≡ extended (lines l) before) whole_list seen.given;
+      few = subst (λ (l : List FilePage). length (mismatches l) ≤ o.allowed) whole_list seen.few;
+      given = subst (λ (l : List FilePage). now ≡ extended (lines l) before) whole_list seen.given;
     }

@@ -6,7 +6,7 @@ use Rattle.std.proofs.lemmas.List.Sums.{AllPass-from_list_all, list_all-from_All
 use Rattle.page_text.specs.State.{IsState, IsZero, computed_sum, stored_sum}
 use Rattle.page_text.specs.declared.state.PageState.{PageState}
 use Rattle.page_text.specs.declared.state.PageState.TheVariants.{Bad, Valid, Zero}
-use Rattle.innochecksum_cli.specs.Pages.{Page, is_mismatch, is_zero}
+use Rattle.innochecksum_cli.specs.Pages.{FilePage, is_mismatch, is_zero}
 use Rattle.innochecksum_cli.specs.Lines.{line_of_page, mismatch_line}
 use Rattle.innochecksum_cli.specs.States.{is_bad_state, is_zero_state}
 
@@ -38,7 +38,7 @@ bad_is bytes number (Bad stored computed) h =
 pub bad_line : (bytes : List ℕ) (number stored computed : ℕ) → IsState bytes (Bad stored computed)
     → mismatch_line number stored computed ≡ line_of_page (record { number = number; bytes = bytes })
 bad_line bytes number stored computed h =
-    let page : Page = record { number = number; bytes = bytes } in
+    let page : FilePage = record { number = number; bytes = bytes } in
     ap₂ (mismatch_line number) h.1 h.2
     ∙ ap (λ (b : Bool). cond b (mismatch_line number (stored_sum bytes) (computed_sum bytes)) []) (bad_is bytes number (Bad stored computed) h)
 

@@ -5,14 +5,14 @@ use Rattle.std.proofs.lemmas.Bool.{cases_eq, eq-eqb, ne_eqb}
 use Rattle.std.proofs.lemmas.List.{get_or-set_other, get_or-set_same}
 use Rattle.std.proofs.lemmas.List.Sums.{count_by-le-length, sum_by_push}
 use Rattle.byte_list.specs.Fields.{be16_at}
-use Rattle.innochecksum_cli.specs.Pages.{Page, is_of_kind, is_zero}
+use Rattle.innochecksum_cli.specs.Pages.{FilePage, is_of_kind, is_zero}
 
 one_at_most : (b : Bool) → cond b 1 0 ≤ 1
 one_at_most true = omega arith
 one_at_most false = omega arith
 
 -- a count with one page more, which never passes the end of a u64
-pub counted_push : (p : Page → Bool) (pages : List Page) (x : Page) (count new : ℕ) (more : Bool) → length pages + 1 < 2 ^ 64
+pub counted_push : (p : FilePage → Bool) (pages : List FilePage) (x : FilePage) (count new : ℕ) (more : Bool) → length pages + 1 < 2 ^ 64
     → count ≡ count_by p pages → more ≡ p x → new ≡ min (count + cond more 1 0) (2 ^ 64 - 1) → new ≡ count_by p (pages ++ x ∷ [])
 counted_push p pages x count new more short is same made =
     let step = sum_by_push (λ y. cond (p y) 1 0) pages x in
@@ -22,7 +22,7 @@ counted_push p pages x count new more short is same made =
     omega (arith, step, most, small, bit, made, is)
 
 -- the same of each type, where the count of the page's own is written
-pub kinds_push : (pages : List Page) (x : Page) (kinds : List ℕ) (k new : ℕ) (used : Bool) → length pages + 1 < 2 ^ 64
+pub kinds_push : (pages : List FilePage) (x : FilePage) (kinds : List ℕ) (k new : ℕ) (used : Bool) → length pages + 1 < 2 ^ 64
     → ((kind : ℕ) → kind < 2 ^ 16 → get_or kinds kind 0 ≡ count_by (is_of_kind kind) pages)
     → k < length kinds → k < 2 ^ 16 → used ≡ not (is_zero x) → k ≡ be16_at x.bytes 24 → new ≡ min (get_or kinds k 0 + cond used 1 0) (2 ^ 64 - 1)
     → (kind : ℕ) → kind < 2 ^ 16 → get_or (set kinds k new) kind 0 ≡ count_by (is_of_kind kind) (pages ++ x ∷ [])

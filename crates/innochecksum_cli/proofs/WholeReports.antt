@@ -7,13 +7,13 @@ use Rattle.io_core.proofs.Streams.{given_then}
 use Rattle.byte_list.specs.Fields.{be32_at}
 use Rattle.space_head.specs.Sizes.{page_size}
 use Rattle.space_head.specs.declared.fault.HeadFault.{HeadFault}
-use Rattle.innochecksum_cli.specs.Pages.{Page, whole_pages}
+use Rattle.innochecksum_cli.specs.Pages.{FilePage, whole_pages}
 use Rattle.innochecksum_cli.specs.Lines.{pages_line}
-use Rattle.innochecksum_cli.specs.Looks.{IsLooked}
-use Rattle.innochecksum_cli.specs.Stops.{IsStop, status_of}
+use Rattle.innochecksum_cli.specs.Looks.{IsPageScan}
+use Rattle.innochecksum_cli.specs.Stops.{IsOutsideStatus, status_of}
 use Rattle.innochecksum_cli.specs.Inspection.{Agrees, Report, ending, inspected, is_cut, refused, report_of, selected, sized_report}
 use Rattle.innochecksum_cli.specs.declared.options.Options.{Options}
-use Rattle.innochecksum_cli.specs.declared.looks.Looked.{Looked}
+use Rattle.innochecksum_cli.specs.declared.looks.PageScan.{PageScan}
 use Rattle.innochecksum_cli.specs.declared.status.CheckStatus.{CheckStatus}
 use Rattle.innochecksum_cli.specs.declared.status.CheckStatus.TheVariants.{Done, Head, Missing, Short, Truncated}
 use Rattle.innochecksum_cli.proofs.Fronts.{extended-nil, front_given, none_given, part_given, stop_agrees_by}
@@ -58,28 +58,28 @@ status_is (Err s) status is = is
 
 -- a call that ends with one give of a whole text
 pub give_agrees : (r : Result (Unit {0}) CheckStatus) (text : List ℕ) (before now : Option (List ℕ)) → OnOk r (now ≡ extended text before)
-    → OnErr r (IsPartlyGiven text before now) → IfErr r IsStop → Agrees (record { text = text; status = Done }) before now (status_of r)
+    → OnErr r (IsPartlyGiven text before now) → IfErr r IsOutsideStatus → Agrees (record { text = text; status = Done }) before now (status_of r)
 give_agrees (Ok u) text before now given part stop = (refl, given)
 give_agrees (Err status) text before now given part stop = stop_agrees_by (record { text = text; status = Done }) before now status stop part
 
-pub stopped_status : (r : Result (Unit {0}) CheckStatus) (report : Report) (before now : Option (List ℕ)) → IsErrAnd r IsStop → IsPartlyGiven report.text before now
+pub stopped_status : (r : Result (Unit {0}) CheckStatus) (report : Report) (before now : Option (List ℕ)) → IsErrAnd r IsOutsideStatus → IsPartlyGiven report.text before now
     → Agrees report before now (status_of r)
 stopped_status (Ok u) report before now stop part = absurd stop
 stopped_status (Err status) report before now stop part = stop_agrees_by report before now status stop part
 
 -- the pages were looked at, and the ending isn't given yet
-pub looked_partly : (o : Options) (pages : List Page) (count rest : ℕ) (before now : Option (List ℕ)) (looked : Looked) → IsLooked pages count rest o.allowed before now looked
+pub looked_partly : (o : Options) (pages : List FilePage) (count rest : ℕ) (before now : Option (List ℕ)) (looked : PageScan) → IsPageScan pages count rest o.allowed before now looked
     → IsPartlyGiven (report_of o pages count rest).text before now
 looked_partly o pages count rest before now looked is =
     front_given (lines pages) (ending o pages count rest) (report_of o pages count rest).text before now
     (ap (λ (r : Report). r.text) (report_end o pages count rest is.few)) is.given
 
-ending_same : (o : Options) (pages : List Page) (count rest : ℕ) (before now : Option (List ℕ)) (looked : Looked) → IsLooked pages count rest o.allowed before now looked
+ending_same : (o : Options) (pages : List FilePage) (count rest : ℕ) (before now : Option (List ℕ)) (looked : PageScan) → IsPageScan pages count rest o.allowed before now looked
     → ending o pages looked.whole looked.rest ≡ ending o pages count rest
 ending_same o pages count rest before now looked is = ap₂ (ending o pages) is.whole is.rest_is
 
 -- a part of the ending was given
-pub ending_partly : (o : Options) (pages : List Page) (count rest : ℕ) (before mid now : Option (List ℕ)) (looked : Looked) (text : List ℕ) → IsLooked pages count rest o.allowed before mid looked
+pub ending_partly : (o : Options) (pages : List FilePage) (count rest : ℕ) (before mid now : Option (List ℕ)) (looked : PageScan) (text : List ℕ) → IsPageScan pages count rest o.allowed before mid looked
     → text ≡ ending o pages looked.whole looked.rest → IsPartlyGiven text mid now → IsPartlyGiven (report_of o pages count rest).text before now
 ending_partly o pages count rest before mid now looked text is end part =
     let whole = ap (λ (r : Report). r.text) (report_end o pages count rest is.few) in
@@ -89,7 +89,7 @@ ending_partly o pages count rest before mid now looked text is end part =
     (subst (λ (t : List ℕ). IsPartlyGiven t mid now) same part)
 
 -- the ending was given, and the status is its own
-pub ending_given : (o : Options) (pages : List Page) (count rest : ℕ) (before mid now : Option (List ℕ)) (looked : Looked) (text : List ℕ) (status : CheckStatus) → IsLooked pages count rest o.allowed before mid looked
+pub ending_given : (o : Options) (pages : List FilePage) (count rest : ℕ) (before mid now : Option (List ℕ)) (looked : PageScan) (text : List ℕ) (status : CheckStatus) → IsPageScan pages count rest o.allowed before mid looked
     → text ≡ ending o pages looked.whole looked.rest → now ≡ extended text mid → status ≡ cond (is_cut o looked.whole looked.rest) Truncated Done
     → (status ≡ (report_of o pages count rest).status) × (now ≡ extended (report_of o pages count rest).text before)
 ending_given o pages count rest before mid now looked text status is end given ends =
@@ -102,7 +102,7 @@ ending_given o pages count rest before mid now looked text status is end given e
     )
 
 -- the first call on the library answered no length
-pub length_agrees : (o : Options) (found : Option (List ℕ)) (status : CheckStatus) (given : Option (List ℕ)) → ((status ≡ Missing) × (found ≡ None)) ⊎ IsStop status
+pub length_agrees : (o : Options) (found : Option (List ℕ)) (status : CheckStatus) (given : Option (List ℕ)) → ((status ≡ Missing) × (found ≡ None)) ⊎ IsOutsideStatus status
     → Agrees (inspected o found) given given status
 length_agrees o found status given (inl absent) =
     subst (λ (s : CheckStatus). Agrees (inspected o found) given given s) (sym absent.0)
@@ -118,7 +118,7 @@ short_agrees o found file bytes given is same short =
 
 -- the flags name no size
 pub size_agrees : (o : Options) (found : Option (List ℕ)) (file : List ℕ) (status : CheckStatus) (given : Option (List ℕ)) → found ≡ Some file → 4096 ≤ length file
-    → ((fault : HeadFault) × (status ≡ Head fault) × (page_size (be32_at file 54) ≡ Err fault)) ⊎ IsStop status → Agrees (inspected o found) given given status
+    → ((fault : HeadFault) × (status ≡ Head fault) × (page_size (be32_at file 54) ≡ Err fault)) ⊎ IsOutsideStatus status → Agrees (inspected o found) given given status
 size_agrees o found file status given is fits (inl head) =
     subst (λ (s : CheckStatus). Agrees (inspected o found) given given s) (sym head.1)
     (agrees_same (inspected o found) (refused (Head head.0)) given given (Head head.0) (ap (inspected o) is ∙ inspected_head o file head.0 fits head.2) (refl, extended-nil given))

@@ -6,7 +6,7 @@ use Rattle.byte_list.specs.Fields.{be32_at}
 use Rattle.space_head.specs.Sizes.{page_size}
 use Rattle.space_head.specs.declared.fault.HeadFault.{HeadFault}
 use Rattle.io_core.specs.Stream.{IsPartlyGiven, extended}
-use Rattle.innochecksum_cli.specs.Pages.{Page, is_mismatch, whole_pages}
+use Rattle.innochecksum_cli.specs.Pages.{FilePage, is_mismatch, whole_pages}
 use Rattle.innochecksum_cli.specs.Lines.{checked_line, line_of_mismatch, pages_line, stopped_line, summary, truncated_line}
 use Rattle.innochecksum_cli.specs.declared.options.Options.{Options}
 use Rattle.innochecksum_cli.specs.declared.status.CheckStatus.{CheckStatus}
@@ -18,10 +18,10 @@ pub record Report : Type 0 where
   pub status : CheckStatus
 
 -- the pages from the first that is asked for to the last, both included
-abbrev pub selected : Options → List Page → List Page
+abbrev pub selected : Options → List FilePage → List FilePage
 selected options pages = drop options.first (take (options.last + 1) pages)
 
-abbrev pub mismatches : List Page → List Page
+abbrev pub mismatches : List FilePage → List FilePage
 mismatches pages = filter is_mismatch pages
 
 -- the rest of the file is a cut page, and that page is asked for
@@ -29,14 +29,14 @@ abbrev pub is_cut : Options → ℕ → ℕ → Bool
 is_cut options count rest = not (rest == 0) && (nat_le options.first count && nat_le count options.last)
 
 -- what is printed past the mismatches, where no more than the permitted number was met
-abbrev pub ending : Options → List Page → ℕ → ℕ → List ℕ
+abbrev pub ending : Options → List FilePage → ℕ → ℕ → List ℕ
 ending options looked count rest =
     (if options.summary then summary looked else [])
     ++ (checked_line (length looked) (length (mismatches looked))
     ++ (if is_cut options count rest then truncated_line count rest else []))
 
 -- what is printed of the pages that were looked at
-abbrev pub report_of : Options → List Page → ℕ → ℕ → Report
+abbrev pub report_of : Options → List FilePage → ℕ → ℕ → Report
 report_of options looked count rest =
     if nat_lt options.allowed (length (mismatches looked)) then record {
       text = flat_map line_of_mismatch (take (options.allowed + 1) (mismatches looked)) ++ stopped_line (options.allowed + 1) options.allowed;

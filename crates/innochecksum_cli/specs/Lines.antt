@@ -3,7 +3,7 @@ use Rattle.std.specs.Prelude.{ℕ, ◌^◌, ◌-◌, ◌==◌, false, List, [], 
 use Rattle.std.specs.List.{flat_map, list_any, range_with_len}
 use Rattle.std.specs.Fmt.{decimal, digits, format_spec, padded_integral}
 use Rattle.page_text.specs.State.{computed_sum, stored_sum}
-use Rattle.innochecksum_cli.specs.Pages.{Page, is_ciphered, is_mismatch, is_of_kind, is_zero}
+use Rattle.innochecksum_cli.specs.Pages.{FilePage, is_ciphered_page, is_mismatch, is_of_kind, is_zero}
 
 -- a checksum in eight hex digits of lower case
 abbrev pub hex_sum : ℕ → List ℕ
@@ -16,7 +16,7 @@ abbrev pub mismatch_line : ℕ → ℕ → ℕ → List ℕ
 mismatch_line number stored computed =
     codes "page " ++ (decimal number ++ (codes " stored " ++ (hex_sum stored ++ (codes " computed " ++ (hex_sum computed ++ codes "\n")))))
 
-abbrev pub line_of_mismatch : Page → List ℕ
+abbrev pub line_of_mismatch : FilePage → List ℕ
 line_of_mismatch page = mismatch_line page.number (stored_sum page.bytes) (computed_sum page.bytes)
 
 abbrev pub stopped_line : ℕ → ℕ → List ℕ
@@ -32,7 +32,7 @@ truncated_line number bytes =
     codes "truncated page " ++ (decimal number ++ (codes " bytes " ++ (decimal bytes ++ codes "\n")))
 
 -- a page's own line, where it is a mismatch
-abbrev pub line_of_page : Page → List ℕ
+abbrev pub line_of_page : FilePage → List ℕ
 line_of_page page = if is_mismatch page then line_of_mismatch page else []
 
 -- the names of the page types, which are this project's own
@@ -63,12 +63,12 @@ abbrev pub ciphered_line : ℕ → List ℕ
 ciphered_line count = codes "ciphered " ++ (decimal count ++ codes "\n")
 
 -- a line for each of the types below a bound that some page has, ascending
-unfoldable pub kind_lines : ℕ → List Page → List ℕ
+unfoldable pub kind_lines : ℕ → List FilePage → List ℕ
 kind_lines bound pages =
     flat_map (λ kind. kind_line kind (count_by (is_of_kind kind) pages))
     (filter (λ kind. list_any (is_of_kind kind) pages) (range_with_len 0 bound))
 
 -- what pages are: the types of those that aren't zero, those that are, and those that are ciphered
-abbrev pub summary : List Page → List ℕ
+abbrev pub summary : List FilePage → List ℕ
 summary pages =
-    kind_lines (2 ^ 16) pages ++ (unused_line (count_by is_zero pages) ++ ciphered_line (count_by is_ciphered pages))
+    kind_lines (2 ^ 16) pages ++ (unused_line (count_by is_zero pages) ++ ciphered_line (count_by is_ciphered_page pages))

@@ -17,17 +17,17 @@ out_stop Failed = OutFault
 out_stop NoMemory = OutOfMemory
 
 -- a fault of the library or of the sink, or want of memory
-abbrev pub IsStop : CheckStatus → Type 0
-IsStop FileFault = Unit {0}
-IsStop OutFault = Unit {0}
-IsStop OutOfMemory = Unit {0}
-IsStop Done = ⊥
-IsStop Mismatch = ⊥
-IsStop Truncated = ⊥
-IsStop (Short length) = ⊥
-IsStop (Head fault) = ⊥
-IsStop Usage = ⊥
-IsStop Missing = ⊥
+abbrev pub IsOutsideStatus : CheckStatus → Type 0
+IsOutsideStatus FileFault = Unit {0}
+IsOutsideStatus OutFault = Unit {0}
+IsOutsideStatus OutOfMemory = Unit {0}
+IsOutsideStatus Done = ⊥
+IsOutsideStatus Mismatch = ⊥
+IsOutsideStatus Truncated = ⊥
+IsOutsideStatus (Short length) = ⊥
+IsOutsideStatus (Head fault) = ⊥
+IsOutsideStatus Usage = ⊥
+IsOutsideStatus Missing = ⊥
 
 -- The counts of a library never fall, and a call stops for it only where they rose.
 pub record LibraryCauses {T : Type 0} (faults faults' absences absences' : ℕ) (result : Result T CheckStatus) : Type 0 where
@@ -51,14 +51,14 @@ pub record OfFile (P : List ℕ → Type 0) (name : List ℕ) (files : Option Fi
   pub here : (fs : Files) (file : List ℕ) → files ≡ Some fs → fs name ≡ Some file → P file
 
 -- the number that the program ends with
-abbrev pub number_of : CheckStatus → ℕ
-number_of Done = 0
-number_of Mismatch = 1
-number_of Truncated = 1
-number_of (Short length) = 1
-number_of (Head fault) = 1
-number_of Usage = 2
-number_of Missing = 3
-number_of FileFault = 7
-number_of OutFault = 7
-number_of OutOfMemory = 8
+abbrev pub check_exit_code : CheckStatus → ℕ
+check_exit_code Done = 0
+check_exit_code Mismatch = 1
+check_exit_code Truncated = 1
+check_exit_code (Short length) = 1
+check_exit_code (Head fault) = 1
+check_exit_code Usage = 2
+check_exit_code Missing = 3
+check_exit_code FileFault = 7
+check_exit_code OutFault = 7
+check_exit_code OutOfMemory = 8

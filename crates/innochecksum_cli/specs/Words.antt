@@ -67,9 +67,9 @@ options_of value = record {
   summary = is_flagged (value (codes "page-type-summary"));
 }
 
-unfoldable pub name_of : Values → Text
-name_of value = unwrap_or (value (codes "FILE")) []
+unfoldable pub file_name_of : Values → Text
+file_name_of value = unwrap_or (value (codes "FILE")) []
 
 -- The report on the file that the words name, as they ask for it.
 unfoldable pub inspect_words : {Z : Type 0} → List (String Z) → Files → Report
-inspect_words words files = inspected (options_of (values_in words)) (files (name_of (values_in words)))
+inspect_words words files = inspected (options_of (values_in words)) (files (file_name_of (values_in words)))

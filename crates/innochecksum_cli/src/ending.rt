@@ -1,19 +1,19 @@
 // What is printed past the mismatches.
 ghost use Rattle.std.specs.Prelude.{◌≡◌, ◌<◌, ◌++◌, [], ℕ, List, IfOk, OnOk, length, count_by, slice_index, string_bytes, if◌then◌else◌};
-ghost use Rattle.innochecksum_cli.specs.Pages.{Page, is_of_kind};
+ghost use Rattle.innochecksum_cli.specs.Pages.{FilePage, is_of_kind};
 ghost use Rattle.innochecksum_cli.specs.Lines.{kind_lines, summary, truncated_line};
 ghost use Rattle.innochecksum_cli.specs.Tallies.{IsTally};
 ghost use Rattle.innochecksum_cli.specs.Inspection.{ending, is_cut};
 
 use crate::Options;
 use crate::lines::{checked_line, ciphered_line, kind_line, truncated_line, unused_line};
-use crate::looks::Looked;
+use crate::looks::PageScan;
 use crate::tally::Tally;
 use std::alloc::{AllocError, Global};
 
 /// The lines of the page types, of which `kinds` has the counts.
 fn kind_lines(alloc: Global, kinds: &[u64]) -> Result<String, AllocError>
-    ensures { IfOk result (λ text. (pages : List Page) → ((kind : ℕ) → kind < length kinds.now → slice_index kinds.now kind ≡ count_by (is_of_kind kind) pages)
+    ensures { IfOk result (λ text. (pages : List FilePage) → ((kind : ℕ) → kind < length kinds.now → slice_index kinds.now kind ≡ count_by (is_of_kind kind) pages)
         → string_bytes text ≡ kind_lines (length kinds.now) pages) }
 {
     let mut text = String::new(alloc);
@@ -28,7 +28,7 @@ fn kind_lines(alloc: Global, kinds: &[u64]) -> Result<String, AllocError>
 
 /// What the pages are.
 fn summary(alloc: Global, tally: &Tally) -> Result<String, AllocError>
-    ensures { IfOk result (λ text. (pages : List Page) → IsTally pages tally.now → string_bytes text ≡ summary pages) }
+    ensures { IfOk result (λ text. (pages : List FilePage) → IsTally pages tally.now → string_bytes text ≡ summary pages) }
 {
     let mut text = kind_lines(alloc, &tally.kinds)?;
     let unused = unused_line(alloc, tally.unused)?;
@@ -40,7 +40,7 @@ fn summary(alloc: Global, tally: &Tally) -> Result<String, AllocError>
 
 /// What the pages are, where that is asked for.
 fn asked_summary(alloc: Global, options: &Options, tally: &Tally) -> Result<String, AllocError>
-    ensures { IfOk result (λ text. (pages : List Page) → IsTally pages tally.now
+    ensures { IfOk result (λ text. (pages : List FilePage) → IsTally pages tally.now
         → string_bytes text ≡ (if options.now.summary then summary pages else [])) }
 {
     if options.summary {
@@ -70,8 +70,8 @@ fn cut_text(alloc: Global, options: &Options, whole: u64, rest: u64) -> Result<S
 
 /// The summary where it is asked for, how many pages were looked at, and whether the file ends within
 /// a page that is asked for.
-pub fn ending(alloc: Global, options: &Options, looked: &Looked) -> Result<String, AllocError>
-    ensures { IfOk result (λ text. (pages : List Page) → IsTally pages looked.now.tally
+pub fn ending(alloc: Global, options: &Options, looked: &PageScan) -> Result<String, AllocError>
+    ensures { IfOk result (λ text. (pages : List FilePage) → IsTally pages looked.now.tally
         → string_bytes text ≡ ending options.now pages looked.now.whole looked.now.rest) }
 {
     let tally = &looked.tally;

@@ -1,6 +1,6 @@
 // What the program ends with.
 ghost use Rattle.std.specs.Prelude.{◌≡◌, [], IfOk, string_bytes};
-ghost use Rattle.innochecksum_cli.specs.Stops.{number_of};
+ghost use Rattle.innochecksum_cli.specs.Stops.{check_exit_code};
 ghost use Rattle.innochecksum_cli.specs.StatusLines.{head_text, status_line};
 
 use crate::CheckStatus;
@@ -9,7 +9,7 @@ use std::alloc::{AllocError, Global};
 
 /// What the program ends with.
 #[derive(Drop)]
-pub struct Ended {
+pub struct ProgramEnd {
     /// The number for the system.
     pub number: u8,
     /// The line for standard error, empty where there is none.
@@ -58,12 +58,12 @@ fn status_line(alloc: Global, status: CheckStatus, name: &str) -> Result<String,
 }
 
 /// What a status comes to, `name` being the file's. `Done` has no line.
-pub fn end_with(alloc: Global, status: CheckStatus, name: &str) -> Result<Ended, AllocError>
-    ensures number { IfOk result (λ ended. ended.number ≡ number_of status) }
+pub fn end_with(alloc: Global, status: CheckStatus, name: &str) -> Result<ProgramEnd, AllocError>
+    ensures number { IfOk result (λ ended. ended.number ≡ check_exit_code status) }
     ensures line { IfOk result (λ ended. string_bytes ended.line ≡ status_line status name.now) }
 {
     let line = status_line(alloc, status, name)?;
-    Ok(Ended {
+    Ok(ProgramEnd {
         number: status.number(),
         line,
     })

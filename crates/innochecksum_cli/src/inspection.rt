@@ -6,7 +6,7 @@ ghost use Rattle.innochecksum_cli.specs.Inspection.{Agrees, inspected, sized_rep
 ghost use Rattle.innochecksum_cli.specs.Heads.{IsLengthAnswer, IsSizeAnswer};
 ghost use Rattle.cause_core.specs.Counts.{Rose};
 ghost use Rattle.byte_list.specs.Fields.{be32_at};
-ghost use Rattle.innochecksum_cli.specs.Stops.{IsStop, LibraryCauses, OfFile, SinkCauses, status_of};
+ghost use Rattle.innochecksum_cli.specs.Stops.{IsOutsideStatus, LibraryCauses, OfFile, SinkCauses, status_of};
 
 use crate::ending::{ending, is_cut};
 use crate::lines::pages_line;
@@ -27,7 +27,7 @@ const MOST: usize = 65536;
 /// The length of the file in bytes.
 fn length_of<L: Library>(files: &mut L, name: &str) -> Result<u64, CheckStatus>
     ensures answer { Told (λ fs. IsLengthAnswer (fs name.now) result) (L.files files.old) }
-    ensures statuses { IfErr result (λ status. (status ≡ CheckStatus.Missing) ⊎ IsStop status) }
+    ensures statuses { IfErr result (λ status. (status ≡ CheckStatus.Missing) ⊎ IsOutsideStatus status) }
     ensures same { L.files files.new ≡ L.files files.old }
     ensures library { LibraryCauses (L.faults files.old) (L.faults files.new) (L.absences files.old) (L.absences files.new) result }
     ensures inside { result ≢ Err CheckStatus.OutFault }

@@ -28,12 +28,12 @@ mod tally;
 mod top;
 mod words;
 
-pub use endings::{Ended, end_with};
+pub use endings::{ProgramEnd, end_with};
 pub use inspection::inspect;
 pub use options::Options;
 pub use status::CheckStatus;
 pub use top::innochecksum;
-pub use words::{Asked, read_words};
+pub use words::{CheckRequest, read_words};
 
 #[cfg(test)]
 mod tests;

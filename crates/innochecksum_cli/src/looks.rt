@@ -3,12 +3,12 @@ ghost use Rattle.std.specs.Prelude.{◌≡◌, ◌≢◌, ◌+◌, ◌*◌, ◌/
 ghost use Rattle.space_head.specs.Sizes.{IsPageSize};
 ghost use Rattle.page_text.specs.State.{IsState};
 ghost use Rattle.io_core.specs.Stream.{IsPartlyGiven, extended};
-ghost use Rattle.innochecksum_cli.specs.Pages.{Page, page_at, whole_pages};
+ghost use Rattle.innochecksum_cli.specs.Pages.{FilePage, nth_page, whole_pages};
 ghost use Rattle.innochecksum_cli.specs.Lines.{line_of_page, stopped_line};
 ghost use Rattle.innochecksum_cli.specs.Tallies.{IsTally};
 ghost use Rattle.innochecksum_cli.specs.Inspection.{Agrees, report_of, selected};
-ghost use Rattle.innochecksum_cli.specs.Looks.{IsLooked};
-ghost use Rattle.innochecksum_cli.specs.Stops.{IsStop, LibraryCauses, OfFile, SinkCauses};
+ghost use Rattle.innochecksum_cli.specs.Looks.{IsPageScan};
+ghost use Rattle.innochecksum_cli.specs.Stops.{IsOutsideStatus, LibraryCauses, OfFile, SinkCauses};
 
 use crate::lines::{mismatch_line, stopped_line};
 use crate::status::{file_stop, out_stop};
@@ -20,7 +20,7 @@ use std::alloc::Global;
 
 /// What the pages that were looked at add up to, and where the file ends.
 #[derive(Drop)]
-pub struct Looked {
+pub struct PageScan {
     pub tally: Tally,
     /// How many whole pages the file has.
     pub whole: u64,
@@ -32,7 +32,7 @@ pub struct Looked {
 pub fn give<K: Sink>(out: &mut K, text: &str) -> Result<(), CheckStatus>
     ensures ok { OnOk result (K.given out.new ≡ extended text.now (K.given out.old)) }
     ensures err { OnErr result (IsPartlyGiven text.now (K.given out.old) (K.given out.new)) }
-    ensures stop { IfErr result IsStop }
+    ensures stop { IfErr result IsOutsideStatus }
     ensures cause { SinkCauses (K.faults out.old) (K.faults out.new) result }
     ensures inside { (result ≢ Err CheckStatus.FileFault) }
 {
@@ -50,9 +50,9 @@ fn read_page<L: Library>(
     page: &mut [u8],
 ) -> Result<usize, CheckStatus>
     requires { number * length page.old < 2 ^ 64 }
-    ensures bytes { OfFile (λ file. (number + 1) * length page.old ≤ length file → IfOk result (λ n. (n ≡ length page.old) × (page.new ≡ (page_at (length page.old) file number).bytes))) name.now (L.files files.old) }
+    ensures bytes { OfFile (λ file. (number + 1) * length page.old ≤ length file → IfOk result (λ n. (n ≡ length page.old) × (page.new ≡ (nth_page (length page.old) file number).bytes))) name.now (L.files files.old) }
     ensures same { L.files files.new ≡ L.files files.old }
-    ensures stop { IfErr result IsStop }
+    ensures stop { IfErr result IsOutsideStatus }
     ensures cause { LibraryCauses (L.faults files.old) (L.faults files.new) (L.absences files.old) (L.absences files.new) result }
     ensures inside { result ≢ Err CheckStatus.OutFault }
 {
@@ -74,9 +74,9 @@ fn look_at<K: Sink>(
     requires { IsPageSize (length page.now) }
     ensures ok { OnOk result (K.given out.new ≡ extended (line_of_page (record { number = number; bytes = page.now })) (K.given out.old)) }
     ensures err { OnErr result (IsPartlyGiven (line_of_page (record { number = number; bytes = page.now })) (K.given out.old) (K.given out.new)) }
-    ensures counts { (pages : List Page) → length pages + 1 < 2 ^ 64 → IsTally pages tally.old
+    ensures counts { (pages : List FilePage) → length pages + 1 < 2 ^ 64 → IsTally pages tally.old
         → IsTally (pages ++ record { number = number; bytes = page.now } ∷ []) tally.new }
-    ensures stop { IfErr result IsStop }
+    ensures stop { IfErr result IsOutsideStatus }
     ensures cause { SinkCauses (K.faults out.old) (K.faults out.new) result }
     ensures inside { result ≢ Err CheckStatus.FileFault }
 {
@@ -98,7 +98,7 @@ fn stop<K: Sink>(
 ) -> Result<(), CheckStatus>
     ensures ok { OnOk result (K.given out.new ≡ extended (stopped_line mismatches allowed) (K.given out.old)) }
     ensures err { OnErr result (IsPartlyGiven (stopped_line mismatches allowed) (K.given out.old) (K.given out.new)) }
-    ensures stop { IfErr result IsStop }
+    ensures stop { IfErr result IsOutsideStatus }
     ensures cause { SinkCauses (K.faults out.old) (K.faults out.new) result }
     ensures inside { result ≢ Err CheckStatus.FileFault }
 {
@@ -117,12 +117,12 @@ pub fn look<L: Library, K: Sink>(
     page: &mut [u8],
     files: &mut L,
     out: &mut K,
-) -> Result<Looked, CheckStatus>
+) -> Result<PageScan, CheckStatus>
     requires { IsPageSize (length page.old) }
     ensures answer { OfFile (λ file. bytes ≡ length file
         → let size = length page.old in let count = length file / size in let rest = length file % size in
         let pages = selected options.now (whole_pages size file) in
-        MatchResult result (IsLooked pages count rest options.now.allowed (K.given out.old) (K.given out.new))
+        MatchResult result (IsPageScan pages count rest options.now.allowed (K.given out.old) (K.given out.new))
         (Agrees (report_of options.now pages count rest) (K.given out.old) (K.given out.new))) name.now (L.files files.old) }
     ensures same { L.files files.new ≡ L.files files.old }
     ensures library { LibraryCauses (L.faults files.old) (L.faults files.new) (L.absences files.old) (L.absences files.new) result }
@@ -136,7 +136,7 @@ pub fn look<L: Library, K: Sink>(
     for number in options.first..end {
         let count = read_page(files, name, number, page)?;
         if count < page.len() {
-            return Ok(Looked {
+            return Ok(PageScan {
                 tally,
                 whole: number,
                 rest: count as u64,
@@ -148,7 +148,7 @@ pub fn look<L: Library, K: Sink>(
             return Err(CheckStatus::Mismatch);
         }
     }
-    Ok(Looked {
+    Ok(PageScan {
         tally,
         whole,
         rest: bytes % size,

@@ -1,6 +1,6 @@
 // How an inspection ends.
 ghost use Rattle.std.specs.Prelude.{◌≡◌};
-ghost use Rattle.innochecksum_cli.specs.Stops.{file_stop, number_of, out_stop};
+ghost use Rattle.innochecksum_cli.specs.Stops.{file_stop, check_exit_code, out_stop};
 
 use io_core::IoError;
 use space_head::HeadFault;
@@ -65,7 +65,7 @@ pub(crate) fn out_stop(e: IoError) -> CheckStatus
 impl CheckStatus {
     /// The number that the program ends with.
     pub fn number(self) -> u8
-        ensures { result ≡ number_of self }
+        ensures { result ≡ check_exit_code self }
     {
         match self {
             CheckStatus::Done => 0,

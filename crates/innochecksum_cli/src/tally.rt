@@ -42,7 +42,7 @@ fn counted(count: u64, more: bool) -> u64
 
 impl Tally {
     ghost use Rattle.innochecksum_cli.specs.Tallies.{IsTally};
-    ghost use Rattle.innochecksum_cli.specs.Pages.{Page};
+    ghost use Rattle.innochecksum_cli.specs.Pages.{FilePage};
 
     /// No page was looked at.
     pub fn new(alloc: Global) -> Result<Tally, AllocError>
@@ -62,7 +62,7 @@ impl Tally {
     pub fn add(&mut self, page: &[u8], state: PageState)
         requires sized { IsPageSize (length page.now) }
         requires known { IsState page.now state }
-        ensures { (pages : List Page) (number : ℕ) → length pages + 1 < 2 ^ 64 → IsTally pages self.old
+        ensures { (pages : List FilePage) (number : ℕ) → length pages + 1 < 2 ^ 64 → IsTally pages self.old
             → IsTally (pages ++ record { number = number; bytes = page.now } ∷ []) self.new }
     {
         let is_used = !is_zero(state);

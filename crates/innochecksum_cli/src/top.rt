@@ -5,7 +5,7 @@ ghost use Rattle.io_core.specs.Told.{Told};
 ghost use Rattle.clap.specs.Words.{fault_of, kind_of, takes};
 ghost use Rattle.innochecksum_cli.specs.Inspection.{Agrees};
 ghost use Rattle.innochecksum_cli.specs.Stops.{LibraryCauses, SinkCauses};
-ghost use Rattle.innochecksum_cli.specs.Words.{command, inspect_words, name_of, values_in};
+ghost use Rattle.innochecksum_cli.specs.Words.{command, inspect_words, file_name_of, values_in};
 
 use crate::{CheckStatus, inspect, read_words};
 use clap::Error;
@@ -28,7 +28,7 @@ pub fn innochecksum<L: Library, K: Sink>(
     // The status is the report's and its text was given, or a fault or want of memory came after a front of it.
     ensures answer { result ≢ CheckStatus.Usage → Told (λ fs. Agrees (inspect_words words.now fs) (K.given out.old) (K.given out.new) result) (L.files files.old) }
     // Words that are taken, a file that is there, and no count that rose: the status is the report's, or memory was refused.
-    ensures complete { takes command (map string_bytes words.now) ≡ true → Told (λ fs. IsSome (fs (name_of (values_in words.now)))
+    ensures complete { takes command (map string_bytes words.now) ≡ true → Told (λ fs. IsSome (fs (file_name_of (values_in words.now)))
         → ¬ Rose (L.faults files.old) (L.faults files.new) → ¬ Rose (K.faults out.old) (K.faults out.new)
         → (result ≡ (inspect_words words.now fs).status) ⊎ (result ≡ CheckStatus.OutOfMemory)) (L.files files.old) }
     // For words that aren't taken nothing is given.

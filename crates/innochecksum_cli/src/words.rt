@@ -1,7 +1,7 @@
 // The words of the command line.
 ghost use Rattle.std.specs.Prelude.{◌≡◌, ◌∷◌, [], Some, IfOk, IfErr, OnOk, codes, map, string_bytes, true, false};
 ghost use Rattle.clap.specs.Words.{app_of, fault_of, first_value, found_of, kind_of, rule_of, takes};
-ghost use Rattle.innochecksum_cli.specs.Words.{command, file, flag, is_flagged, name_of, number, number_or, options_of, rules, values_in};
+ghost use Rattle.innochecksum_cli.specs.Words.{command, file, flag, is_flagged, file_name_of, number, number_or, options_of, rules, values_in};
 
 use crate::Options;
 use clap::error::ErrorKind;
@@ -10,7 +10,7 @@ use std::alloc::{AllocError, Global};
 
 /// What the words ask for: the file to inspect, and how.
 #[derive(Clone, Copy, Debug, PartialEq, Eq)]
-pub struct Asked<'a> {
+pub struct CheckRequest<'a> {
     /// The file's name.
     pub name: &'a str,
     /// How it is inspected.
@@ -135,9 +135,9 @@ fn number_or(matches: &ArgMatches<'_>, id: &str, other: u64) -> u64
     }
 }
 
-fn asked_by<'a>(matches: &ArgMatches<'a>) -> Asked<'a>
+fn asked_by<'a>(matches: &ArgMatches<'a>) -> CheckRequest<'a>
     ensures options { result.options ≡ options_of (first_value (found_of matches.now)) }
-    ensures name { result.name.now ≡ name_of (first_value (found_of matches.now)) }
+    ensures name { result.name.now ≡ file_name_of (first_value (found_of matches.now)) }
 {
     let start = number_or(matches, "start-page", 0);
     let end = number_or(matches, "end-page", u64::MAX);
@@ -148,7 +148,7 @@ fn asked_by<'a>(matches: &ArgMatches<'a>) -> Asked<'a>
         allowed: number_or(matches, "allow-mismatches", 0),
         summary: is_flagged(matches, "page-type-summary"),
     };
-    Asked {
+    CheckRequest {
         name: matches.get_str("FILE").unwrap_or(""),
         options,
     }
@@ -159,9 +159,9 @@ fn asked_by<'a>(matches: &ArgMatches<'a>) -> Asked<'a>
 /// # Errors
 /// `clap`'s own: of kind `OutOfMemory` where the machine had no memory, else a mistake in the words, or
 /// a call for help or for the version, with its text.
-pub fn read_words<'a>(alloc: Global, words: &'a [String]) -> Result<Asked<'a>, Error>
+pub fn read_words<'a>(alloc: Global, words: &'a [String]) -> Result<CheckRequest<'a>, Error>
     ensures options { IfOk result (λ asked. asked.options ≡ options_of (values_in words.entry.now)) }
-    ensures name { IfOk result (λ asked. asked.name.now ≡ name_of (values_in words.entry.now)) }
+    ensures name { IfOk result (λ asked. asked.name.now ≡ file_name_of (values_in words.entry.now)) }
     ensures accepted { OnOk result (fault_of command (map string_bytes words.entry.now) ≡ []) }
     ensures refused { IfErr result (λ e. takes command (map string_bytes words.entry.now) ≡ true → kind_of e ≡ ErrorKind.OutOfMemory) }
 {

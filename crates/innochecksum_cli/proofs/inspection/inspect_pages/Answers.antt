@@ -1,7 +1,7 @@
 use Rattle.std.proofs.Common.{◌≡◌, ◌/◌, ◌%◌, ℕ, Bool, List, length, cond, IsErrAnd, sym, ap, subst, ◌∙◌, arith, rules}
 use Rattle.innochecksum_cli.specs.Pages.{whole_pages}
 use Rattle.innochecksum_cli.specs.Lines.{pages_line}
-use Rattle.innochecksum_cli.specs.Stops.{IsStop, status_of}
+use Rattle.innochecksum_cli.specs.Stops.{IsOutsideStatus, status_of}
 use Rattle.innochecksum_cli.specs.Inspection.{Agrees, refused, report_of, selected, sized_report}
 use Rattle.innochecksum_cli.specs.declared.status.CheckStatus.{CheckStatus}
 use Rattle.innochecksum_cli.specs.declared.status.CheckStatus.TheVariants.{Done, Short, Truncated}
@@ -46,7 +46,7 @@ returns-in_err-looked-clause-answer g c =
 
 pub returns-in_err-text-clause-answer : goal.returns-in_err-text-clause-answer
 returns-in_err-text-clause-answer g c =
-    let stop : IsErrAnd c.from_residual-in_err-text.result IsStop = search rules in
+    let stop : IsErrAnd c.from_residual-in_err-text.result IsOutsideStatus = search rules in
     record {
       here = λ fs file is found same.
           let size = length c.args.page.now in
@@ -61,7 +61,7 @@ returns-in_err-text-clause-answer g c =
 
 pub returns-in_err-give-clause-answer : goal.returns-in_err-give-clause-answer
 returns-in_err-give-clause-answer g c =
-    let stop : IsErrAnd c.from_residual-in_err-give.result IsStop = search rules in
+    let stop : IsErrAnd c.from_residual-in_err-give.result IsOutsideStatus = search rules in
     record {
       here = λ fs file is found same.
           let size = length c.args.page.now in

@@ -1,18 +1,18 @@
 use Rattle.std.proofs.Common.{◌≡◌, ◌≤◌, ◌<◌, ◌+◌, ◌*◌, ◌-◌, ◌/◌, ◌%◌, ◌^◌, ℕ, min, length, take, drop, IsErrAnd, sym, ap, subst, ◌∙◌, arith, rules}
 use Rattle.std.proofs.Math.Nat.{div-le_self}
-use Rattle.innochecksum_cli.specs.Stops.{IsStop}
+use Rattle.innochecksum_cli.specs.Stops.{IsOutsideStatus}
 use Rattle.innochecksum_cli.proofs.Fronts.{none_given, stopped}
 use Rattle.innochecksum_cli.proofs.SelectedPages.{look_next, look_partly, looks_on, page_room, seen_all, seen_partly, stop_agrees, stop_partly}
 use Rattle.innochecksum_cli.proofs.looks.look.Goals as goal
 
 pub returns-in_err-tally-clause-answer : goal.returns-in_err-tally-clause-answer
 returns-in_err-tally-clause-answer g c =
-    let stop : IsErrAnd c.from_residual.result IsStop = search rules in
+    let stop : IsErrAnd c.from_residual.result IsOutsideStatus = search rules in
     record { here = λ fs file is found same. stopped c.from_residual.result _ _ _ _ stop (none_given _ _) }
 
 pub returns-in_err-count-clause-answer : goal.returns-in_err-count-clause-answer
 returns-in_err-count-clause-answer g c =
-    let stop : IsErrAnd c.from_residual-in_err-count.result IsStop = search rules in
+    let stop : IsErrAnd c.from_residual-in_err-count.result IsOutsideStatus = search rules in
     record {
       here = λ fs file is found same.
           stopped c.from_residual-in_err-count.result _ _ _ _ stop
@@ -38,7 +38,7 @@ returns-then-count-page-clause-answer g c = record {
 
 pub returns-in_err-look_at-clause-answer : goal.returns-in_err-look_at-clause-answer
 returns-in_err-look_at-clause-answer g c =
-    let stop : IsErrAnd c.from_residual-in_err-look_at.result IsStop = search rules in
+    let stop : IsErrAnd c.from_residual-in_err-look_at.result IsOutsideStatus = search rules in
     record {
       here = λ fs file is found same.
           let o = c.args.options.now in
@@ -61,7 +61,7 @@ returns-in_err-look_at-clause-answer g c =
 
 pub returns-in_err-stop-clause-answer : goal.returns-in_err-stop-clause-answer
 returns-in_err-stop-clause-answer g c =
-    let stop : IsErrAnd c.from_residual-in_err-stop.result IsStop = search rules in
+    let stop : IsErrAnd c.from_residual-in_err-stop.result IsOutsideStatus = search rules in
     record {
       here = λ fs file is found same.
           let o = c.args.options.now in

@@ -1,6 +1,6 @@
 use Rattle.std.proofs.Common.{◌≡◌, map, string_bytes, IsErrAnd, rules, sym, ap, ◌∙◌}
 use Rattle.clap.specs.Words.{App, app_of, fault_of, is_simple_and_free, takes}
-use Rattle.innochecksum_cli.specs.Words.{name_of, options_of}
+use Rattle.innochecksum_cli.specs.Words.{file_name_of, options_of}
 use Rattle.innochecksum_cli.proofs.Matches.{command_is_free, if_err_is, values_are}
 use Rattle.innochecksum_cli.proofs.words.read_words.Goals as goal
 
@@ -16,7 +16,7 @@ returns-clause-options c =
 
 pub returns-clause-name : goal.returns-clause-name
 returns-clause-name c =
-    c.asked_by.ensures.name ∙ ap name_of (values_are c.in_ok-matches.matches (app_of c.in_ok-command.field-0) c.args.words.now c.in_ok-command.ensures c.in_ok-matches.ensures.matches)
+    c.asked_by.ensures.name ∙ ap file_name_of (values_are c.in_ok-matches.matches (app_of c.in_ok-command.field-0) c.args.words.now c.in_ok-command.ensures c.in_ok-matches.ensures.matches)
 
 pub returns-clause-accepted : goal.returns-clause-accepted
 returns-clause-accepted c =
