@@ -99,7 +99,7 @@ impl<D: Disk + Drop> Engine<D> {
         ensures begun_refusable { IfOk result (λ e. Throughout AllRefusable (D.past disk) (D.past e.disk)) }
         ensures refused_refusable { IfErr result (λ r. Throughout AllRefusable (D.past disk) (D.past r.disk)) }
         ensures cause { IfErr result (λ r. r.why ≡ StartFault.DiskFault → Rose (D.faults disk) (D.faults r.disk)) }
-        ensures want { IfErr result (λ r. r.why ≡ StartFault.OutOfMemory → Rose (D.wants disk) (D.wants r.disk)) }
+        ensures memory { IfErr result (λ r. r.why ≡ StartFault.OutOfMemory → Rose (D.memory_refusals disk) (D.memory_refusals r.disk)) }
         ensures tells { IfErr result (λ r. r.why ≡ StartFault.DiskFault → Somewhere D.may_fail_to_tell) }
         ensures later { IfOk result (λ e. D.is_later disk e.disk) }
         ensures refused_later { IfErr result (λ r. D.is_later disk r.disk) }
@@ -176,7 +176,7 @@ impl<D: Disk + Drop> Engine<D> {
         ensures up { IfErr (up_or_refused self.old.state) (λ e. (result ≡ Err e) × (self.new ≡ self.old)) }
         ensures fault { (turn : ℕ) → result ≡ Err (EngineFault.DiskFault turn) → (self.new.state ≡ State.Down turn) × (turn ≡ self.new.turns) × Rose (D.faults self.old.disk) (D.faults self.new.disk) }
         ensures down { (turn : ℕ) → result ≡ Err (EngineFault.Down turn) → self.old.state ≡ State.Down turn }
-        ensures memory { result ≡ Err EngineFault.OutOfMemory → (self.new.state ≡ State.OutOfMemory) × ((self.old.state ≡ State.OutOfMemory) ⊎ Rose (D.wants self.old.disk) (D.wants self.new.disk)) }
+        ensures memory { result ≡ Err EngineFault.OutOfMemory → (self.new.state ≡ State.OutOfMemory) × ((self.old.state ≡ State.OutOfMemory) ⊎ Rose (D.memory_refusals self.old.disk) (D.memory_refusals self.new.disk)) }
         ensures turns { OnOk result (self.new.turns ≡ turns_after self.old.turns (sync_turns (length self.old.journal - self.old.settled))) }
         ensures turn { (turn : ℕ) → result ≡ Err (EngineFault.DiskFault turn) → turn ≤ turns_after self.old.turns (sync_turns (length self.old.journal - self.old.settled)) }
         ensures later { D.is_later self.old.disk self.new.disk }

@@ -2,7 +2,7 @@
 ghost use Rattle.std.specs.Prelude.{◌≡◌, [], ◌+◌, ◌<◌, ◌≤◌, ◌^◌, ◌++◌, length, Err, IfOk, OnOk};
 ghost use Rattle.cause_core.specs.Counts.{Rose};
 ghost use Rattle.disk_model.specs.Event.{zeros};
-ghost use Rattle.disk_model.specs.Past.{At, HasCause, HasWant};
+ghost use Rattle.disk_model.specs.Past.{At, HasDiskCause, HasDiskMemoryCause};
 ghost use Rattle.engine_core.specs.Block.{IsCheckpoint, IsHeader, checkpoint_head, header_head, space_fields, spaces_fields};
 ghost use Rattle.engine_core.specs.Layer.{IsEmpty, LogReady};
 ghost use Rattle.engine_core.specs.Made.{IsNow, IsHeaded, HasCheckpoint};
@@ -88,8 +88,8 @@ fn header_block(alloc: Global, spaces: &[SpaceInfo]) -> Result<Block, AllocError
 fn make_log<D: Disk>(disk: &mut D) -> Result<(), DiskError>
     requires { At IsEmpty (D.past disk.old) }
     ensures ok { OnOk result (At (IsNow (zeros 1060864)) (D.past disk.new)) }
-    ensures cause { HasCause (D.faults disk.old) (D.faults disk.new) result }
-    ensures want { HasWant (D.wants disk.old) (D.wants disk.new) result }
+    ensures cause { HasDiskCause (D.faults disk.old) (D.faults disk.new) result }
+    ensures memory { HasDiskMemoryCause (D.memory_refusals disk.old) (D.memory_refusals disk.new) result }
     ensures later { D.is_later disk.old disk.new }
 {
     disk.make(FileName::Log, LOG_BYTES)
@@ -100,8 +100,8 @@ fn write_checkpoint<D: Disk>(disk: &mut D, block: &Block) -> Result<(), DiskErro
     requires now { At (IsNow (zeros 1060864)) (D.past disk.old) }
     requires checkpoint { IsCheckpoint 1 2 block.now }
     ensures ok { OnOk result (At HasCheckpoint (D.past disk.new)) }
-    ensures cause { HasCause (D.faults disk.old) (D.faults disk.new) result }
-    ensures want { HasWant (D.wants disk.old) (D.wants disk.new) result }
+    ensures cause { HasDiskCause (D.faults disk.old) (D.faults disk.new) result }
+    ensures memory { HasDiskMemoryCause (D.memory_refusals disk.old) (D.memory_refusals disk.new) result }
     ensures later { D.is_later disk.old disk.new }
 {
     disk.write(FileName::Log, 8192, block.bytes())?;
@@ -114,8 +114,8 @@ fn write_header<D: Disk>(disk: &mut D, block: &Block, spaces: &[SpaceInfo]) -> R
     requires header { IsHeader spaces.now block.now }
     ensures ok { OnOk result (At (LogReady [] 0 0 0) (D.past disk.new)) }
     ensures header { OnOk result (At (IsHeaded spaces.now) (D.past disk.new)) }
-    ensures cause { HasCause (D.faults disk.old) (D.faults disk.new) result }
-    ensures want { HasWant (D.wants disk.old) (D.wants disk.new) result }
+    ensures cause { HasDiskCause (D.faults disk.old) (D.faults disk.new) result }
+    ensures memory { HasDiskMemoryCause (D.memory_refusals disk.old) (D.memory_refusals disk.new) result }
     ensures later { D.is_later disk.old disk.new }
 {
     let _ = spaces;

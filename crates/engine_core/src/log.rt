@@ -1,6 +1,6 @@
 // The log's file: the device calls, one to a function.
 ghost use Rattle.std.specs.Prelude.{◌^◌, ◌-◌, ◌∷◌, ◌++◌, ℕ, List, OnOk, ◌≡◌, ◌+◌, ◌<◌, ◌≤◌, [], length, OnErr, IsErrOf};
-ghost use Rattle.disk_model.specs.Past.{At, Step, HasCause, HasWant};
+ghost use Rattle.disk_model.specs.Past.{At, Step, HasDiskCause, HasDiskMemoryCause};
 ghost use Rattle.engine_core.specs.Turns.{turns_after, sync_turns, IsTurnOf};
 ghost use Rattle.engine_core.specs.Layer.{LogReady, Moment, IsCrashSafe};
 ghost use Rattle.engine_core.specs.Text.{mtr_text, IsSmall};
@@ -52,8 +52,8 @@ pub fn write_block<D: Disk>(
     requires more { i < length log.now.blocks.items }
     requires room { length log.now.blocks.items ≤ 256 }
     ensures step { Step (Moment log.now.blocks.items log.now.settled log.now.acked) (LogReady log.now.blocks.items log.now.settled (i + 1) log.now.acked) (D.past disk.old) (D.past disk.new) result }
-    ensures cause { HasCause (D.faults disk.old) (D.faults disk.new) result }
-    ensures want { HasWant (D.wants disk.old) (D.wants disk.new) result }
+    ensures cause { HasDiskCause (D.faults disk.old) (D.faults disk.new) result }
+    ensures memory { HasDiskMemoryCause (D.memory_refusals disk.old) (D.memory_refusals disk.new) result }
     ensures later { D.is_later disk.old disk.new }
     ensures turns { turns.new ≡ turns_after turns.old 1 }
 {
@@ -77,8 +77,8 @@ pub fn write_pending<D: Disk>(
     requires order { log.now.settled ≤ length log.now.blocks.items }
     requires counted { turns.old < 2 ^ 64 }
     ensures step { Step (Moment log.now.blocks.items log.now.settled log.now.acked) (LogReady log.now.blocks.items log.now.settled (length log.now.blocks.items) log.now.acked) (D.past disk.old) (D.past disk.new) result }
-    ensures cause { HasCause (D.faults disk.old) (D.faults disk.new) result }
-    ensures want { HasWant (D.wants disk.old) (D.wants disk.new) result }
+    ensures cause { HasDiskCause (D.faults disk.old) (D.faults disk.new) result }
+    ensures memory { HasDiskMemoryCause (D.memory_refusals disk.old) (D.memory_refusals disk.new) result }
     ensures later { D.is_later disk.old disk.new }
     ensures turns { OnOk result (turns.new ≡ turns_after turns.old (length log.now.blocks.items - log.now.settled)) }
     ensures failed { OnErr result (IsTurnOf (length log.now.blocks.items - log.now.settled) turns.old turns.new) }
@@ -92,8 +92,8 @@ pub fn write_pending<D: Disk>(
 fn sync_log<D: Disk>(disk: &mut D, turns: &mut u64, log: &PlainLog) -> Result<(), DiskError>
     requires { At (LogReady log.now.blocks.items log.now.settled (length log.now.blocks.items) log.now.acked) (D.past disk.old) }
     ensures step { Step (IsCrashSafe log.now.blocks.items) (LogReady log.now.blocks.items (length log.now.blocks.items) (length log.now.blocks.items) log.now.acked) (D.past disk.old) (D.past disk.new) result }
-    ensures cause { HasCause (D.faults disk.old) (D.faults disk.new) result }
-    ensures want { HasWant (D.wants disk.old) (D.wants disk.new) result }
+    ensures cause { HasDiskCause (D.faults disk.old) (D.faults disk.new) result }
+    ensures memory { HasDiskMemoryCause (D.memory_refusals disk.old) (D.memory_refusals disk.new) result }
     ensures later { D.is_later disk.old disk.new }
     ensures same { OnErr result (D.past disk.new ≡ D.past disk.old) }
     ensures turns { turns.new ≡ turns_after turns.old 1 }
@@ -110,8 +110,8 @@ pub fn write_out<D: Disk>(disk: &mut D, turns: &mut u64, log: &PlainLog) -> Resu
     requires order { log.now.settled ≤ length log.now.blocks.items }
     requires counted { turns.old < 2 ^ 64 }
     ensures step { Step (IsCrashSafe log.now.blocks.items) (LogReady log.now.blocks.items (length log.now.blocks.items) (length log.now.blocks.items) log.now.acked) (D.past disk.old) (D.past disk.new) result }
-    ensures cause { HasCause (D.faults disk.old) (D.faults disk.new) result }
-    ensures want { HasWant (D.wants disk.old) (D.wants disk.new) result }
+    ensures cause { HasDiskCause (D.faults disk.old) (D.faults disk.new) result }
+    ensures memory { HasDiskMemoryCause (D.memory_refusals disk.old) (D.memory_refusals disk.new) result }
     ensures later { D.is_later disk.old disk.new }
     ensures kept { OnErr result (At (Moment log.now.blocks.items log.now.settled log.now.acked) (D.past disk.new)) }
     ensures turns { OnOk result (turns.new ≡ turns_after turns.old (sync_turns (length log.now.blocks.items - log.now.settled))) }
@@ -129,8 +129,8 @@ pub fn tell_acked<D: Disk>(disk: &mut D, log: &PlainLog) -> Result<(), DiskError
     requires order { log.now.acked ≤ log.now.settled }
     requires ready { At (LogReady log.now.blocks.items log.now.settled log.now.settled log.now.acked) (D.past disk.old) }
     ensures step { Step (Moment log.now.blocks.items log.now.settled log.now.acked) (LogReady log.now.blocks.items log.now.settled log.now.settled log.now.settled) (D.past disk.old) (D.past disk.new) result }
-    ensures cause { HasCause (D.faults disk.old) (D.faults disk.new) result }
-    ensures want { HasWant (D.wants disk.old) (D.wants disk.new) result }
+    ensures cause { HasDiskCause (D.faults disk.old) (D.faults disk.new) result }
+    ensures memory { HasDiskMemoryCause (D.memory_refusals disk.old) (D.memory_refusals disk.new) result }
     ensures later { D.is_later disk.old disk.new }
     ensures tells { IsErrOf result DiskError.Failed → D.may_fail_to_tell disk.old }
 {
@@ -141,8 +141,8 @@ pub fn tell_acked<D: Disk>(disk: &mut D, log: &PlainLog) -> Result<(), DiskError
 pub fn tell_started<D: Disk>(disk: &mut D) -> Result<(), DiskError>
     requires { At (LogReady [] 0 0 0) (D.past disk.old) }
     ensures step { Step (IsCrashSafe []) (LogReady [] 0 0 0) (D.past disk.old) (D.past disk.new) result }
-    ensures cause { HasCause (D.faults disk.old) (D.faults disk.new) result }
-    ensures want { HasWant (D.wants disk.old) (D.wants disk.new) result }
+    ensures cause { HasDiskCause (D.faults disk.old) (D.faults disk.new) result }
+    ensures memory { HasDiskMemoryCause (D.memory_refusals disk.old) (D.memory_refusals disk.new) result }
     ensures later { D.is_later disk.old disk.new }
     ensures tells { IsErrOf result DiskError.Failed → D.may_fail_to_tell disk.old }
 {

@@ -3,7 +3,7 @@ ghost use Rattle.std.specs.Prelude.{◌≡◌, ◌≢◌, ◌+◌, ◌*◌, ◌<
 ghost use Rattle.cause_core.specs.Counts.{Rose};
 ghost use Rattle.disk_model.specs.Event.{reads};
 ghost use Rattle.disk_model.specs.Image.{InFile};
-ghost use Rattle.disk_model.specs.Past.{At, HasCause, HasWant};
+ghost use Rattle.disk_model.specs.Past.{At, HasDiskCause, HasDiskMemoryCause};
 ghost use Rattle.disk_model.specs.declared.names.FileName.TheVariants.{Log};
 ghost use Rattle.std.specs.Int.{to_be_bytes, w32};
 ghost use Rattle.bytes_core.specs.Crc.{crc32c};
@@ -72,8 +72,8 @@ fn read_ring_block<D: Disk>(disk: &mut D, number: u64, buffer: &mut [u8]) -> Res
     requires size { length buffer.old ≡ 4096 }
     ensures block { OnOk result (At (λ es. buffer.new ≡ log_block (ring_place number) (reads Log es)) (D.past disk.old)) }
     ensures same { D.past disk.new ≡ D.past disk.old }
-    ensures cause { HasCause (D.faults disk.old) (D.faults disk.new) result }
-    ensures want { HasWant (D.wants disk.old) (D.wants disk.new) result }
+    ensures cause { HasDiskCause (D.faults disk.old) (D.faults disk.new) result }
+    ensures memory { HasDiskMemoryCause (D.memory_refusals disk.old) (D.memory_refusals disk.new) result }
     ensures later { D.is_later disk.old disk.new }
 {
     disk.read(FileName::Log, ring_place(number) * 4096, buffer)

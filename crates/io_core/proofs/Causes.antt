@@ -2,12 +2,12 @@
 use Rattle.std.proofs.Common.{◌≡◌, ◌≤◌, ℕ, Option, Result, Err, refl, sym, ◌∙◌, arith}
 use Rattle.cause_core.specs.Counts.{Rose}
 use Rattle.io_core.specs.Told.{Told}
-use Rattle.io_core.specs.Cause.{HasCause}
+use Rattle.io_core.specs.Cause.{HasIoCause}
 use Rattle.io_core.specs.declared.error.IoError.{IoError}
 use Rattle.io_core.specs.declared.error.IoError.TheVariants.{Failed, NoMemory}
 
 -- where the count of faults didn't rise, an error is want of memory
-pub only_memory : {T : Type 0} (before now : ℕ) (e : IoError) → HasCause {T = T} before now (Err e) → (Rose before now → ⊥) → e ≡ NoMemory
+pub only_memory : {T : Type 0} (before now : ℕ) (e : IoError) → HasIoCause {T = T} before now (Err e) → (Rose before now → ⊥) → e ≡ NoMemory
 only_memory before now Failed cause still = absurd (still (cause.rose refl))
 only_memory before now NoMemory cause still = refl
 

@@ -6,12 +6,12 @@ use Rattle.io_core.specs.declared.error.IoError.{IoError}
 use Rattle.io_core.specs.declared.error.IoError.TheVariants.{Failed, NoMemory}
 
 -- The count of faults never falls, and `Failed` is answered only where it rose.
-abbrev pub HasCause : {T : Type 0} → ℕ → ℕ → Result T IoError → Type 0
-HasCause before now result = HasCauseOf Failed before now result
+abbrev pub HasIoCause : {T : Type 0} → ℕ → ℕ → Result T IoError → Type 0
+HasIoCause before now result = HasCauseOf Failed before now result
 
 -- The count of refused memory never falls, and `NoMemory` is answered only where it rose.
-abbrev pub HasWant : {T : Type 0} → ℕ → ℕ → Result T IoError → Type 0
-HasWant before now result = HasCauseOf NoMemory before now result
+abbrev pub HasIoMemoryCause : {T : Type 0} → ℕ → ℕ → Result T IoError → Type 0
+HasIoMemoryCause before now result = HasCauseOf NoMemory before now result
 
 -- The count of absences never falls, and a file is answered to be absent only where it rose.
 pub record HasAbsence {T : Type 0} (before now : ℕ) (result : Result (Option T) IoError) : Type 0 where

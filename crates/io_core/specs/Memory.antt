@@ -13,7 +13,7 @@ pub record SourceState : Type 0 where
 pub record SinkState : Type 0 where
   pub given : List ℕ
   pub calls : Calls
-  pub wants : ℕ
+  pub memory_refusals : ℕ
 
 -- the names with their bytes, the calls, and how often a name wasn't there
 pub record ShelfState : Type 0 where

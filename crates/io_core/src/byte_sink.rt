@@ -1,7 +1,7 @@
 // A sink in memory.
 ghost use Rattle.std.specs.Prelude.{◌≡◌, ◌≢◌, ◌↔◌, ℕ, Some, [], ◌++◌, OnOk, OnErr};
 ghost use Rattle.io_core.specs.Stream.{extended, IsPartlyGiven};
-ghost use Rattle.io_core.specs.Cause.{HasCause, HasWant};
+ghost use Rattle.io_core.specs.Cause.{HasIoCause, HasIoMemoryCause};
 ghost use Rattle.io_core.specs.Calls.{IsToFail, IsOneMore};
 
 use crate::calls::CountedCalls;
@@ -15,7 +15,7 @@ use std::marker::Model;
 pub struct ByteSink {
     bytes: Vec<u8>,
     calls: CountedCalls,
-    wants: u64,
+    memory_refusals: u64,
 }
 
 impl Model for ByteSink {
@@ -23,19 +23,19 @@ impl Model for ByteSink {
 
     ghost Value = { SinkState };
 
-    ghost view = { λ s. record { given = s.bytes.items; calls = s.calls; wants = s.wants } };
+    ghost view = { λ s. record { given = s.bytes.items; calls = s.calls; memory_refusals = s.memory_refusals } };
 }
 
 impl ByteSink {
     /// An empty sink, which takes no memory yet. `failing` lists the calls of `give`, from 1, that
     /// answer `Failed`.
     pub fn new(alloc: Global, failing: Vec<u64>) -> ByteSink
-        ensures { result ≡ record { given = []; calls = record { failing = failing.items; made = 0; faults = 0 }; wants = 0 } }
+        ensures { result ≡ record { given = []; calls = record { failing = failing.items; made = 0; faults = 0 }; memory_refusals = 0 } }
     {
         ByteSink {
             bytes: Vec::new(alloc),
             calls: CountedCalls::new(failing),
-            wants: 0,
+            memory_refusals: 0,
         }
     }
 
@@ -52,24 +52,24 @@ impl Sink for ByteSink {
 
     ghost faults = { λ s. s.calls.faults };
 
-    ghost wants = { λ s. s.wants };
+    ghost memory_refusals = { λ s. s.memory_refusals };
 
     /// Appends the bytes. It answers `Failed` exactly at the listed calls, and `NoMemory` only where
     /// its memory can't grow; either leaves the bytes as they were.
     fn give(&mut self, bytes: &[u8]) -> Result<(), IoError>
         ensures ok { OnOk result (Some self.new.given ≡ extended bytes.now (Some self.old.given)) }
         ensures err { OnErr result (IsPartlyGiven bytes.now (Some self.old.given) (Some self.new.given)) }
-        ensures cause { HasCause self.old.calls.faults self.new.calls.faults result }
-        ensures want { HasWant self.old.wants self.new.wants result }
+        ensures cause { HasIoCause self.old.calls.faults self.new.calls.faults result }
+        ensures memory { HasIoMemoryCause self.old.memory_refusals self.new.memory_refusals result }
         ensures failed { (result ≡ Err IoError.Failed) ↔ IsToFail self.old.calls }
         ensures kept { OnErr result (self.new.given ≡ self.old.given) }
         ensures steady { result ≢ Err IoError.Failed → self.new.calls.faults ≡ self.old.calls.faults }
-        ensures granted { result ≢ Err IoError.NoMemory → self.new.wants ≡ self.old.wants }
+        ensures granted { result ≢ Err IoError.NoMemory → self.new.memory_refusals ≡ self.old.memory_refusals }
         ensures one_more { IsOneMore self.old.calls self.new.calls }
     {
         self.calls.begin()?;
         if self.bytes.extend_from_slice(bytes).is_err() {
-            self.wants = self.wants.saturating_add(1);
+            self.memory_refusals = self.memory_refusals.saturating_add(1);
             return Err(IoError::NoMemory);
         }
         Ok(())

@@ -2,7 +2,7 @@
 ghost use Rattle.std.specs.Prelude.{◌≡◌, ◌≢◌, ◌↔◌, ◌+◌, ◌≤◌, ◌<◌, ℕ, min, Some, [], length, take, drop, IfOk, OnOk, OnErr, IsErr};
 ghost use Rattle.io_core.specs.Told.{Told};
 ghost use Rattle.io_core.specs.Stream.{prefixed};
-ghost use Rattle.io_core.specs.Cause.{HasCause, HasWant};
+ghost use Rattle.io_core.specs.Cause.{HasIoCause, HasIoMemoryCause};
 ghost use Rattle.io_core.specs.Calls.{IsToFail, IsOneMore};
 
 use crate::bytes::{fill, rest_from};
@@ -47,7 +47,7 @@ impl Source for ByteSource {
 
     ghost faults = { λ s. s.calls.faults };
 
-    ghost wants = { λ _. 0 };
+    ghost memory_refusals = { λ _. 0 };
 
     /// Takes as many bytes as are left or as fit. It answers `Failed` exactly at the listed calls,
     /// which change neither the bytes to come nor `into`, and never `NoMemory`.
@@ -57,8 +57,8 @@ impl Source for ByteSource {
         ensures rest { IfOk result (λ n. Told (λ _. drop n into.new ≡ drop n into.old) (Some self.old.left)) }
         ensures end { IfOk result (λ n. n ≡ 0 → 0 < length into.old → Told (λ bytes. bytes ≡ []) (Some self.old.left)) }
         ensures err { OnErr result (Some self.new.left ≡ Some self.old.left) }
-        ensures cause { HasCause self.old.calls.faults self.new.calls.faults result }
-        ensures want { HasWant 0 0 result }
+        ensures cause { HasIoCause self.old.calls.faults self.new.calls.faults result }
+        ensures memory { HasIoMemoryCause 0 0 result }
         ensures count { IfOk result (λ n. n ≡ min (length into.old) (length self.old.left)) }
         ensures failed { IsErr result ↔ IsToFail self.old.calls }
         ensures only { result ≢ Err IoError.NoMemory }

@@ -1,7 +1,7 @@
 // The calls of an object in memory, some of which are to fail.
 ghost use Rattle.std.specs.Prelude.{◌≡◌, ◌≢◌, ◌↔◌, IsErr, OnOk};
 ghost use Rattle.io_core.specs.Calls.{IsToFail, IsOneMore};
-ghost use Rattle.io_core.specs.Cause.{HasCause};
+ghost use Rattle.io_core.specs.Cause.{HasIoCause};
 
 use crate::IoError;
 use std::marker::Model;
@@ -42,7 +42,7 @@ impl CountedCalls {
         ensures failed { IsErr result ↔ IsToFail self.old }
         ensures only { result ≢ Err IoError.NoMemory }
         ensures one_more { IsOneMore self.old self.new }
-        ensures cause { HasCause self.old.faults self.new.faults result }
+        ensures cause { HasIoCause self.old.faults self.new.faults result }
         ensures steady { OnOk result (self.new.faults ≡ self.old.faults) }
     {
         self.made = self.made.saturating_add(1);

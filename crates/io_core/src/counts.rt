@@ -2,7 +2,7 @@
 ghost use Rattle.std.specs.Prelude.{◌≡◌, ◌↔◌, ◌≤◌, ◌<◌, length, take, IfOk, IfErr, IsErr, OnOk};
 ghost use Rattle.std.specs.IoError.{error_kind};
 ghost use Rattle.std.specs.Io.KnownBytes.{Consumes, IsAtEnd, ReadConsumes};
-ghost use Rattle.io_core.specs.Cause.{HasCause, HasWant};
+ghost use Rattle.io_core.specs.Cause.{HasIoCause, HasIoMemoryCause};
 
 use crate::IoError;
 use std::io;
@@ -12,26 +12,26 @@ use std::io::{ErrorKind, Read};
 #[derive(Clone, Copy)]
 pub struct Counts {
     pub faults: u64,
-    pub wants: u64,
+    pub memory_refusals: u64,
 }
 
 impl Counts {
     /// Both at 0.
     pub fn zero() -> Counts
         ensures faults { result.faults ≡ 0 }
-        ensures wants { result.wants ≡ 0 }
+        ensures memory_refusals { result.memory_refusals ≡ 0 }
     {
         Counts {
             faults: 0,
-            wants: 0,
+            memory_refusals: 0,
         }
     }
 
     /// Counts a failure of the outside.
     pub fn failed(&mut self) -> IoError
         ensures is { result ≡ IoError.Failed }
-        ensures cause { HasCause {T = Unit {0}} self.old.faults self.new.faults (Err result) }
-        ensures wants { self.new.wants ≡ self.old.wants }
+        ensures cause { HasIoCause {T = Unit {0}} self.old.faults self.new.faults (Err result) }
+        ensures memory_refusals { self.new.memory_refusals ≡ self.old.memory_refusals }
     {
         self.faults = self.faults.saturating_add(1);
         IoError::Failed
@@ -44,14 +44,14 @@ impl Counts {
         ensures err { IsErr result ↔ IsErr outcome }
         ensures memory { IfErr outcome (λ e. (result ≡ Err IoError.NoMemory) ↔ (error_kind e ≡ ErrorKind.OutOfMemory)) }
         ensures steady { OnOk result (self.new ≡ self.old) }
-        ensures cause { HasCause self.old.faults self.new.faults result }
-        ensures want { HasWant self.old.wants self.new.wants result }
+        ensures cause { HasIoCause self.old.faults self.new.faults result }
+        ensures memory { HasIoMemoryCause self.old.memory_refusals self.new.memory_refusals result }
     {
         match outcome {
             Ok(value) => Ok(value),
             Err(e) => {
                 if e.kind() == ErrorKind::OutOfMemory {
-                    self.wants = self.wants.saturating_add(1);
+                    self.memory_refusals = self.memory_refusals.saturating_add(1);
                     Err(IoError::NoMemory)
                 } else {
                     Err(self.failed())

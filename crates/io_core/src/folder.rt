@@ -36,7 +36,7 @@ impl<'a, R: Files> Folder<'a, R> {
     /// The files that this runtime reaches. None is opened yet.
     pub fn new(alloc: Global, rt: &'a R) -> Folder<'a, R>
         ensures faults { ⟦<Folder<'a, R> as Library>⟧.faults result ≡ 0 }
-        ensures wants { ⟦<Folder<'a, R> as Library>⟧.wants result ≡ 0 }
+        ensures memory_refusals { ⟦<Folder<'a, R> as Library>⟧.memory_refusals result ≡ 0 }
         ensures absences { ⟦<Folder<'a, R> as Library>⟧.absences result ≡ 0 }
     {
         Folder {
@@ -136,7 +136,7 @@ impl<'a, R: Files> Library for Folder<'a, R> {
 
     ghost faults = { λ s. s.counts.faults };
 
-    ghost wants = { λ s. s.counts.wants };
+    ghost memory_refusals = { λ s. s.counts.memory_refusals };
 
     ghost absences = { λ s. s.absences };
 

@@ -3,7 +3,7 @@ ghost use Rattle.std.specs.Prelude.{◌≡◌, ◌≤◌, ℕ, List, length, Opt
 ghost use Rattle.std.specs.Option.{option_map};
 ghost use Rattle.io_core.specs.Told.{Told};
 ghost use Rattle.io_core.specs.Files.{Files, bytes_from, IsFilled};
-ghost use Rattle.io_core.specs.Cause.{HasCause, HasWant, HasAbsence};
+ghost use Rattle.io_core.specs.Cause.{HasIoCause, HasIoMemoryCause, HasAbsence};
 
 use crate::IoError;
 
@@ -16,7 +16,7 @@ pub trait Library {
     ghost faults: { Self → ℕ };
 
     /// How often it was refused memory. The count never falls.
-    ghost wants: { Self → ℕ };
+    ghost memory_refusals: { Self → ℕ };
 
     /// How often a file was asked for that wasn't there. The count never falls.
     ghost absences: { Self → ℕ };
@@ -33,8 +33,8 @@ pub trait Library {
         ensures length { IfOk result (λ n. Told (λ fs. n ≡ option_map length (fs name.now)) (files self.old)) }
         ensures same { files self.new ≡ files self.old }
         ensures absence { HasAbsence (absences self.old) (absences self.new) result }
-        ensures cause { HasCause (faults self.old) (faults self.new) result }
-        ensures want { HasWant (wants self.old) (wants self.new) result }
+        ensures cause { HasIoCause (faults self.old) (faults self.new) result }
+        ensures memory { HasIoMemoryCause (memory_refusals self.old) (memory_refusals self.new) result }
         ensures failed_last { IsErrOf result IoError.Failed → failed_last self.new name.now };
 
     /// Fills the front of `into` with as many bytes as the file has from byte `at` on, at most
@@ -50,7 +50,7 @@ pub trait Library {
         ensures bytes { IfOk result (λ n. Told (λ fs. IsFilled (bytes_from at name.now fs) into.old n into.new) (files self.old)) }
         ensures same { files self.new ≡ files self.old }
         ensures absences { absences self.old ≤ absences self.new }
-        ensures cause { HasCause (faults self.old) (faults self.new) result }
-        ensures want { HasWant (wants self.old) (wants self.new) result }
+        ensures cause { HasIoCause (faults self.old) (faults self.new) result }
+        ensures memory { HasIoMemoryCause (memory_refusals self.old) (memory_refusals self.new) result }
         ensures failed_last { IsErrOf result IoError.Failed → failed_last self.new name.now };
 }

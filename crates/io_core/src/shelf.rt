@@ -3,7 +3,7 @@ ghost use Rattle.std.specs.Prelude.{◌≡◌, ◌≢◌, ◌↔◌, ◌≤◌, 
 ghost use Rattle.std.specs.Option.{option_map, option_copied};
 ghost use Rattle.io_core.specs.Told.{Told};
 ghost use Rattle.io_core.specs.Files.{bytes_from, IsFilled};
-ghost use Rattle.io_core.specs.Cause.{HasCause, HasWant, HasAbsence};
+ghost use Rattle.io_core.specs.Cause.{HasIoCause, HasIoMemoryCause, HasAbsence};
 ghost use Rattle.io_core.specs.Calls.{IsToFail, IsOneMore};
 ghost use Rattle.io_core.specs.Memory.{files_of, NamesDiffer, listed};
 
@@ -63,7 +63,7 @@ impl Library for Shelf {
 
     ghost faults = { λ s. s.calls.faults };
 
-    ghost wants = { λ _. 0 };
+    ghost memory_refusals = { λ _. 0 };
 
     ghost absences = { λ s. s.absences };
 
@@ -74,8 +74,8 @@ impl Library for Shelf {
         ensures length { IfOk result (λ n. Told (λ fs. n ≡ option_map length (fs name.now)) (Some (files_of self.old.files))) }
         ensures same { Some (files_of self.new.files) ≡ Some (files_of self.old.files) }
         ensures absence { HasAbsence self.old.absences self.new.absences result }
-        ensures cause { HasCause self.old.calls.faults self.new.calls.faults result }
-        ensures want { HasWant 0 0 result }
+        ensures cause { HasIoCause self.old.calls.faults self.new.calls.faults result }
+        ensures memory { HasIoMemoryCause 0 0 result }
         ensures failed_last { IsErrOf result IoError.Failed → Unit {0} }
         ensures failed { IsErr result ↔ IsToFail self.old.calls }
         ensures only { result ≢ Err IoError.NoMemory }
@@ -99,8 +99,8 @@ impl Library for Shelf {
         ensures bytes { IfOk result (λ n. Told (λ fs. IsFilled (bytes_from at name.now fs) into.old n into.new) (Some (files_of self.old.files))) }
         ensures same { Some (files_of self.new.files) ≡ Some (files_of self.old.files) }
         ensures absences { self.old.absences ≤ self.new.absences }
-        ensures cause { HasCause self.old.calls.faults self.new.calls.faults result }
-        ensures want { HasWant 0 0 result }
+        ensures cause { HasIoCause self.old.calls.faults self.new.calls.faults result }
+        ensures memory { HasIoMemoryCause 0 0 result }
         ensures failed_last { IsErrOf result IoError.Failed → Unit {0} }
         ensures failed { IsErr result ↔ IsToFail self.old.calls }
         ensures only { result ≢ Err IoError.NoMemory }

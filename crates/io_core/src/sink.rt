@@ -1,7 +1,7 @@
 // A sink for bytes.
 ghost use Rattle.std.specs.Prelude.{◌≡◌, ℕ, List, Option, OnOk, OnErr};
 ghost use Rattle.io_core.specs.Stream.{extended, IsPartlyGiven};
-ghost use Rattle.io_core.specs.Cause.{HasCause, HasWant};
+ghost use Rattle.io_core.specs.Cause.{HasIoCause, HasIoMemoryCause};
 
 use crate::IoError;
 
@@ -14,7 +14,7 @@ pub trait Sink {
     ghost faults: { Self → ℕ };
 
     /// How often it was refused memory. The count never falls.
-    ghost wants: { Self → ℕ };
+    ghost memory_refusals: { Self → ℕ };
 
     /// Appends all the bytes.
     ///
@@ -24,6 +24,6 @@ pub trait Sink {
     fn give(&mut self, bytes: &[u8]) -> Result<(), IoError>
         ensures ok { OnOk result (given self.new ≡ extended bytes.now (given self.old)) }
         ensures err { OnErr result (IsPartlyGiven bytes.now (given self.old) (given self.new)) }
-        ensures cause { HasCause (faults self.old) (faults self.new) result }
-        ensures want { HasWant (wants self.old) (wants self.new) result };
+        ensures cause { HasIoCause (faults self.old) (faults self.new) result }
+        ensures memory { HasIoMemoryCause (memory_refusals self.old) (memory_refusals self.new) result };
 }

@@ -2,7 +2,7 @@
 ghost use Rattle.std.specs.Prelude.{◌≡◌, ◌≤◌, ◌<◌, ℕ, List, [], length, take, drop, Option, IfOk, OnErr};
 ghost use Rattle.io_core.specs.Told.{Told};
 ghost use Rattle.io_core.specs.Stream.{prefixed};
-ghost use Rattle.io_core.specs.Cause.{HasCause, HasWant};
+ghost use Rattle.io_core.specs.Cause.{HasIoCause, HasIoMemoryCause};
 
 use crate::IoError;
 
@@ -15,7 +15,7 @@ pub trait Source {
     ghost faults: { Self → ℕ };
 
     /// How often it was refused memory. The count never falls.
-    ghost wants: { Self → ℕ };
+    ghost memory_refusals: { Self → ℕ };
 
     /// Moves the next bytes to the front of `into` and returns how many, at least one where `into`
     /// isn't empty and bytes are left. So 0 for a buffer that isn't empty is the end of input. A
@@ -32,6 +32,6 @@ pub trait Source {
         ensures rest { IfOk result (λ n. Told (λ _. drop n into.new ≡ drop n into.old) (left self.old)) }
         ensures end { IfOk result (λ n. n ≡ 0 → 0 < length into.old → Told (λ bytes. bytes ≡ []) (left self.old)) }
         ensures err { OnErr result (left self.new ≡ left self.old) }
-        ensures cause { HasCause (faults self.old) (faults self.new) result }
-        ensures want { HasWant (wants self.old) (wants self.new) result };
+        ensures cause { HasIoCause (faults self.old) (faults self.new) result }
+        ensures memory { HasIoMemoryCause (memory_refusals self.old) (memory_refusals self.new) result };
 }

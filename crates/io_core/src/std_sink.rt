@@ -18,7 +18,7 @@ impl<W: Write> StdSink<W> {
     /// A sink over this writer, to which nothing is written yet.
     pub fn new(writer: W) -> StdSink<W>
         ensures faults { ⟦<StdSink<W> as Sink>⟧.faults result ≡ 0 }
-        ensures wants { ⟦<StdSink<W> as Sink>⟧.wants result ≡ 0 }
+        ensures memory_refusals { ⟦<StdSink<W> as Sink>⟧.memory_refusals result ≡ 0 }
     {
         StdSink {
             writer,
@@ -32,7 +32,7 @@ impl<W: Write> Sink for StdSink<W> {
 
     ghost faults = { λ s. s.counts.faults };
 
-    ghost wants = { λ s. s.counts.wants };
+    ghost memory_refusals = { λ s. s.counts.memory_refusals };
 
     fn give(&mut self, bytes: &[u8]) -> Result<(), IoError> {
         let written = self.writer.write_all(bytes);

@@ -18,7 +18,7 @@ impl<R: Read> StdSource<R> {
     /// A source over this reader, which is not read yet.
     pub fn new(reader: R) -> StdSource<R>
         ensures faults { ⟦<StdSource<R> as Source>⟧.faults result ≡ 0 }
-        ensures wants { ⟦<StdSource<R> as Source>⟧.wants result ≡ 0 }
+        ensures memory_refusals { ⟦<StdSource<R> as Source>⟧.memory_refusals result ≡ 0 }
     {
         StdSource {
             reader,
@@ -32,7 +32,7 @@ impl<R: Read> Source for StdSource<R> {
 
     ghost faults = { λ s. s.counts.faults };
 
-    ghost wants = { λ s. s.counts.wants };
+    ghost memory_refusals = { λ s. s.counts.memory_refusals };
 
     fn take(&mut self, into: &mut [u8]) -> Result<usize, IoError> {
         let outcome = read_some(&mut self.reader, into);

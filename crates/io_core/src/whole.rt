@@ -2,7 +2,7 @@
 ghost use Rattle.std.specs.Prelude.{◌≡◌, ◌≤◌, IfOk, Ok, IsErrOf};
 ghost use Rattle.cause_core.specs.Counts.{Rose};
 ghost use Rattle.io_core.specs.Told.{Told};
-ghost use Rattle.io_core.specs.Cause.{HasCause};
+ghost use Rattle.io_core.specs.Cause.{HasIoCause};
 ghost use Rattle.io_core.specs.Stream.{IsLeftOf};
 ghost use Rattle.io_core.specs.Whole.{IsOfSource, IsWithin, IsDrained, IsOfFile, IsFileWithin};
 
@@ -44,8 +44,8 @@ pub fn read_all<S: Source>(
     ensures within { IfOk result (IsWithin limit) }
     ensures drained { IfOk result (IsDrained (S.left source.new)) }
     ensures left { IsLeftOf (S.left source.old) (S.left source.new) }
-    ensures cause { HasCause (S.faults source.old) (S.faults source.new) result }
-    ensures wants { S.wants source.old ≤ S.wants source.new }
+    ensures cause { HasIoCause (S.faults source.old) (S.faults source.new) result }
+    ensures memory_refusals { S.memory_refusals source.old ≤ S.memory_refusals source.new }
 {
     let mut bytes = Vec::new(alloc);
     let mut piece = [0u8; 4096];
@@ -77,8 +77,8 @@ pub fn read_file<L: Library>(
     ensures absent { result ≡ Ok FileContents.Missing → Rose (L.absences files.old) (L.absences files.new) }
     ensures same { L.files files.new ≡ L.files files.old }
     ensures absences { L.absences files.old ≤ L.absences files.new }
-    ensures cause { HasCause (L.faults files.old) (L.faults files.new) result }
-    ensures wants { L.wants files.old ≤ L.wants files.new }
+    ensures cause { HasIoCause (L.faults files.old) (L.faults files.new) result }
+    ensures memory_refusals { L.memory_refusals files.old ≤ L.memory_refusals files.new }
     ensures failed_last { IsErrOf result IoError.Failed → L.failed_last files.new name.now }
 {
     let Some(length) = files.length(name)? else {

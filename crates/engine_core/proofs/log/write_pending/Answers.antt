@@ -13,7 +13,7 @@ loop-i-init g c = record {
   moments = begins (Moment c.args.log.now.blocks.items c.args.log.now.settled c.args.log.now.acked) _ (at_each (ready_moment c.args.log.now.blocks.items c.args.log.now.settled c.args.log.now.settled c.args.log.now.acked) c.requires.ready);
   turns = turns_same c.args.turns.now _ c.requires.counted (omega arith);
   faults = omega arith;
-  wants = omega arith;
+  memory_refusals = omega arith;
   later = g.met.D.Disk.is_later_reflexive c.args.disk.now;
 }
 
@@ -31,7 +31,7 @@ loop-i-preserved g c = record {
       let before : c.loop-i.i - c.args.log.now.settled + 1 ≡ c.loop-i.i + 1 - c.args.log.now.settled = omega (arith, c.loop-i.auto.i-end) in
       c.in_ok-write_block.ensures.turns ∙ ap (λ n. turns_after n 1) c.loop-i.invariant.turns ∙ turns_more c.args.turns.now (c.loop-i.i - c.args.log.now.settled) 1 ∙ ap (turns_after c.args.turns.now) before;
   faults = omega (arith, c.loop-i.invariant.faults, c.in_ok-write_block.ensures.cause.later);
-  wants = omega (arith, c.loop-i.invariant.wants, c.in_ok-write_block.ensures.want.later);
+  memory_refusals = omega (arith, c.loop-i.invariant.memory_refusals, c.in_ok-write_block.ensures.memory.later);
   later = g.met.D.Disk.is_later_transitive _ _ _ c.loop-i.invariant.later c.in_ok-write_block.ensures.later;
 }
 

@@ -10,6 +10,6 @@ invariant-loop-i g l = record {
   moments : Throughout (Moment l.log.blocks.items l.log.settled l.log.acked) (g.D.Disk.past l.fn.disk) (g.D.Disk.past l.disk);
   turns : l.turns ≡ turns_after l.fn.turns (l.i - l.log.settled);
   faults : g.D.Disk.faults l.fn.disk ≤ g.D.Disk.faults l.disk;
-  wants : g.D.Disk.wants l.fn.disk ≤ g.D.Disk.wants l.disk;
+  memory_refusals : g.D.Disk.memory_refusals l.fn.disk ≤ g.D.Disk.memory_refusals l.disk;
   later : g.D.Disk.is_later l.fn.disk l.disk;
 }

@@ -8,7 +8,7 @@ invariant-pieces g l =
     (g.S.Source.left l.fn.source ≡ prefixed l.bytes.items (g.S.Source.left l.source))
     × (vec_len l.bytes ≤ l.limit)
     × (g.S.Source.faults l.fn.source ≤ g.S.Source.faults l.source)
-    × (g.S.Source.wants l.fn.source ≤ g.S.Source.wants l.source)
+    × (g.S.Source.memory_refusals l.fn.source ≤ g.S.Source.memory_refusals l.source)
 
 abbrev pub decreases-pieces : goal.decreases-pieces
 decreases-pieces g l = l.limit - vec_len l.bytes
