@@ -70,10 +70,10 @@ le_four_words n =
     (λ i. n % 256 ∷ n / 256 % 256 ∷ n / 65536 % 256 ∷ n / 16777216 % 256 ∷ n / 4294967296 % 256 ∷ e11 i ∷ e12 i ∷ e13 i ∷ n / 18446744073709551616 % 256 ∷ e21 i ∷ e22 i ∷ e23 i ∷ n / 79228162514264337593543950336 % 256 ∷ e31 i ∷ e32 i ∷ e33 i ∷ [])
 
 -- what four words are joined to
-abbrev pub sum_four : ℕ → ℕ → ℕ → ℕ → ℕ
-sum_four a b c d = a + 4294967296 * b + 18446744073709551616 * c + 79228162514264337593543950336 * d
+abbrev pub words_sum : ℕ → ℕ → ℕ → ℕ → ℕ
+words_sum a b c d = a + 4294967296 * b + 18446744073709551616 * c + 79228162514264337593543950336 * d
 
-pub le_joined : (a b c d n : ℕ) → a < 4294967296 → b < 4294967296 → c < 4294967296 → d < 4294967296 → n ≡ sum_four a b c d
+pub le_joined : (a b c d n : ℕ) → a < 4294967296 → b < 4294967296 → c < 4294967296 → d < 4294967296 → n ≡ words_sum a b c d
     → to_le_bytes w128 n ≡ to_le_bytes w32 a ++ to_le_bytes w32 b ++ to_le_bytes w32 c ++ to_le_bytes w32 d
 le_joined a b c d n ha hb hc hd e =
     let ea : n % 4294967296 ≡ a = omega arith in

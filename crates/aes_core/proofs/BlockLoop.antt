@@ -4,7 +4,7 @@ use Rattle.std.proofs.lemmas.List.{append-nil, drop-drop, drop_all, drop_at, len
 use Rattle.std.proofs.lemmas.Bool.{cases_lt}
 use borrow.Author.Count.{below_more}
 use borrow.Rule.Slice.PartMut.{mid_of, post_of, put_mid, same_len_mid}
-use Rattle.aes_core.specs.Modes.{block_at, joined}
+use Rattle.aes_core.specs.Modes.{text_block, joined}
 
 -- the first n are blocks
 pub record AreBlocks (f : ℕ → List ℕ) (n : ℕ) : Type 0 where
@@ -17,12 +17,12 @@ length-joined f (suc n) h =
     let before : length (joined f n) ≡ 16 * n = length-joined f n (record { long = λ j lt. h.long j (omega arith) }) in
     omega (arith, length-append (joined f n) (f n), before, h.long n (omega arith))
 
-pub length-block_at : (xs : List ℕ) (i : ℕ) → 16 * i + 16 ≤ length xs → length (block_at xs i) ≡ 16
-length-block_at xs i h = length-take-le 16 (drop (16 * i) xs) (omega (arith, length-drop (16 * i) xs))
+pub length-text_block : (xs : List ℕ) (i : ℕ) → 16 * i + 16 ≤ length xs → length (text_block xs i) ≡ 16
+length-text_block xs i h = length-take-le 16 (drop (16 * i) xs) (omega (arith, length-drop (16 * i) xs))
 
 -- what is read is the block as it was
 pub read_block : (f : ℕ → List ℕ) (xs : List ℕ) (i k : ℕ) → AreBlocks f i → k ≡ 16
-    → take k (drop (16 * i) (joined f i ++ drop (16 * i) xs)) ≡ block_at xs i
+    → take k (drop (16 * i) (joined f i ++ drop (16 * i) xs)) ≡ text_block xs i
 read_block f xs i k h e =
     ap (λ (n : ℕ). take n (drop (16 * i) (joined f i ++ drop (16 * i) xs))) e
     ∙ ap (take 16) (drop_at (joined f i) (drop (16 * i) xs) (16 * i) (length-joined f i h))
@@ -71,7 +71,7 @@ unfolding joined
 written_none f xs = record { blocks = record { long = λ j lt. absurd (omega arith) }; long = refl; text = refl }
 
 -- what the next block is read as
-pub written_read : (f : ℕ → List ℕ) (xs now : List ℕ) (i k : ℕ) → Written f xs now i → k ≡ 16 → take k (drop (16 * i) now) ≡ block_at xs i
+pub written_read : (f : ℕ → List ℕ) (xs now : List ℕ) (i k : ℕ) → Written f xs now i → k ≡ 16 → take k (drop (16 * i) now) ≡ text_block xs i
 written_read f xs now i k w e = ap (λ (l : List ℕ). take k (drop (16 * i) l)) w.text ∙ read_block f xs i k w.blocks e
 
 pub written_more : (f : ℕ → List ℕ) (xs now ys : List ℕ) (i k : ℕ) → Written f xs now i → 16 * i + 16 ≤ length xs → k ≡ 16 → ys ≡ f i → length ys ≡ 16
@@ -100,7 +100,7 @@ written_as f xs now n blocks room e = record {
 }
 
 -- a block not yet written is as it was
-pub written_ahead : (f : ℕ → List ℕ) (xs now : List ℕ) (n m : ℕ) → Written f xs now n → n ≤ m → block_at now m ≡ block_at xs m
+pub written_ahead : (f : ℕ → List ℕ) (xs now : List ℕ) (n m : ℕ) → Written f xs now n → n ≤ m → text_block now m ≡ text_block xs m
 written_ahead f xs now n m w le =
     let d : ℕ = m - n in
     let at : 16 * n + 16 * d ≡ 16 * m = omega arith in

@@ -8,7 +8,7 @@ use Rattle.std.proofs.lemmas.Simd.{length-zip2}
 use lib.Lanes.{zip2}
 use Rattle.byte_list.proofs.ByteLaws.{bytes_append, bytes_four, bytes_made, bytes_map, bytes_zip2}
 use Rattle.aes_core.specs.Field.{product_of, sub_byte, times, inv_sub_byte}
-use Rattle.aes_core.specs.Cipher.{AreBytes, IsBlock, after_rounds, before_rounds, circulant_times, column_times, decrypted_by, encrypted_by, mix_columns, round_key, row_times, shift_rows, sub_bytes, inv_mix_columns, inv_shift_rows, inv_sub_bytes, xored}
+use Rattle.aes_core.specs.Cipher.{AreBytes, IsCipherBlock, after_rounds, before_rounds, circulant_times, column_times, decrypted_by, encrypted_by, mix_columns, round_key, row_times, shift_rows, sub_bytes, inv_mix_columns, inv_shift_rows, inv_sub_bytes, xored}
 use Rattle.aes_core.proofs.ByTable.{everywhere, sub-inv_sub, sub_byte-lt, inv_sub-sub, inv_sub_byte-lt}
 use Rattle.aes_core.proofs.Linear.{row_times-lt, undone}
 use Rattle.byte_list.proofs.XorLaws.{xored_twice}
@@ -34,22 +34,22 @@ map_back f g h (x ∷ xs) t = (λ i. h x (t 0) i ∷ map_back f g h xs (λ j. t 
 
 -- ---- the steps keep blocks
 
-pub block_zip2 : (f : ℕ → ℕ → ℕ) → ((a b : ℕ) → a < 256 → b < 256 → f a b < 256) → (s k : List ℕ) → IsBlock s → IsBlock k → IsBlock (zip2 f s k)
+pub block_zip2 : (f : ℕ → ℕ → ℕ) → ((a b : ℕ) → a < 256 → b < 256 → f a b < 256) → (s k : List ℕ) → IsCipherBlock s → IsCipherBlock k → IsCipherBlock (zip2 f s k)
 block_zip2 f keeps s k h t = record { long = length-zip2 f s k (h.long ∙ sym t.long) ∙ h.long; bytes = bytes_zip2 f keeps s k h.bytes t.bytes }
 
-pub block_xored : (s k : List ℕ) → IsBlock s → IsBlock k → IsBlock (xored s k)
+pub block_xored : (s k : List ℕ) → IsCipherBlock s → IsCipherBlock k → IsCipherBlock (xored s k)
 block_xored s k h t = block_zip2 bit_xor (xor_lt 8) s k h t
 
-pub block_sub : (s : List ℕ) → IsBlock s → IsBlock (sub_bytes s)
+pub block_sub : (s : List ℕ) → IsCipherBlock s → IsCipherBlock (sub_bytes s)
 block_sub s h = record { long = length-map s sub_byte ∙ h.long; bytes = bytes_map sub_byte sub_byte-lt s h.bytes }
 
-pub block_inv_sub : (s : List ℕ) → IsBlock s → IsBlock (inv_sub_bytes s)
+pub block_inv_sub : (s : List ℕ) → IsCipherBlock s → IsCipherBlock (inv_sub_bytes s)
 block_inv_sub s h = record { long = length-map s inv_sub_byte ∙ h.long; bytes = bytes_map inv_sub_byte inv_sub_byte-lt s h.bytes }
 
-pub block_shift : (s : List ℕ) → IsBlock s → IsBlock (shift_rows s)
+pub block_shift : (s : List ℕ) → IsCipherBlock s → IsCipherBlock (shift_rows s)
 block_shift s h = record { long = refl; bytes = bytes_made (λ k. slice_index s (k % 4 + 4 * ((k / 4 + k % 4) % 4))) (λ k. h.bytes (k % 4 + 4 * ((k / 4 + k % 4) % 4))) (range_with_len 0 16) }
 
-pub block_inv_shift : (s : List ℕ) → IsBlock s → IsBlock (inv_shift_rows s)
+pub block_inv_shift : (s : List ℕ) → IsCipherBlock s → IsCipherBlock (inv_shift_rows s)
 block_inv_shift s h = record { long = refl; bytes = bytes_made (λ k. slice_index s (k % 4 + 4 * ((k / 4 + 4 - k % 4) % 4))) (λ k. h.bytes (k % 4 + 4 * ((k / 4 + 4 - k % 4) % 4))) (range_with_len 0 16) }
 
 column_bytes : (m n o p a b c d : ℕ) → a < 256 → b < 256 → c < 256 → d < 256 → AreBytes (circulant_times m n o p a b c d)
@@ -65,24 +65,24 @@ columns_bytes m n o p s h =
     (bytes_append (column_times m n o p s 0 ++ column_times m n o p s 1) (column_times m n o p s 2)
     (bytes_append (column_times m n o p s 0) (column_times m n o p s 1) (one 0) (one 1)) (one 2)) (one 3)
 
-pub block_mix : (s : List ℕ) → IsBlock s → IsBlock (mix_columns s)
+pub block_mix : (s : List ℕ) → IsCipherBlock s → IsCipherBlock (mix_columns s)
 block_mix s h = record { long = refl; bytes = columns_bytes 2 3 1 1 s h.bytes }
 
-pub block_inv_mix : (s : List ℕ) → IsBlock s → IsBlock (inv_mix_columns s)
+pub block_inv_mix : (s : List ℕ) → IsCipherBlock s → IsCipherBlock (inv_mix_columns s)
 block_inv_mix s h = record { long = refl; bytes = columns_bytes 14 11 13 9 s h.bytes }
 
 -- ---- the steps and their inverses
 
-pub inv_sub-sub_bytes : (s : List ℕ) → IsBlock s → inv_sub_bytes (sub_bytes s) ≡ s
+pub inv_sub-sub_bytes : (s : List ℕ) → IsCipherBlock s → inv_sub_bytes (sub_bytes s) ≡ s
 inv_sub-sub_bytes s h = map_back sub_byte inv_sub_byte inv_sub-sub s h.bytes
 
-pub sub-inv_sub_bytes : (s : List ℕ) → IsBlock s → sub_bytes (inv_sub_bytes s) ≡ s
+pub sub-inv_sub_bytes : (s : List ℕ) → IsCipherBlock s → sub_bytes (inv_sub_bytes s) ≡ s
 sub-inv_sub_bytes s h = map_back inv_sub_byte sub_byte sub-inv_sub s h.bytes
 
-pub inv_shift-shift : (s : List ℕ) → IsBlock s → inv_shift_rows (shift_rows s) ≡ s
+pub inv_shift-shift : (s : List ℕ) → IsCipherBlock s → inv_shift_rows (shift_rows s) ≡ s
 inv_shift-shift s h = sym (sixteen_of s h.long)
 
-pub shift-inv_shift : (s : List ℕ) → IsBlock s → shift_rows (inv_shift_rows s) ≡ s
+pub shift-inv_shift : (s : List ℕ) → IsCipherBlock s → shift_rows (inv_shift_rows s) ≡ s
 shift-inv_shift s h = sym (sixteen_of s h.long)
 
 there_1 : map (λ a. circulant_times 14 11 13 9 (times 2 a) (times 1 a) (times 1 a) (times 3 a)) (range_with_len 0 256) ≡ map (λ a. a ∷ 0 ∷ 0 ∷ 0 ∷ []) (range_with_len 0 256)
@@ -133,7 +133,7 @@ mix-inv_mix_column = undone 2 3 1 1 14 11 13 9
     (everywhere (λ a. circulant_times 2 3 1 1 (times 13 a) (times 11 a) (times 14 a) (times 9 a)) (λ a. 0 ∷ 0 ∷ a ∷ 0 ∷ []) back_3)
     (everywhere (λ a. circulant_times 2 3 1 1 (times 9 a) (times 13 a) (times 11 a) (times 14 a)) (λ a. 0 ∷ 0 ∷ 0 ∷ a ∷ []) back_4)
 
-pub inv_mix-mix : (s : List ℕ) → IsBlock s → inv_mix_columns (mix_columns s) ≡ s
+pub inv_mix-mix : (s : List ℕ) → IsCipherBlock s → inv_mix_columns (mix_columns s) ≡ s
 inv_mix-mix s h =
     let x = λ (k : ℕ). slice_index s k in
     let u0 = inv_mix-mix_column (x 0) (x 1) (x 2) (x 3) (h.bytes 0) (h.bytes 1) (h.bytes 2) (h.bytes 3) in
@@ -142,7 +142,7 @@ inv_mix-mix s h =
     let u3 = inv_mix-mix_column (x 12) (x 13) (x 14) (x 15) (h.bytes 12) (h.bytes 13) (h.bytes 14) (h.bytes 15) in
     (λ i. u0 i ++ u1 i ++ u2 i ++ u3 i) ∙ sym (sixteen_of s h.long)
 
-pub mix-inv_mix : (s : List ℕ) → IsBlock s → mix_columns (inv_mix_columns s) ≡ s
+pub mix-inv_mix : (s : List ℕ) → IsCipherBlock s → mix_columns (inv_mix_columns s) ≡ s
 mix-inv_mix s h =
     let x = λ (k : ℕ). slice_index s k in
     let u0 = mix-inv_mix_column (x 0) (x 1) (x 2) (x 3) (h.bytes 0) (h.bytes 1) (h.bytes 2) (h.bytes 3) in
@@ -155,35 +155,35 @@ mix-inv_mix s h =
 
 -- the keys of rounds 0 to m are blocks
 pub record AreKeys (w : List ℕ) (m : ℕ) : Type 0 where
-  pub keys : (r : ℕ) → r ≤ m → IsBlock (round_key w r)
+  pub keys : (r : ℕ) → r ≤ m → IsCipherBlock (round_key w r)
 
-pub block_after : (w s : List ℕ) (m n : ℕ) → AreKeys w m → IsBlock s → n ≤ m → IsBlock (after_rounds w s n)
+pub block_after : (w s : List ℕ) (m n : ℕ) → AreKeys w m → IsCipherBlock s → n ≤ m → IsCipherBlock (after_rounds w s n)
 unfolding after_rounds
 block_after w s m zero k h le = block_xored s (round_key w 0) h (k.keys 0 (omega arith))
 block_after w s m (suc n) k h le =
     let p = block_after w s m n k h (omega arith) in
     block_xored _ (round_key w (suc n)) (block_mix _ (block_shift _ (block_sub _ p))) (k.keys (suc n) le)
 
-pub block_before : (w s : List ℕ) (m n : ℕ) → AreKeys w m → IsBlock s → n ≤ m → IsBlock (before_rounds w m s n)
+pub block_before : (w s : List ℕ) (m n : ℕ) → AreKeys w m → IsCipherBlock s → n ≤ m → IsCipherBlock (before_rounds w m s n)
 unfolding before_rounds
 block_before w s m zero k h le = block_xored s (round_key w m) h (k.keys m (omega arith))
 block_before w s m (suc n) k h le =
     let p = block_before w s m n k h (omega arith) in
     block_inv_mix _ (block_xored _ (round_key w (m - suc n)) (block_inv_sub _ (block_inv_shift _ p)) (k.keys (m - suc n) (omega arith)))
 
-pub block_encrypted : (w s : List ℕ) (m : ℕ) → AreKeys w m → IsBlock s → IsBlock (encrypted_by w m s)
+pub block_encrypted : (w s : List ℕ) (m : ℕ) → AreKeys w m → IsCipherBlock s → IsCipherBlock (encrypted_by w m s)
 block_encrypted w s m k h =
     block_xored _ (round_key w m) (block_shift _ (block_sub _ (block_after w s m (m - 1) k h (omega arith)))) (k.keys m (omega arith))
 
-pub block_decrypted : (w s : List ℕ) (m : ℕ) → AreKeys w m → IsBlock s → IsBlock (decrypted_by w m s)
+pub block_decrypted : (w s : List ℕ) (m : ℕ) → AreKeys w m → IsCipherBlock s → IsCipherBlock (decrypted_by w m s)
 block_decrypted w s m k h =
     block_xored _ (round_key w 0) (block_inv_sub _ (block_inv_shift _ (block_before w s m (m - 1) k h (omega arith)))) (k.keys 0 (omega arith))
 
-cancelled : (s k : List ℕ) → IsBlock s → IsBlock k → xored (xored s k) k ≡ s
+cancelled : (s k : List ℕ) → IsCipherBlock s → IsCipherBlock k → xored (xored s k) k ≡ s
 cancelled s k h t = xored_twice s k (omega (arith, h.long, t.long))
 
 -- n rounds before the end of an encryption
-before_is : (w s : List ℕ) (m n : ℕ) → AreKeys w m → IsBlock s → n + 1 ≤ m
+before_is : (w s : List ℕ) (m n : ℕ) → AreKeys w m → IsCipherBlock s → n + 1 ≤ m
     → before_rounds w m (encrypted_by w m s) n ≡ shift_rows (sub_bytes (after_rounds w s (m - 1 - n)))
 unfolding before_rounds after_rounds
 before_is w s m zero k h le =
@@ -193,14 +193,14 @@ before_is w s m zero k h le =
 before_is w s m (suc n) k h le =
     let i : ℕ = m - 1 - suc n in
     let a : List ℕ = after_rounds w s i in
-    let ha : IsBlock a = block_after w s m i k h (omega arith) in
+    let ha : IsCipherBlock a = block_after w s m i k h (omega arith) in
     let e : m - 1 - n ≡ suc i = omega arith in
     let f : m - suc n ≡ suc i = omega arith in
-    let key : IsBlock (round_key w (suc i)) = k.keys (suc i) (omega arith) in
+    let key : IsCipherBlock (round_key w (suc i)) = k.keys (suc i) (omega arith) in
     let mixed : List ℕ = mix_columns (shift_rows (sub_bytes a)) in
-    let hm : IsBlock mixed = block_mix _ (block_shift _ (block_sub _ ha)) in
+    let hm : IsCipherBlock mixed = block_mix _ (block_shift _ (block_sub _ ha)) in
     let next : List ℕ = xored mixed (round_key w (suc i)) in
-    let hn : IsBlock next = block_xored mixed (round_key w (suc i)) hm key in
+    let hn : IsCipherBlock next = block_xored mixed (round_key w (suc i)) hm key in
     let before : before_rounds w m (encrypted_by w m s) n ≡ shift_rows (sub_bytes next) = before_is w s m n k h (omega arith) ∙ ap (λ (j : ℕ). shift_rows (sub_bytes (after_rounds w s j))) e in
     ap (λ (x : List ℕ). inv_mix_columns (xored (inv_sub_bytes (inv_shift_rows x)) (round_key w (m - suc n)))) before
     ∙ ap (λ (x : List ℕ). inv_mix_columns (xored (inv_sub_bytes x) (round_key w (m - suc n)))) (inv_shift-shift _ (block_sub _ hn))
@@ -209,19 +209,19 @@ before_is w s m (suc n) k h le =
     ∙ ap inv_mix_columns (cancelled mixed (round_key w (suc i)) hm key)
     ∙ inv_mix-mix _ (block_shift _ (block_sub _ ha))
 
-pub decrypted-encrypted : (w s : List ℕ) (m : ℕ) → 0 < m → AreKeys w m → IsBlock s → decrypted_by w m (encrypted_by w m s) ≡ s
+pub decrypted-encrypted : (w s : List ℕ) (m : ℕ) → 0 < m → AreKeys w m → IsCipherBlock s → decrypted_by w m (encrypted_by w m s) ≡ s
 unfolding after_rounds
 decrypted-encrypted w s m pos k h =
     let e : m - 1 - (m - 1) ≡ 0 = omega arith in
     let first : List ℕ = after_rounds w s 0 in
-    let hf : IsBlock first = block_after w s m 0 k h (omega arith) in
+    let hf : IsCipherBlock first = block_after w s m 0 k h (omega arith) in
     ap (λ (x : List ℕ). xored (inv_sub_bytes (inv_shift_rows x)) (round_key w 0)) (before_is w s m (m - 1) k h (omega arith) ∙ ap (λ (j : ℕ). shift_rows (sub_bytes (after_rounds w s j))) e)
     ∙ ap (λ (x : List ℕ). xored (inv_sub_bytes x) (round_key w 0)) (inv_shift-shift _ (block_sub _ hf))
     ∙ ap (λ (x : List ℕ). xored x (round_key w 0)) (inv_sub-sub_bytes _ hf)
     ∙ cancelled s (round_key w 0) h (k.keys 0 (omega arith))
 
 -- n rounds into the encryption of what was decrypted
-after_is : (w s : List ℕ) (m n : ℕ) → AreKeys w m → IsBlock s → n + 1 ≤ m
+after_is : (w s : List ℕ) (m n : ℕ) → AreKeys w m → IsCipherBlock s → n + 1 ≤ m
     → after_rounds w (decrypted_by w m s) n ≡ inv_sub_bytes (inv_shift_rows (before_rounds w m s (m - 1 - n)))
 unfolding before_rounds after_rounds
 after_is w s m zero k h le =
@@ -231,16 +231,16 @@ after_is w s m zero k h le =
 after_is w s m (suc n) k h le =
     let i : ℕ = m - 1 - suc n in
     let b : List ℕ = before_rounds w m s i in
-    let hb : IsBlock b = block_before w s m i k h (omega arith) in
+    let hb : IsCipherBlock b = block_before w s m i k h (omega arith) in
     let e : m - 1 - n ≡ suc i = omega arith in
     let f : m - suc i ≡ suc n = omega arith in
-    let key : IsBlock (round_key w (suc n)) = k.keys (suc n) (omega arith) in
+    let key : IsCipherBlock (round_key w (suc n)) = k.keys (suc n) (omega arith) in
     let subbed : List ℕ = inv_sub_bytes (inv_shift_rows b) in
-    let hs : IsBlock subbed = block_inv_sub _ (block_inv_shift _ hb) in
+    let hs : IsCipherBlock subbed = block_inv_sub _ (block_inv_shift _ hb) in
     let inner : List ℕ = xored subbed (round_key w (suc n)) in
-    let hi : IsBlock inner = block_xored subbed (round_key w (suc n)) hs key in
+    let hi : IsCipherBlock inner = block_xored subbed (round_key w (suc n)) hs key in
     let next : List ℕ = inv_mix_columns inner in
-    let hn : IsBlock next = block_inv_mix inner hi in
+    let hn : IsCipherBlock next = block_inv_mix inner hi in
     let step : before_rounds w m s (suc i) ≡ next = ap (λ (j : ℕ). inv_mix_columns (xored subbed (round_key w j))) f in
     let after : after_rounds w (decrypted_by w m s) n ≡ inv_sub_bytes (inv_shift_rows next) =
     after_is w s m n k h (omega arith) ∙ ap (λ (j : ℕ). inv_sub_bytes (inv_shift_rows (before_rounds w m s j))) e ∙ ap (λ (x : List ℕ). inv_sub_bytes (inv_shift_rows x)) step in
@@ -250,12 +250,12 @@ after_is w s m (suc n) k h le =
     ∙ ap (λ (x : List ℕ). xored x (round_key w (suc n))) (mix-inv_mix _ hi)
     ∙ cancelled subbed (round_key w (suc n)) hs key
 
-pub encrypted-decrypted : (w s : List ℕ) (m : ℕ) → 0 < m → AreKeys w m → IsBlock s → encrypted_by w m (decrypted_by w m s) ≡ s
+pub encrypted-decrypted : (w s : List ℕ) (m : ℕ) → 0 < m → AreKeys w m → IsCipherBlock s → encrypted_by w m (decrypted_by w m s) ≡ s
 unfolding before_rounds
 encrypted-decrypted w s m pos k h =
     let e : m - 1 - (m - 1) ≡ 0 = omega arith in
     let first : List ℕ = before_rounds w m s 0 in
-    let hf : IsBlock first = block_before w s m 0 k h (omega arith) in
+    let hf : IsCipherBlock first = block_before w s m 0 k h (omega arith) in
     ap (λ (x : List ℕ). xored (shift_rows (sub_bytes x)) (round_key w m)) (after_is w s m (m - 1) k h (omega arith) ∙ ap (λ (j : ℕ). inv_sub_bytes (inv_shift_rows (before_rounds w m s j))) e)
     ∙ ap (λ (x : List ℕ). xored (shift_rows x) (round_key w m)) (sub-inv_sub_bytes _ (block_inv_shift _ hf))
     ∙ ap (λ (x : List ℕ). xored x (round_key w m)) (shift-inv_shift _ hf)

@@ -1,7 +1,7 @@
 -- A text, the padding after it, and the text again.
 use Rattle.std.proofs.Common.{◌≡◌, ℕ, zero, suc, ◌+◌, ◌-◌, ◌%◌, ◌<◌, ◌≤◌, List, ◌++◌, length, take, drop, replicate, slice_index, get_or, refl, sym, ap, ap₂, ◌∙◌, arith, length-append, length-drop, length-take-le}
 use Rattle.std.proofs.lemmas.List.{append-nil, drop-drop, drop_at, get_or-drop, get_or-replicate, length-replicate, take-append-drop, take_at}
-use Rattle.aes_core.specs.Cipher.{AreBytes, IsBlock, IsKey}
+use Rattle.aes_core.specs.Cipher.{AreBytes, IsCipherBlock, IsKey}
 use Rattle.aes_core.specs.Modes.{EndsIn, cbc_pad, cbc_tail, padded, uncbc_tail, whole_blocks, joined, chain}
 use Rattle.byte_list.proofs.ByteLaws.{bytes_append, bytes_replicate}
 use Rattle.aes_core.proofs.ModeLaws.{cbc_redone, cbc_undone, length-done, length-undone, no_tail}
@@ -61,7 +61,7 @@ pad_is key iv p =
     ap (λ (t : List ℕ). joined (λ i. chain key iv (padded p) (suc i)) (whole_blocks (padded p)) ++ t) (no_tail key iv (padded p) (padded_whole p))
     ∙ append-nil (joined (λ i. chain key iv (padded p) (suc i)) (whole_blocks (padded p)))
 
-module _ (key iv : List ℕ) (k : IsKey key) (v : IsBlock iv) where
+module _ (key iv : List ℕ) (k : IsKey key) (v : IsCipherBlock iv) where
   pub undone_padded : (p c : List ℕ) → AreBytes p → c ≡ cbc_pad key iv p → uncbc_tail key iv c ≡ padded p
   undone_padded p c b is =
       ap (uncbc_tail key iv) (is ∙ sym (pad_is key iv p)) ∙ cbc_undone key iv k v (padded p) (bytes_padded p b)

@@ -11,8 +11,8 @@ use Rattle.std.proofs.lemmas.Simd.{Each1-from_get_or, Each1-get_or, get_or-zip2,
 use Rattle.std.proofs.lemmas.Slice.{take-put_mid, take-put_mid_below}
 use borrow.Rule.Slice.PartMut.{put_mid}
 use lib.Lanes.{Each1, number_l, zip2}
-use Rattle.aes_core.specs.Cipher.{IsBlock, round_key, state_of}
-use Rattle.aes_core.specs.Planes.{AreKeyPlanes, ArePlanes, bits_in, block_in, byte_bits, round_planes}
+use Rattle.aes_core.specs.Cipher.{IsCipherBlock, round_key, state_of}
+use Rattle.aes_core.specs.Planes.{AreKeyPlanes, ArePlanes, bits_in, block_in, bits_of_byte, round_planes}
 use Rattle.aes_core.proofs.ByTable.{everywhere}
 use Rattle.aes_core.proofs.Inverse.{byte_at-lt}
 use Rattle.byte_list.proofs.ByteLaws.{bytes_made}
@@ -43,22 +43,22 @@ plane_at planes i = get_or planes i []
 pub eight_of : (planes : List (List ℕ)) → length planes ≡ 8 → planes ≡ eight (plane_at planes)
 eight_of planes count = sym (pick_l_whole [] planes 8 count)
 
-pub plane_is : (planes : List (List ℕ)) → ArePlanes planes → (i : ℕ) → i < 8 → IsBlock (plane_at planes i)
+pub plane_is : (planes : List (List ℕ)) → ArePlanes planes → (i : ℕ) → i < 8 → IsCipherBlock (plane_at planes i)
 plane_is planes are i lt = record { long = are.long i lt; bytes = are.bytes i }
 
-pub are_planes : (planes : List (List ℕ)) → length planes ≡ 8 → Each1 IsBlock planes → ArePlanes planes
+pub are_planes : (planes : List (List ℕ)) → length planes ≡ 8 → Each1 IsCipherBlock planes → ArePlanes planes
 are_planes planes count each = record { count = count; long = λ i lt. (is i (omega (arith, count))).long; bytes = λ i. bytes i (cases_lt i (length planes)) }
   where
-    is : (i : ℕ) → i < length planes → IsBlock (plane_at planes i)
-    is i lt = Each1-get_or IsBlock planes i [] lt each
+    is : (i : ℕ) → i < length planes → IsCipherBlock (plane_at planes i)
+    is i lt = Each1-get_or IsCipherBlock planes i [] lt each
 
     bytes : (i : ℕ) → (i < length planes) ⊎ (length planes ≤ i) → (j : ℕ) → slice_index (plane_at planes i) j < 256
     bytes i (inl lt) j = (is i lt).bytes j
     bytes i (inr le) j = rw (get_or_past planes i [] le) (omega arith)
 
-pub eight_planes : (f : ℕ → List ℕ) → ((i : ℕ) → i < 8 → IsBlock (f i)) → ArePlanes (eight f)
+pub eight_planes : (f : ℕ → List ℕ) → ((i : ℕ) → i < 8 → IsCipherBlock (f i)) → ArePlanes (eight f)
 eight_planes f each =
-    are_planes (eight f) refl (Each1-from_get_or IsBlock (eight f) [] (λ i lt. rw (get_or-map-range_with_len f 0 8 i i [] lt (omega arith)) (each i lt)))
+    are_planes (eight f) refl (Each1-from_get_or IsCipherBlock (eight f) [] (λ i lt. rw (get_or-map-range_with_len f 0 8 i i [] lt (omega arith)) (each i lt)))
 
 -- ---- lanes
 
@@ -70,13 +70,13 @@ zip2_at f xs ys j long_x long_y lt = get_or-zip2 f xs ys j 0 0 0 (omega arith) (
 pub bit_of_xor : (x y i : ℕ) → bit_at (bit_xor x y) i ≡ bit_xor (bit_at x i) (bit_at y i)
 bit_of_xor x y i = ap (λ (n : ℕ). n % 2) (xor_shr x y i) ∙ xor_mod (x / 2 ^ i) (y / 2 ^ i) 1
 
-pub bits_of_xor : (x y : ℕ) → byte_bits (bit_xor x y) ≡ zip2 bit_xor (byte_bits x) (byte_bits y)
+pub bits_of_xor : (x y : ℕ) → bits_of_byte (bit_xor x y) ≡ zip2 bit_xor (bits_of_byte x) (bits_of_byte y)
 bits_of_xor x y =
     (λ t. map (λ i. bit_of_xor x y i t) (range_with_len 0 8))
     ∙ sym (zip2-map bit_xor (bit_at x) (bit_at y) (range_with_len 0 8))
 
-pub number_of_bits : (x : ℕ) → x < 256 → number_l 2 (byte_bits x) ≡ x
-number_of_bits x lt = everywhere (λ x. number_l 2 (byte_bits x)) (λ x. x) refl x lt
+pub number_of_bits : (x : ℕ) → x < 256 → number_l 2 (bits_of_byte x) ≡ x
+number_of_bits x lt = everywhere (λ x. number_l 2 (bits_of_byte x)) (λ x. x) refl x lt
 
 bit_of_number : (bits : List ℕ) → Each1 (λ n. n < 2) bits → (i : ℕ) → bit_at (number_l 2 bits) i ≡ slice_index bits i
 bit_of_number [] each i = bit_at-zero i
@@ -107,25 +107,25 @@ byte_in-lt planes count j b =
     get_or_wider 2 8 256 1 bits 0 refl (bits_in-lt planes j b) (omega arith) ∙ ap (number_l 2) (take_all 8 bits (omega arith)) in
     omega arith
 
-pub byte_in-bits : (planes : List (List ℕ)) → length planes ≡ 8 → (j b : ℕ) → byte_bits (byte_in planes j b) ≡ bits_in planes j b
+pub byte_in-bits : (planes : List (List ℕ)) → length planes ≡ 8 → (j b : ℕ) → bits_of_byte (byte_in planes j b) ≡ bits_in planes j b
 byte_in-bits planes count j b =
     let bits = bits_in planes j b in
     (λ t. map (λ i. bit_of_number bits (bits_in-lt planes j b) i t) (range_with_len 0 8)) ∙ pick_l_whole 0 bits 8 (length-bits_in planes count j b)
 
 -- what holds of the bits of each byte, by computing it 256 times, holds of those
-pub everywhere_in : (f : List ℕ → ℕ) (g : ℕ → ℕ) → map (λ n. f (byte_bits n)) (range_with_len 0 256) ≡ map g (range_with_len 0 256)
+pub everywhere_in : (f : List ℕ → ℕ) (g : ℕ → ℕ) → map (λ n. f (bits_of_byte n)) (range_with_len 0 256) ≡ map g (range_with_len 0 256)
     → (planes : List (List ℕ)) → length planes ≡ 8 → (j b : ℕ) → f (bits_in planes j b) ≡ g (byte_in planes j b)
 everywhere_in f g same planes count j b =
-    ap f (sym (byte_in-bits planes count j b)) ∙ everywhere (λ n. f (byte_bits n)) g same (byte_in planes j b) (byte_in-lt planes count j b)
+    ap f (sym (byte_in-bits planes count j b)) ∙ everywhere (λ n. f (bits_of_byte n)) g same (byte_in planes j b) (byte_in-lt planes count j b)
 
 -- a block out of planes is sixteen bytes
-pub block_is : (planes : List (List ℕ)) → length planes ≡ 8 → (b : ℕ) → IsBlock (block_in planes b)
+pub block_is : (planes : List (List ℕ)) → length planes ≡ 8 → (b : ℕ) → IsCipherBlock (block_in planes b)
 block_is planes count b = record { long = refl; bytes = bytes_made (λ j. byte_in planes j b) (λ j. byte_in-lt planes count j b) (range_with_len 0 16) }
 
 -- ---- planes of keys
 
 -- a state of words is sixteen bytes
-pub state_is : (w : List ℕ) → IsBlock (state_of w)
+pub state_is : (w : List ℕ) → IsCipherBlock (state_of w)
 state_is w = record { long = refl; bytes = bytes_made (λ k. byte_at (k % 4) (slice_index w (k / 4))) (λ k. byte_at-lt (k % 4) (slice_index w (k / 4))) (range_with_len 0 16) }
 
 -- planes that hold the key of round q in each block

@@ -6,8 +6,8 @@ use Rattle.std.proofs.lemmas.Nat.{xor_comm, xor_lt}
 use lib.Bits.{xor_assoc}
 use lib.Lanes.{number_l, zip2}
 use Rattle.aes_core.specs.Field.{product_of, times}
-use Rattle.aes_core.specs.Cipher.{IsBlock, circulant_times, inv_mix_columns, inv_shift_rows, mix_columns, row_times, shift_rows, xored}
-use Rattle.aes_core.specs.Planes.{ArePlanes, bits_in, block_in, byte_bits}
+use Rattle.aes_core.specs.Cipher.{IsCipherBlock, circulant_times, inv_mix_columns, inv_shift_rows, mix_columns, row_times, shift_rows, xored}
+use Rattle.aes_core.specs.Planes.{ArePlanes, bits_in, block_in, bits_of_byte}
 use Rattle.aes_core.proofs.ByTable.{everywhere, times_1, times_2, times_3}
 use Rattle.aes_core.proofs.Inverse.{block_inv_shift, block_shift, block_xored, sixteen_of}
 use Rattle.aes_core.proofs.Linear.{row_times-xor, sum_four, times-xor}
@@ -85,7 +85,7 @@ xored_blocks planes other are also b =
 abbrev pub doubled_of : {X : Type 0} → (X → X → X) → (ℕ → X) → List X
 doubled_of add f = f 7 ∷ add (f 0) (f 7) ∷ f 1 ∷ add (f 2) (f 7) ∷ add (f 3) (f 7) ∷ f 4 ∷ f 5 ∷ f 6 ∷ []
 
-doubled_byte : map (λ n. number_l 2 (doubled_of bit_xor (slice_index (byte_bits n)))) (range_with_len 0 256) ≡ map (λ n. times 2 n) (range_with_len 0 256)
+doubled_byte : map (λ n. number_l 2 (doubled_of bit_xor (slice_index (bits_of_byte n)))) (range_with_len 0 256) ≡ map (λ n. times 2 n) (range_with_len 0 256)
 unfolding product_of
 doubled_byte = refl
 
@@ -110,7 +110,7 @@ doubled_planes planes are =
     let p = plane_is planes are in
     let top = p 7 (omega arith) in
     are_planes (doubled_of xored (plane_at planes)) refl
-    (all_eight IsBlock top (block_xored _ _ (p 0 (omega arith)) top) (p 1 (omega arith)) (block_xored _ _ (p 2 (omega arith)) top)
+    (all_eight IsCipherBlock top (block_xored _ _ (p 0 (omega arith)) top) (p 1 (omega arith)) (block_xored _ _ (p 2 (omega arith)) top)
     (block_xored _ _ (p 3 (omega arith)) top) (p 4 (omega arith)) (p 5 (omega arith)) (p 6 (omega arith)))
 
 -- ---- MixColumns by sums of rows
@@ -144,7 +144,7 @@ column a b c d ha hb hc hd =
 abbrev by_sums : List ℕ → List ℕ
 by_sums s = xored (xored (map (times 2) (xored s (rows_up 1 s))) (rows_up 1 s)) (rows_up 2 (xored s (rows_up 1 s)))
 
-pub mixed : (s : List ℕ) → IsBlock s → by_sums s ≡ mix_columns s
+pub mixed : (s : List ℕ) → IsCipherBlock s → by_sums s ≡ mix_columns s
 mixed s is =
     let x = slice_index s in
     let each = λ (k : ℕ). column (x k) (x (k + 1)) (x (k + 2)) (x (k + 3)) (is.bytes k) (is.bytes (k + 1)) (is.bytes (k + 2)) (is.bytes (k + 3)) in
@@ -215,7 +215,7 @@ taken_column a b c d ha hb hc hd =
 abbrev by_mixing : List ℕ → List ℕ
 by_mixing s = mix_columns (xored s (map (times 2) (map (times 2) (xored s (rows_up 2 s)))))
 
-pub inv_mixed : (s : List ℕ) → IsBlock s → by_mixing s ≡ inv_mix_columns s
+pub inv_mixed : (s : List ℕ) → IsCipherBlock s → by_mixing s ≡ inv_mix_columns s
 inv_mixed s is =
     let x = slice_index s in
     let each = λ (k : ℕ). taken_column (x k) (x (k + 1)) (x (k + 2)) (x (k + 3)) (is.bytes k) (is.bytes (k + 1)) (is.bytes (k + 2)) (is.bytes (k + 3)) in

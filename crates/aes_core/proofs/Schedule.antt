@@ -10,7 +10,7 @@ use Rattle.std.proofs.lemmas.Simd.{length-zip2}
 use lib.Bits.{xor_zero_r}
 use Rattle.byte_list.proofs.ByteLaws.{bytes_drop, bytes_take}
 use Rattle.aes_core.specs.Field.{power, sub_byte}
-use Rattle.aes_core.specs.Cipher.{AreBytes, IsKey, IsKeyLength, IsReady, changed_word, expanded, next_word, rot_word, round_count, schedule, sub_bytes, word_at, word_count, xored}
+use Rattle.aes_core.specs.Cipher.{AreBytes, IsKey, IsKeyLength, IsKeySchedule, changed_word, expanded, next_word, rot_word, round_count, schedule, sub_bytes, word_at, word_count, xored}
 use Rattle.aes_core.proofs.ByTable.{sub_byte-lt}
 use Rattle.aes_core.proofs.Linear.{times_x-lt}
 use Rattle.aes_core.proofs.Inverse.{AreKeys}
@@ -176,18 +176,18 @@ begins keys key k e =
     sym (take-take (length key) (16 * (length key / 4 + 7)) keys (omega (arith, k.whole)))
     ∙ ap (take (length key)) e ∙ expanded_begins key _ k
 
-pub ready : (keys key : List ℕ) → IsKeyLength (length key) → AreBytes key → take (16 * (length key / 4 + 7)) keys ≡ schedule key → IsReady keys (length key)
+pub ready : (keys key : List ℕ) → IsKeyLength (length key) → AreBytes key → take (16 * (length key / 4 + 7)) keys ≡ schedule key → IsKeySchedule keys (length key)
 ready keys key h b e =
     let begun : take (length key) keys ≡ key = begins keys key (key_from key h b) e in
     record { key_length = h; bytes = λ i. rw begun (b i); rounds = e ∙ ap schedule (sym begun) }
 
-pub opened_key : (keys : List ℕ) (n : ℕ) (key : List ℕ) → length keys ≡ 240 → IsReady keys n → take n keys ≡ key → IsKey key
+pub opened_key : (keys : List ℕ) (n : ℕ) (key : List ℕ) → length keys ≡ 240 → IsKeySchedule keys n → take n keys ≡ key → IsKey key
 opened_key keys n key long h v =
     let few : n ≤ 240 = at_most n h.key_length in
     let len : n ≡ length key = sym (length-take-le n keys (omega arith)) ∙ ap length v in
     key_from key (rw len at h.key_length) (rw v at h.bytes)
 
-pub opened : (keys : List ℕ) (n m : ℕ) (key : List ℕ) → length keys ≡ 240 → IsReady keys n → m ≡ 16 * (n / 4 + 7) → take n keys ≡ key
+pub opened : (keys : List ℕ) (n m : ℕ) (key : List ℕ) → length keys ≡ 240 → IsKeySchedule keys n → m ≡ 16 * (n / 4 + 7) → take n keys ≡ key
     → (take m keys ≡ schedule key) × (n / 4 + 6 ≡ round_count key)
 opened keys n m key long h e v =
     let few : n ≤ 240 = at_most n h.key_length in

@@ -9,7 +9,7 @@ use Rattle.std.proofs.lemmas.List.{get_or-map, length-map}
 use Rattle.std.proofs.lemmas.List.FromFn.{get_or-map-range_with_len}
 use lib.Bits.{xor_zero_r}
 use lib.Lanes.{Each1, number_l, zip2}
-use Rattle.aes_core.specs.Planes.{AreExchanged, ArePlanes, bits_in, block_in, byte_bits, high_bits, low_bits}
+use Rattle.aes_core.specs.Planes.{AreExchanged, ArePlanes, bits_in, block_in, bits_of_byte, exchanged_high, exchanged_low}
 use Rattle.aes_core.proofs.ByTable.{everywhere}
 use Rattle.aes_core.proofs.PlaneLists.{bits_of_xor, byte_in, each_of_eight, eight, eight_of, number_of_bits, plane_at, zip2_at}
 
@@ -20,12 +20,12 @@ one_of : (c : Bool) (p q : ℕ) → bit_xor (if c then p else 0) (if c then 0 el
 one_of true p q = xor_zero_r p
 one_of false p q = refl
 
-low_joined : (k : ℕ) (xs ys : List ℕ) → zip2 bit_xor (low_bits k xs []) (low_bits k [] ys) ≡ low_bits k xs ys
+low_joined : (k : ℕ) (xs ys : List ℕ) → zip2 bit_xor (exchanged_low k xs []) (exchanged_low k [] ys) ≡ exchanged_low k xs ys
 low_joined k xs ys =
     zip2-map bit_xor (λ i. if i / k % 2 == 0 then slice_index xs i else 0) (λ i. if i / k % 2 == 0 then 0 else slice_index ys (i - k)) (range_with_len 0 8)
     ∙ (λ t. map (λ i. one_of (i / k % 2 == 0) (slice_index xs i) (slice_index ys (i - k)) t) (range_with_len 0 8))
 
-high_joined : (k : ℕ) (xs ys : List ℕ) → zip2 bit_xor (high_bits k xs []) (high_bits k [] ys) ≡ high_bits k xs ys
+high_joined : (k : ℕ) (xs ys : List ℕ) → zip2 bit_xor (exchanged_high k xs []) (exchanged_high k [] ys) ≡ exchanged_high k xs ys
 high_joined k xs ys =
     zip2-map bit_xor (λ i. if i / k % 2 == 0 then slice_index xs (i + k) else 0) (λ i. if i / k % 2 == 0 then 0 else slice_index ys i) (range_with_len 0 8)
     ∙ (λ t. map (λ i. one_of (i / k % 2 == 0) (slice_index xs (i + k)) (slice_index ys i) t) (range_with_len 0 8))
@@ -60,10 +60,10 @@ splats_long f g v s t long = splat_long g (zip2 f v (replicate 16 s)) t (splat_l
 
 -- the XOR of two vectors whose lanes have known bits
 xor_lane : (v w : List ℕ) (j x y : ℕ) (xs ys : List ℕ) → length v ≡ 16 → length w ≡ 16 → j < 16
-    → get_or v j 0 ≡ x → get_or w j 0 ≡ y → byte_bits x ≡ xs → byte_bits y ≡ ys
-    → byte_bits (get_or (zip2 bit_xor v w) j 0) ≡ zip2 bit_xor xs ys
+    → get_or v j 0 ≡ x → get_or w j 0 ≡ y → bits_of_byte x ≡ xs → bits_of_byte y ≡ ys
+    → bits_of_byte (get_or (zip2 bit_xor v w) j 0) ≡ zip2 bit_xor xs ys
 xor_lane v w j x y xs ys long_v long_w h is_x is_y bits_x bits_y =
-    ap byte_bits (zip2_at bit_xor v w j long_v long_w h ∙ ap₂ bit_xor is_x is_y)
+    ap bits_of_byte (zip2_at bit_xor v w j long_v long_w h ∙ ap₂ bit_xor is_x is_y)
     ∙ bits_of_xor x y ∙ ap₂ (zip2 bit_xor) bits_x bits_y
 
 lane-lt : (v : List ℕ) (j : ℕ) → Each1 (Fits w8) v → length v ≡ 16 → j < 16 → get_or v j 0 < 256
@@ -71,10 +71,10 @@ lane-lt v j fit long h = (Each1-get_or (Fits w8) v j 0 (omega arith) fit).fits
 
 -- an exchange by shifts of k places, a mask m and its complement n, by what they make of each byte
 pub exchanged : (k m n : ℕ)
-    → AreSame (λ x. byte_bits (bit_and x m)) (λ x. low_bits k (byte_bits x) [])
-    → AreSame (λ y. byte_bits (shl (bit_and y m) k)) (λ y. low_bits k [] (byte_bits y))
-    → AreSame (λ x. byte_bits (bit_and (shr x k) m)) (λ x. high_bits k (byte_bits x) [])
-    → AreSame (λ y. byte_bits (bit_and y n)) (λ y. high_bits k [] (byte_bits y))
+    → AreSame (λ x. bits_of_byte (bit_and x m)) (λ x. exchanged_low k (bits_of_byte x) [])
+    → AreSame (λ y. bits_of_byte (shl (bit_and y m) k)) (λ y. exchanged_low k [] (bits_of_byte y))
+    → AreSame (λ x. bits_of_byte (bit_and (shr x k) m)) (λ x. exchanged_high k (bits_of_byte x) [])
+    → AreSame (λ y. bits_of_byte (bit_and y n)) (λ y. exchanged_high k [] (bits_of_byte y))
     → (a b : List ℕ) → (length a ≡ 16) × Each1 (Fits w8) a → (length b ≡ 16) × Each1 (Fits w8) b
     → AreExchanged k a b
     (zip2 bit_xor (zip2 bit_and a (replicate 16 m)) (zip2 shl (zip2 bit_and b (replicate 16 m)) (replicate 16 k)))
@@ -85,38 +85,38 @@ exchanged k m n low_kept low_moved high_moved high_kept a b (long_a, fit_a) (lon
           let x = get_or a j 0 in
           let y = get_or b j 0 in
           xor_lane (zip2 bit_and a (replicate 16 m)) (zip2 shl (zip2 bit_and b (replicate 16 m)) (replicate 16 k)) j
-          (bit_and x m) (shl (bit_and y m) k) (low_bits k (byte_bits x) []) (low_bits k [] (byte_bits y))
+          (bit_and x m) (shl (bit_and y m) k) (exchanged_low k (bits_of_byte x) []) (exchanged_low k [] (bits_of_byte y))
           (splat_long bit_and a m long_a) (splats_long bit_and shl b m k long_b) h
           (splat_lane bit_and a m j long_a h) (splats_lane bit_and shl b m k j long_b h)
-          (everywhere (λ x. byte_bits (bit_and x m)) (λ x. low_bits k (byte_bits x) []) low_kept x (lane-lt a j fit_a long_a h))
-          (everywhere (λ y. byte_bits (shl (bit_and y m) k)) (λ y. low_bits k [] (byte_bits y)) low_moved y (lane-lt b j fit_b long_b h))
-          ∙ low_joined k (byte_bits x) (byte_bits y);
+          (everywhere (λ x. bits_of_byte (bit_and x m)) (λ x. exchanged_low k (bits_of_byte x) []) low_kept x (lane-lt a j fit_a long_a h))
+          (everywhere (λ y. bits_of_byte (shl (bit_and y m) k)) (λ y. exchanged_low k [] (bits_of_byte y)) low_moved y (lane-lt b j fit_b long_b h))
+          ∙ low_joined k (bits_of_byte x) (bits_of_byte y);
       high = λ j h.
           let x = get_or a j 0 in
           let y = get_or b j 0 in
           xor_lane (zip2 bit_and (zip2 shr a (replicate 16 k)) (replicate 16 m)) (zip2 bit_and b (replicate 16 n)) j
-          (bit_and (shr x k) m) (bit_and y n) (high_bits k (byte_bits x) []) (high_bits k [] (byte_bits y))
+          (bit_and (shr x k) m) (bit_and y n) (exchanged_high k (bits_of_byte x) []) (exchanged_high k [] (bits_of_byte y))
           (splats_long shr bit_and a k m long_a) (splat_long bit_and b n long_b) h
           (splats_lane shr bit_and a k m j long_a h) (splat_lane bit_and b n j long_b h)
-          (everywhere (λ x. byte_bits (bit_and (shr x k) m)) (λ x. high_bits k (byte_bits x) []) high_moved x (lane-lt a j fit_a long_a h))
-          (everywhere (λ y. byte_bits (bit_and y n)) (λ y. high_bits k [] (byte_bits y)) high_kept y (lane-lt b j fit_b long_b h))
-          ∙ high_joined k (byte_bits x) (byte_bits y);
+          (everywhere (λ x. bits_of_byte (bit_and (shr x k) m)) (λ x. exchanged_high k (bits_of_byte x) []) high_moved x (lane-lt a j fit_a long_a h))
+          (everywhere (λ y. bits_of_byte (bit_and y n)) (λ y. exchanged_high k [] (bits_of_byte y)) high_kept y (lane-lt b j fit_b long_b h))
+          ∙ high_joined k (bits_of_byte x) (bits_of_byte y);
     }
 
 -- ---- twelve exchanges in a row
 
 -- the bits of lane j after an exchange, where they are known before it
 low_after : {k : ℕ} {a b x y : List ℕ} → AreExchanged k a b x y → {j : ℕ} → j < 16 → {xs ys : List ℕ}
-    → byte_bits (slice_index a j) ≡ xs → byte_bits (slice_index b j) ≡ ys → byte_bits (slice_index x j) ≡ low_bits k xs ys
-low_after {k = k} done h is_a is_b = done.low _ h ∙ ap₂ (low_bits k) is_a is_b
+    → bits_of_byte (slice_index a j) ≡ xs → bits_of_byte (slice_index b j) ≡ ys → bits_of_byte (slice_index x j) ≡ exchanged_low k xs ys
+low_after {k = k} done h is_a is_b = done.low _ h ∙ ap₂ (exchanged_low k) is_a is_b
 
 high_after : {k : ℕ} {a b x y : List ℕ} → AreExchanged k a b x y → {j : ℕ} → j < 16 → {xs ys : List ℕ}
-    → byte_bits (slice_index a j) ≡ xs → byte_bits (slice_index b j) ≡ ys → byte_bits (slice_index y j) ≡ high_bits k xs ys
-high_after {k = k} done h is_a is_b = done.high _ h ∙ ap₂ (high_bits k) is_a is_b
+    → bits_of_byte (slice_index a j) ≡ xs → bits_of_byte (slice_index b j) ≡ ys → bits_of_byte (slice_index y j) ≡ exchanged_high k xs ys
+high_after {k = k} done h is_a is_b = done.high _ h ∙ ap₂ (exchanged_high k) is_a is_b
 
 -- bit b of lane j of row r is bit r of lane j of plane b
 pub record AreTransposed (rows planes : List (List ℕ)) : Type 0 where
-  pub bits : (r : ℕ) → r < 8 → (j : ℕ) → j < 16 → byte_bits (slice_index (get_or planes r []) j) ≡ bits_in rows j r
+  pub bits : (r : ℕ) → r < 8 → (j : ℕ) → j < 16 → bits_of_byte (slice_index (get_or planes r []) j) ≡ bits_in rows j r
 
 pub transposed : {a b c d e f g h a1 b1 c1 d1 e1 f1 g1 h1 a2 b2 c2 d2 e2 f2 g2 h2 a3 b3 c3 d3 e3 f3 g3 h3 : List ℕ}
     → AreExchanged 1 a b a1 b1 → AreExchanged 1 c d c1 d1 → AreExchanged 1 e f e1 f1 → AreExchanged 1 g h g1 h1
@@ -144,7 +144,7 @@ transposed {a = a} {b = b} {c = c} {d = d} {e = e} {f = f} {g = g} {h = h} {a3 =
           let sg = high_after eg lt re rg in
           let sh = high_after fh lt rf rh in
           each_of_eight
-          (λ r. byte_bits (slice_index (get_or (a3 ∷ b3 ∷ c3 ∷ d3 ∷ e3 ∷ f3 ∷ g3 ∷ h3 ∷ []) r []) j) ≡ bits_in (a ∷ b ∷ c ∷ d ∷ e ∷ f ∷ g ∷ h ∷ []) j r)
+          (λ r. bits_of_byte (slice_index (get_or (a3 ∷ b3 ∷ c3 ∷ d3 ∷ e3 ∷ f3 ∷ g3 ∷ h3 ∷ []) r []) j) ≡ bits_in (a ∷ b ∷ c ∷ d ∷ e ∷ f ∷ g ∷ h ∷ []) j r)
           (low_after ae lt sa se) (low_after bf lt sb sf) (low_after cg lt sc sg) (low_after dh lt sd sh)
           (high_after ae lt sa se) (high_after bf lt sb sf) (high_after cg lt sc sg) (high_after dh lt sd sh)
           r hr;

@@ -9,10 +9,10 @@ use Rattle.std.proofs.lemmas.Nat.{and_le_l}
 use Rattle.std.proofs.lemmas.Nat.Bits.{bit_at_xor, bit_at_and, bit_at-lt, bit_at_ones}
 use Rattle.std.proofs.lemmas.List.{get_or-map, length-map, length-append, map-append}
 use Rattle.std.proofs.lemmas.Simd.{map-map, get_or-replicate, Each1-get_or, Each1-from_get_or}
-use Rattle.aes_core.specs.Cipher.{IsBlock, sub_bytes, inv_sub_bytes}
+use Rattle.aes_core.specs.Cipher.{IsCipherBlock, sub_bytes, inv_sub_bytes}
 use Rattle.aes_core.specs.Circuit.{Wire, input, ones, ◌⊕◌, ◌⊗◌, plane_of, bit_of, planes_of, bits_of, SUMS_IN, TO_INVERT, INVERTED, PRODUCTS, SUMS_OUT, INV_SUMS_IN, INV_TO_INVERT, INV_PRODUCTS, INV_SUMS_OUT}
 use Rattle.aes_core.specs.Field.{sub_byte, inv_sub_byte}
-use Rattle.aes_core.specs.Planes.{bits_in, block_in, byte_bits, ArePlanes}
+use Rattle.aes_core.specs.Planes.{bits_in, block_in, bits_of_byte, ArePlanes}
 use Rattle.aes_core.specs.declared.tables.TheConstants.{SUB, INV_SUB}
 use Rattle.aes_core.proofs.ByTable.{sub_at, inv_sub_at}
 use Rattle.aes_core.proofs.Inverse.{block_xored, block_zip2}
@@ -24,7 +24,7 @@ use Rattle.byte_list.proofs.ByteLaws.{bytes_made}
 ones_at : (j : ℕ) → j < 16 → slice_index (replicate 16 0xFF) j ≡ 0xFF
 ones_at j h = get_or-replicate 16 j 0xFF 0 h
 
-ones_is : IsBlock (replicate 16 0xFF)
+ones_is : IsCipherBlock (replicate 16 0xFF)
 ones_is = record { long = refl; bytes = bytes_made (λ _. 0xFF) (λ _. omega arith) (range_with_len 0 16) }
 
 -- bit_at_and gives the smaller of two bits
@@ -45,8 +45,8 @@ is_within n ones = true
 is_within n (v ⊕ w) = is_within n v && is_within n w
 is_within n (v ⊗ w) = is_within n v && is_within n w
 
-plane_of-is : (planes : List (List ℕ)) → Each1 IsBlock planes → (w : Wire) → is_within (length planes) w ≡ true → IsBlock (plane_of planes w)
-plane_of-is planes each (input i) h = Each1-get_or IsBlock planes i [] (ltb-true i (length planes) h) each
+plane_of-is : (planes : List (List ℕ)) → Each1 IsCipherBlock planes → (w : Wire) → is_within (length planes) w ≡ true → IsCipherBlock (plane_of planes w)
+plane_of-is planes each (input i) h = Each1-get_or IsCipherBlock planes i [] (ltb-true i (length planes) h) each
 plane_of-is planes each ones h = ones_is
 plane_of-is planes each (v ⊕ w) h =
     let both = and_parts (is_within (length planes) v) (is_within (length planes) w) h in
@@ -55,7 +55,7 @@ plane_of-is planes each (v ⊗ w) h =
     let both = and_parts (is_within (length planes) v) (is_within (length planes) w) h in
     block_zip2 bit_and (λ a b ha hb. omega (arith, and_le_l a b)) (plane_of planes v) (plane_of planes w) (plane_of-is planes each v both.0) (plane_of-is planes each w both.1)
 
-bit_of-is : (planes : List (List ℕ)) → Each1 IsBlock planes → (j b : ℕ) → j < 16 → b < 8 → (w : Wire) → is_within (length planes) w ≡ true → bit_at (slice_index (plane_of planes w) j) b ≡ bit_of (bits_in planes j b) w
+bit_of-is : (planes : List (List ℕ)) → Each1 IsCipherBlock planes → (j b : ℕ) → j < 16 → b < 8 → (w : Wire) → is_within (length planes) w ≡ true → bit_at (slice_index (plane_of planes w) j) b ≡ bit_of (bits_in planes j b) w
 bit_of-is planes each j b hj hb (input i) h = sym (get_or-map (λ plane. bit_at (slice_index plane j) b) planes i [] 0 (ltb-true i (length planes) h))
 bit_of-is planes each j b hj hb ones h = ap (λ n. bit_at n b) (ones_at j hj) ∙ bit_at_ones 8 b hb
 bit_of-is planes each j b hj hb (v ⊕ w) h =
@@ -83,9 +83,9 @@ are_within n (w ∷ ws) = is_within n w && are_within n ws
 -- n planes
 record HasPlanes (n : ℕ) (planes : List (List ℕ)) : Type 0 where
   count : length planes ≡ n
-  each : Each1 IsBlock planes
+  each : Each1 IsCipherBlock planes
 
-planes_of-each : (planes : List (List ℕ)) → Each1 IsBlock planes → (ws : List Wire) → are_within (length planes) ws ≡ true → Each1 IsBlock (planes_of ws planes)
+planes_of-each : (planes : List (List ℕ)) → Each1 IsCipherBlock planes → (ws : List Wire) → are_within (length planes) ws ≡ true → Each1 IsCipherBlock (planes_of ws planes)
 planes_of-each planes each [] h = tt
 planes_of-each planes each (w ∷ ws) h =
     let both = and_parts (is_within (length planes) w) (are_within (length planes) ws) h in
@@ -97,7 +97,7 @@ stage_planes n planes ws has h = record {
   each = planes_of-each planes has.each ws (ap (λ m. are_within m ws) has.count ∙ h);
 }
 
-bits_of-each : (planes : List (List ℕ)) → Each1 IsBlock planes → (j b : ℕ) → j < 16 → b < 8 → (ws : List Wire) → are_within (length planes) ws ≡ true → bits_in (planes_of ws planes) j b ≡ bits_of ws (bits_in planes j b)
+bits_of-each : (planes : List (List ℕ)) → Each1 IsCipherBlock planes → (j b : ℕ) → j < 16 → b < 8 → (ws : List Wire) → are_within (length planes) ws ≡ true → bits_in (planes_of ws planes) j b ≡ bits_of ws (bits_in planes j b)
 bits_of-each planes each j b hj hb [] h = refl
 bits_of-each planes each j b hj hb (w ∷ ws) h =
     let both = and_parts (is_within (length planes) w) (are_within (length planes) ws) h in
@@ -111,7 +111,7 @@ stage_bits n planes ws has h j b hj hb = bits_of-each planes has.each j b hj hb 
 has_planes : (planes : List (List ℕ)) → ArePlanes planes → HasPlanes 8 planes
 has_planes planes are = record {
   count = are.count;
-  each = Each1-from_get_or IsBlock planes [] (λ i h. plane_is planes are i (omega (arith, are.count)));
+  each = Each1-from_get_or IsCipherBlock planes [] (λ i h. plane_is planes are i (omega (arith, are.count)));
 }
 
 Each1-append : (P : List ℕ → Type 0) (xs ys : List (List ℕ)) → Each1 P xs → Each1 P ys → Each1 P (xs ++ ys)
@@ -121,7 +121,7 @@ Each1-append P (l ∷ xs) ys x y = (x.0, Each1-append P xs ys x.1 y)
 has_both : (m n : ℕ) (xs ys : List (List ℕ)) → HasPlanes m xs → HasPlanes n ys → HasPlanes (m + n) (xs ++ ys)
 has_both m n xs ys x y = record {
   count = length-append xs ys ∙ ap₂ (λ a b. a + b) x.count y.count;
-  each = Each1-append IsBlock xs ys x.each y.each;
+  each = Each1-append IsCipherBlock xs ys x.each y.each;
 }
 
 -- a circuit with `INVERTED` in the middle, by its other stages
@@ -180,7 +180,7 @@ circuit-are c whole planes are =
 
 -- what it makes of each byte is in the table of g, by computing it 256 times, so it makes g of each byte of a block
 circuit-block : (c : Circuit) → IsWhole c → (table : List ℕ) (g : ℕ → ℕ)
-    → map (λ a. number_l 2 (circuit_bits c (byte_bits a))) (range_with_len 0 256) ≡ map (λ a. get_or table a 0) (range_with_len 0 256)
+    → map (λ a. number_l 2 (circuit_bits c (bits_of_byte a))) (range_with_len 0 256) ≡ map (λ a. get_or table a 0) (range_with_len 0 256)
     → ((a : ℕ) → a < 256 → get_or table a 0 ≡ g a)
     → (planes : List (List ℕ)) (b : ℕ) → ArePlanes planes → b < 8 → block_in (circuit_planes c planes) b ≡ map g (block_in planes b)
 circuit-block c whole table g same at planes b are hb =
@@ -201,7 +201,7 @@ sub_whole : IsWhole sub_circuit
 unfolding SUMS_IN TO_INVERT INVERTED PRODUCTS SUMS_OUT
 sub_whole = record { sums_in = refl; to_invert = refl; inverted = refl; products = refl; sums_out = refl; count = refl }
 
-sub_table : map (λ a. number_l 2 (circuit_bits sub_circuit (byte_bits a))) (range_with_len 0 256) ≡ map (λ a. get_or SUB a 0) (range_with_len 0 256)
+sub_table : map (λ a. number_l 2 (circuit_bits sub_circuit (bits_of_byte a))) (range_with_len 0 256) ≡ map (λ a. get_or SUB a 0) (range_with_len 0 256)
 unfolding SUMS_IN TO_INVERT INVERTED PRODUCTS SUMS_OUT
 sub_table = refl
 
@@ -220,7 +220,7 @@ inv_sub_whole : IsWhole inv_sub_circuit
 unfolding INV_SUMS_IN INV_TO_INVERT INVERTED INV_PRODUCTS INV_SUMS_OUT
 inv_sub_whole = record { sums_in = refl; to_invert = refl; inverted = refl; products = refl; sums_out = refl; count = refl }
 
-inv_sub_table : map (λ a. number_l 2 (circuit_bits inv_sub_circuit (byte_bits a))) (range_with_len 0 256) ≡ map (λ a. get_or INV_SUB a 0) (range_with_len 0 256)
+inv_sub_table : map (λ a. number_l 2 (circuit_bits inv_sub_circuit (bits_of_byte a))) (range_with_len 0 256) ≡ map (λ a. get_or INV_SUB a 0) (range_with_len 0 256)
 unfolding INV_SUMS_IN INV_TO_INVERT INVERTED INV_PRODUCTS INV_SUMS_OUT
 inv_sub_table = refl
 

@@ -6,7 +6,7 @@ use Rattle.std.proofs.lemmas.List.Concat.{flat_map-append}
 use Rattle.std.proofs.lemmas.Slice.{take-put_mid}
 use Rattle.std.proofs.Math.Seq.{take-add}
 use borrow.Rule.Slice.PartMut.{mid_of, put_mid, same_len_mid}
-use Rattle.aes_core.specs.Cipher.{AreBytes, IsKeyLength, IsWordReady, bytes_of, round_count, round_key, schedule, state_of, inv_mix_columns}
+use Rattle.aes_core.specs.Cipher.{AreBytes, IsKeyLength, IsWordSchedule, bytes_of, round_count, round_key, schedule, state_of, inv_mix_columns}
 use Rattle.aes_core.specs.Modes.{joined}
 use Rattle.aes_core.proofs.BlockLoop.{AreBlocks}
 use Rattle.aes_core.proofs.ModeLaws.{block_of_joined}
@@ -36,14 +36,14 @@ few n (inl e) = omega arith
 few n (inr (inl e)) = omega arith
 few n (inr (inr e)) = omega arith
 
-pub opened_words : (words back : List ℕ) (n m : ℕ) (key : List ℕ) → IsWordReady words back n → m ≡ 4 * (n / 4 + 6 + 1) → take n (bytes_of words) ≡ key
+pub opened_words : (words back : List ℕ) (n m : ℕ) (key : List ℕ) → IsWordSchedule words back n → m ≡ 4 * (n / 4 + 6 + 1) → take n (bytes_of words) ≡ key
     → (bytes_of (take m words) ≡ schedule key) × (n / 4 + 6 ≡ round_count key)
 opened_words words back n m key h e v =
     let long : length (bytes_of words) ≡ 240 = omega (arith, length-bytes_of words, h.words_long) in
     let o = opened (bytes_of words) n (4 * m) key long h.ready (omega arith) v in
     (words_taken words m ∙ o.0, o.1)
 
-pub opened_back : (words back : List ℕ) (n m : ℕ) → IsWordReady words back n → m ≡ 4 * (n / 4 + 6 + 1) → (r : ℕ) → r ≤ n / 4 + 6
+pub opened_back : (words back : List ℕ) (n m : ℕ) → IsWordSchedule words back n → m ≡ 4 * (n / 4 + 6 + 1) → (r : ℕ) → r ≤ n / 4 + 6
     → state_of (take 4 (drop (4 * r) (take m back))) ≡ inv_mix_columns (round_key (bytes_of (take m words)) r)
 opened_back words back n m h e r le =
     let short : n ≤ 32 = few n h.ready.key_length in

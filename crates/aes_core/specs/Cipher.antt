@@ -131,12 +131,12 @@ abbrev pub IsKeyLength : ℕ → Type 0
 IsKeyLength n = (n ≡ 16) ⊎ (n ≡ 24) ⊎ (n ≡ 32)
 
 -- sixteen bytes
-pub record IsBlock (s : List ℕ) : Type 0 where
+pub record IsCipherBlock (s : List ℕ) : Type 0 where
   pub long : length s ≡ 16
   pub bytes : AreBytes s
 
 -- the first n of the bytes are a key, and the keys of its rounds begin the bytes
-pub record IsReady (keys : List ℕ) (n : ℕ) : Type 0 where
+pub record IsKeySchedule (keys : List ℕ) (n : ℕ) : Type 0 where
   pub key_length : IsKeyLength n
   pub bytes : AreBytes (take n keys)
   pub rounds : take (16 * (n / 4 + 7)) keys ≡ schedule (take n keys)
@@ -160,8 +160,8 @@ bytes_of w = flat_map (to_le_bytes w32) w
 
 -- the keys of the rounds as words, of a key of n bytes; and in `back` each of them through InvMixColumns, which is
 -- what a round on the way back adds after its own InvMixColumns
-pub record IsWordReady (words back : List ℕ) (n : ℕ) : Type 0 where
-  pub ready : IsReady (bytes_of words) n
+pub record IsWordSchedule (words back : List ℕ) (n : ℕ) : Type 0 where
+  pub ready : IsKeySchedule (bytes_of words) n
   pub back_long : length back ≡ 60
   pub words_long : length words ≡ 60
   pub turned : (r : ℕ) → r < 15 → state_of (take 4 (drop (4 * r) back)) ≡ inv_mix_columns (round_key (bytes_of words) r)

@@ -5,8 +5,8 @@ use Rattle.std.specs.Int.{from_be_bytes, to_be_bytes, w128}
 use Rattle.aes_core.specs.Cipher.{decrypted, encrypted, xored}
 
 -- block i of a text
-abbrev pub block_at : List ℕ → ℕ → List ℕ
-block_at text i = take 16 (drop (16 * i) text)
+abbrev pub text_block : List ℕ → ℕ → List ℕ
+text_block text i = take 16 (drop (16 * i) text)
 
 -- f 0, f 1, .. up to n of them, one after the other
 unfoldable pub joined : (ℕ → List ℕ) → ℕ → List ℕ
@@ -26,7 +26,7 @@ tail_of text = drop (16 * whole_blocks text) text
 -- the IV, and then the cipher blocks: block n of the text is added to the one before and enciphered
 unfoldable pub chain : List ℕ → List ℕ → List ℕ → ℕ → List ℕ
 chain key iv text zero = iv
-chain key iv text (suc n) = encrypted key (xored (block_at text n) (chain key iv text n))
+chain key iv text (suc n) = encrypted key (xored (text_block text n) (chain key iv text n))
 
 -- the first n blocks in CBC
 abbrev pub cbc_blocks : List ℕ → List ℕ → List ℕ → ℕ → List ℕ
@@ -43,11 +43,11 @@ cbc_tail key iv text = cbc_blocks key iv text (whole_blocks text) ++ masked_tail
 -- the block of the cipher text before block n, or the IV
 abbrev pub block_before : List ℕ → List ℕ → ℕ → List ℕ
 block_before iv text zero = iv
-block_before iv text (suc n) = block_at text n
+block_before iv text (suc n) = text_block text n
 
 -- the first n blocks of a cipher text, deciphered
 abbrev pub uncbc_blocks : List ℕ → List ℕ → List ℕ → ℕ → List ℕ
-uncbc_blocks key iv text n = joined (λ i. xored (decrypted key (block_at text i)) (block_before iv text i)) n
+uncbc_blocks key iv text n = joined (λ i. xored (decrypted key (text_block text i)) (block_before iv text i)) n
 
 -- CBC with tail, deciphered
 abbrev pub uncbc_tail : List ℕ → List ℕ → List ℕ → List ℕ

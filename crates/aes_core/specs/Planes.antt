@@ -23,22 +23,22 @@ pub record ArePlanes (planes : List (List ℕ)) : Type 0 where
 -- ---- exchanges of bits between two bytes
 
 -- the bits of a byte, the lowest first
-abbrev pub byte_bits : ℕ → List ℕ
-byte_bits x = map (bit_at x) (range_with_len 0 8)
+abbrev pub bits_of_byte : ℕ → List ℕ
+bits_of_byte x = map (bit_at x) (range_with_len 0 8)
 
 -- For each place i with i / k even, bit i + k of one byte and bit i of another change places. The first byte's bits
 -- after it, by the bits of both before it
-abbrev pub low_bits : ℕ → List ℕ → List ℕ → List ℕ
-low_bits k xs ys = map (λ i. if i / k % 2 == 0 then slice_index xs i else slice_index ys (i - k)) (range_with_len 0 8)
+abbrev pub exchanged_low : ℕ → List ℕ → List ℕ → List ℕ
+exchanged_low k xs ys = map (λ i. if i / k % 2 == 0 then slice_index xs i else slice_index ys (i - k)) (range_with_len 0 8)
 
 -- and the second byte's
-abbrev pub high_bits : ℕ → List ℕ → List ℕ → List ℕ
-high_bits k xs ys = map (λ i. if i / k % 2 == 0 then slice_index xs (i + k) else slice_index ys i) (range_with_len 0 8)
+abbrev pub exchanged_high : ℕ → List ℕ → List ℕ → List ℕ
+exchanged_high k xs ys = map (λ i. if i / k % 2 == 0 then slice_index xs (i + k) else slice_index ys i) (range_with_len 0 8)
 
 -- the bytes of a and b after it, in each of the sixteen places, are those of x and y
 pub record AreExchanged (k : ℕ) (a b x y : List ℕ) : Type 0 where
-  pub low : (j : ℕ) → j < 16 → byte_bits (slice_index x j) ≡ low_bits k (byte_bits (slice_index a j)) (byte_bits (slice_index b j))
-  pub high : (j : ℕ) → j < 16 → byte_bits (slice_index y j) ≡ high_bits k (byte_bits (slice_index a j)) (byte_bits (slice_index b j))
+  pub low : (j : ℕ) → j < 16 → bits_of_byte (slice_index x j) ≡ exchanged_low k (bits_of_byte (slice_index a j)) (bits_of_byte (slice_index b j))
+  pub high : (j : ℕ) → j < 16 → bits_of_byte (slice_index y j) ≡ exchanged_high k (bits_of_byte (slice_index a j)) (bits_of_byte (slice_index b j))
 
 -- ---- keys of rounds
 

@@ -2,7 +2,7 @@
 
 ghost use Rattle.std.specs.Prelude.{◌≡◌, ℕ, ◌+◌, ◌*◌, ◌/◌, ◌<◌, ◌≤◌, List, [], length, take, drop, get_or, MatchOption};
 ghost use Rattle.std.specs.Int.{to_le_bytes, w128};
-ghost use Rattle.aes_core.specs.Cipher.{IsBlock, IsKey, IsKeyLength, IsWordReady, bytes_of, decrypted, encrypted, round_count, round_key, schedule, state_of, inv_mix_columns};
+ghost use Rattle.aes_core.specs.Cipher.{IsCipherBlock, IsKey, IsKeyLength, IsWordSchedule, bytes_of, decrypted, encrypted, round_count, round_key, schedule, state_of, inv_mix_columns};
 ghost use Rattle.aes_core.specs.Planes.{AreKeyPlanes, ArePlanes};
 ghost use Rattle.aes_core.specs.Modes.{joined};
 
@@ -27,7 +27,7 @@ impl Model for BlockKey {
 
     ghost view = { λ k. take k.key_len (bytes_of k.words) };
 
-    ghost invariant = { λ k. IsWordReady k.words k.back k.key_len };
+    ghost invariant = { λ k. IsWordSchedule k.words k.back k.key_len };
 }
 
 fn words_of(keys: &[u8]) -> [u32; 60]
@@ -145,7 +145,7 @@ impl BlockKey {
     pub fn decrypt_block(&self, block: &mut [u8; 16])
         ensures value { block.new ≡ decrypted self.now block.old }
         ensures inverse { encrypted self.now block.new ≡ block.old }
-        ensures undoes { (s : List ℕ) → IsBlock s → block.old ≡ encrypted self.now s → block.new ≡ s }
+        ensures undoes { (s : List ℕ) → IsCipherBlock s → block.old ≡ encrypted self.now s → block.new ≡ s }
     {
         let rounds = self.key_len / 4 + 6;
         words::decrypt(

@@ -3,7 +3,7 @@
 
 ghost use Rattle.std.specs.Prelude.{◌≡◌, ℕ, ◌+◌, ◌*◌, ◌/◌, ◌%◌, ◌<◌, map, slice_index};
 ghost use Rattle.std.specs.List.{range_with_len};
-ghost use Rattle.aes_core.specs.Cipher.{IsBlock, inv_mix_columns, inv_shift_rows, mix_columns, shift_rows, xored};
+ghost use Rattle.aes_core.specs.Cipher.{IsCipherBlock, inv_mix_columns, inv_shift_rows, mix_columns, shift_rows, xored};
 ghost use Rattle.aes_core.specs.Field.{times};
 ghost use Rattle.aes_core.specs.Planes.{ArePlanes, block_in};
 
@@ -12,7 +12,7 @@ use std::simd::prelude::*;
 // ShiftRows in one plane.
 #[inline(always)]
 fn shifted(plane: u8x16) -> u8x16
-    requires { IsBlock plane }
+    requires { IsCipherBlock plane }
     ensures { result ≡ shift_rows plane }
 {
     plane.swizzle([0, 5, 10, 15, 4, 9, 14, 3, 8, 13, 2, 7, 12, 1, 6, 11])
@@ -21,7 +21,7 @@ fn shifted(plane: u8x16) -> u8x16
 // Each column of one plane with its rows one up.
 #[inline(always)]
 fn up_one(plane: u8x16) -> u8x16
-    requires { IsBlock plane }
+    requires { IsCipherBlock plane }
     ensures { result ≡ map (λ k. slice_index plane (4 * (k / 4) + (k + 1) % 4)) (range_with_len 0 16) }
 {
     plane.swizzle([1, 2, 3, 0, 5, 6, 7, 4, 9, 10, 11, 8, 13, 14, 15, 12])
@@ -30,7 +30,7 @@ fn up_one(plane: u8x16) -> u8x16
 // And two up.
 #[inline(always)]
 fn up_two(plane: u8x16) -> u8x16
-    requires { IsBlock plane }
+    requires { IsCipherBlock plane }
     ensures { result ≡ map (λ k. slice_index plane (4 * (k / 4) + (k + 2) % 4)) (range_with_len 0 16) }
 {
     plane.swizzle([2, 3, 0, 1, 6, 7, 4, 5, 10, 11, 8, 9, 14, 15, 12, 13])
@@ -147,7 +147,7 @@ pub(crate) fn add_planes(planes: [u8x16; 8], other: [u8x16; 8]) -> [u8x16; 8]
 // InvShiftRows in one plane.
 #[inline(always)]
 fn inv_shifted(plane: u8x16) -> u8x16
-    requires { IsBlock plane }
+    requires { IsCipherBlock plane }
     ensures { result ≡ inv_shift_rows plane }
 {
     plane.swizzle([0, 13, 10, 7, 4, 1, 14, 11, 8, 5, 2, 15, 12, 9, 6, 3])

@@ -3,8 +3,8 @@
 
 ghost use Rattle.std.specs.Prelude.{◌≡◌, ℕ, List, [], ◌∷◌, ◌++◌, ◌+◌, ◌*◌, ◌/◌, ◌%◌, ◌^◌, ◌<◌, ◌≤◌, length, drop, get_or};
 ghost use Rattle.std.specs.Int.{to_be_bytes, w128};
-ghost use Rattle.aes_core.specs.Cipher.{AreBytes, IsBlock, decrypted, encrypted, round_count, schedule, xored};
-ghost use Rattle.aes_core.specs.Modes.{block_at, block_before, cbc_tail, ctr, joined, uncbc_tail};
+ghost use Rattle.aes_core.specs.Cipher.{AreBytes, IsCipherBlock, decrypted, encrypted, round_count, schedule, xored};
+ghost use Rattle.aes_core.specs.Modes.{text_block, block_before, cbc_tail, ctr, joined, uncbc_tail};
 ghost use Rattle.aes_core.specs.Planes.{AreKeyPlanes, ArePlanes};
 
 use crate::key::BlockKey;
@@ -46,7 +46,7 @@ fn mask_tail(key: &BlockKey, iv: &[u8; 16], tail: &mut [u8])
 #[inline(always)]
 fn block_of(bytes: &[u8], i: usize) -> [u8; 16]
     requires { 16 * i + 16 ≤ length bytes.now }
-    ensures { result ≡ block_at bytes.now i }
+    ensures { result ≡ text_block bytes.now i }
 {
     let mut block = [0u8; 16];
     block.copy_from_slice(&bytes[16 * i..16 * i + 16]);
@@ -68,7 +68,7 @@ fn plain_block(key: &BlockKey, cipher: [u8; 16], before: &[u8; 16]) -> [u8; 16]
 #[inline(always)]
 fn lanes_of(bytes: &[u8], i: usize) -> u8x16
     requires { 16 * i + 16 ≤ length bytes.now }
-    ensures { result ≡ block_at bytes.now i }
+    ensures { result ≡ text_block bytes.now i }
 {
     u8x16::from_array(block_of(bytes, i))
 }
@@ -78,7 +78,7 @@ fn lanes_of(bytes: &[u8], i: usize) -> u8x16
 fn eight_of(bytes: &[u8], i: usize) -> [u8x16; 8]
     requires { 16 * i + 128 ≤ length bytes.now }
     ensures planes { ArePlanes result }
-    ensures value { (k : ℕ) → k < 8 → get_or result k [] ≡ block_at bytes.now (i + k) }
+    ensures value { (k : ℕ) → k < 8 → get_or result k [] ≡ text_block bytes.now (i + k) }
 {
     [
         lanes_of(bytes, i),
@@ -109,7 +109,7 @@ fn put_eight(to: &mut [u8], blocks: &[u8x16; 8])
 fn plain_eight(key: &BlockKey, planes: &KeyPlanes, cipher: [u8x16; 8], before: u8x16) -> [u8x16; 8]
     requires key { AreKeyPlanes planes.now (schedule key.now) (round_count key.now) }
     requires cipher { ArePlanes cipher }
-    requires before { IsBlock before }
+    requires before { IsCipherBlock before }
     ensures planes { ArePlanes result }
     ensures value { (k : ℕ) → k < 8 → get_or result k [] ≡ xored (decrypted key.now (get_or cipher k [])) (get_or (before ∷ cipher) k []) }
 {
@@ -129,7 +129,7 @@ fn plain_eight(key: &BlockKey, planes: &KeyPlanes, cipher: [u8x16; 8], before: u
 // CBC deciphered on as many groups of eight blocks as there are. The value is the cipher block before
 // the rest, or the IV. `known` is for the caller, which cannot tell of bytes that are gone.
 fn decrypt_eights(key: &BlockKey, iv: &[u8; 16], bytes: &mut [u8]) -> [u8; 16]
-    ensures value { bytes.new ≡ joined (λ j. xored (decrypted key.now (block_at bytes.old j)) (block_before iv.now bytes.old j)) (8 * (length bytes.old / 128)) ++ drop (128 * (length bytes.old / 128)) bytes.old }
+    ensures value { bytes.new ≡ joined (λ j. xored (decrypted key.now (text_block bytes.old j)) (block_before iv.now bytes.old j)) (8 * (length bytes.old / 128)) ++ drop (128 * (length bytes.old / 128)) bytes.old }
     ensures before { result ≡ block_before iv.now bytes.old (8 * (length bytes.old / 128)) }
     ensures known { AreBytes bytes.old }
 {
@@ -217,7 +217,7 @@ fn stream_block(key: &BlockKey, start: u128, i: usize) -> [u8; 16]
 fn xor_eight(to: &mut [u8], with: &[u8x16; 8])
     requires room { length to.old ≡ 128 }
     requires blocks { ArePlanes with.now }
-    ensures { to.new ≡ joined (λ k. xored (block_at to.old k) (get_or with.now k [])) 8 }
+    ensures { to.new ≡ joined (λ k. xored (text_block to.old k) (get_or with.now k [])) 8 }
 {
     for k in 0..8 {
         xor_lanes(&mut to[16 * k..16 * k + 16], with[k]);
@@ -265,7 +265,7 @@ fn stream_eight(key: &BlockKey, planes: &KeyPlanes, start: u128, i: usize) -> [u
 
 // CTR on as many groups of eight blocks as there are.
 fn apply_eights(key: &BlockKey, start: u128, bytes: &mut [u8])
-    ensures { bytes.new ≡ joined (λ j. xored (block_at bytes.old j) (encrypted key.now (to_be_bytes w128 ((start + j) % 2 ^ 128)))) (8 * (length bytes.old / 128)) ++ drop (128 * (length bytes.old / 128)) bytes.old }
+    ensures { bytes.new ≡ joined (λ j. xored (text_block bytes.old j) (encrypted key.now (to_be_bytes w128 ((start + j) % 2 ^ 128)))) (8 * (length bytes.old / 128)) ++ drop (128 * (length bytes.old / 128)) bytes.old }
 {
     if bytes.len() < 128 {
         return;

@@ -4,7 +4,7 @@
 
 ghost use Rattle.std.specs.Prelude.{◌≡◌, ⊤, ℕ, ◌+◌, ◌-◌, ◌*◌, ◌/◌, ◌^◌, ◌<◌, ◌≤◌, ◌%◌, ◌==◌, List, length, take, slice_set, if◌then◌else◌, MatchOption};
 ghost use Rattle.aes_core.specs.Field.{inv_sub_byte, sub_byte, times, times_x};
-ghost use Rattle.aes_core.specs.Cipher.{IsBlock, IsKeyLength, IsReady, after_rounds, before_rounds, circulant_times, decrypted, decrypted_by, encrypted, encrypted_by, inv_mix_columns, inv_shift_rows, inv_sub_bytes, mix_columns, schedule, shift_rows, sub_bytes, xored};
+ghost use Rattle.aes_core.specs.Cipher.{IsCipherBlock, IsKeyLength, IsKeySchedule, after_rounds, before_rounds, circulant_times, decrypted, decrypted_by, encrypted, encrypted_by, inv_mix_columns, inv_shift_rows, inv_sub_bytes, mix_columns, schedule, shift_rows, sub_bytes, xored};
 
 use crate::expansion::expand;
 use crate::tables::{INV_SUB, SUB};
@@ -25,7 +25,7 @@ impl Model for PlainKey {
 
     ghost view = { λ k. take k.key_len k.keys };
 
-    ghost invariant = { λ k. IsReady k.keys k.key_len };
+    ghost invariant = { λ k. IsKeySchedule k.keys k.key_len };
 }
 
 impl PlainKey {
@@ -55,7 +55,7 @@ impl PlainKey {
     pub fn decrypt_block(&self, block: &mut [u8; 16])
         ensures value { block.new ≡ decrypted self.now block.old }
         ensures inverse { encrypted self.now block.new ≡ block.old }
-        ensures undoes { (s : List ℕ) → IsBlock s → block.old ≡ encrypted self.now s → block.new ≡ s }
+        ensures undoes { (s : List ℕ) → IsCipherBlock s → block.old ≡ encrypted self.now s → block.new ≡ s }
     {
         let rounds = self.key_len / 4 + 6;
         decrypt(&self.keys[0..16 * (rounds + 1)], rounds, block);

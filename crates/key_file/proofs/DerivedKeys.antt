@@ -1,6 +1,6 @@
 -- What a password gives is a key of AES-256 and an IV of one block.
 use Rattle.std.proofs.Common.{◌≡◌, ℕ, ◌≤◌, List, ◌++◌, length, take, drop, refl, arith, length-append, length-drop, length-take-le}
-use Rattle.aes_core.specs.Cipher.{AreBytes, IsBlock, IsKey}
+use Rattle.aes_core.specs.Cipher.{AreBytes, IsCipherBlock, IsKey}
 use Rattle.byte_list.proofs.ByteLaws.{bytes_append, bytes_drop, bytes_take}
 use Rattle.key_file.specs.declared.derivation.KeyDigest.{KeyDigest}
 use Rattle.key_file.specs.declared.derivation.KeyDigest.TheVariants.{Sha1, Sha256}
@@ -42,7 +42,7 @@ module _ (digest : KeyDigest) (password salt : List ℕ) where
         bytes = bytes_take 32 (derived digest password salt) derived_bytes;
       }
 
-  pub iv_is_block : IsBlock (derived_iv digest password salt)
+  pub iv_is_block : IsCipherBlock (derived_iv digest password salt)
   iv_is_block = record {
     long = length-take-le 16 (drop 32 (derived digest password salt)) (omega (arith, derived_long, length-drop 32 (derived digest password salt)));
     bytes = bytes_take 16 (drop 32 (derived digest password salt)) (bytes_drop 32 (derived digest password salt) derived_bytes);

@@ -3,7 +3,7 @@ use Rattle.std.proofs.Common.{◌≡◌, ℕ, ◌==◌, Bool, true, false, ◌+�
 use Rattle.std.proofs.lemmas.List.{take_at, drop_at}
 use Rattle.std.specs.Int.{byte_at, to_be_bytes, to_le_bytes, w16, w32, w64}
 use Rattle.aes_core.specs.Algorithm.{ciphered}
-use Rattle.aes_core.specs.Cipher.{AreBytes, IsBlock, IsKey}
+use Rattle.aes_core.specs.Cipher.{AreBytes, IsCipherBlock, IsKey}
 use Rattle.aes_core.specs.Modes.{uncbc_tail, ctr, whole_blocks}
 use Rattle.aes_core.specs.declared.algorithm.Algorithm.{Algorithm}
 use Rattle.aes_core.specs.declared.algorithm.Algorithm.TheVariants.{Cbc, Ctr}
@@ -41,7 +41,7 @@ inner_bytes space lsn b h =
 eight_le : (n : ℕ) → AreBytes (to_le_bytes w64 n)
 eight_le n = bytes_made (λ k. byte_at k n) (λ k. byte_at-lt k n) (0 ∷ 1 ∷ 2 ∷ 3 ∷ 4 ∷ 5 ∷ 6 ∷ 7 ∷ [])
 
-pub iv_block : (space page lsn : ℕ) → IsBlock (page_iv space page lsn)
+pub iv_block : (space page lsn : ℕ) → IsCipherBlock (page_iv space page lsn)
 iv_block space page lsn = record {
   long = refl;
   bytes = bytes_append (to_le_bytes w32 space) (to_le_bytes w32 page ++ to_le_bytes w64 lsn) (le_four space) (bytes_append (to_le_bytes w32 page) (to_le_bytes w64 lsn) (le_four page) (eight_le lsn));
@@ -49,7 +49,7 @@ iv_block space page lsn = record {
 
 -- ---- a cipher text is that of one text
 
-pub ciphered_one : (algorithm : Algorithm) (key iv a b : List ℕ) → IsKey key → IsBlock iv → AreBytes a → AreBytes b → ciphered algorithm key iv a ≡ ciphered algorithm key iv b → a ≡ b
+pub ciphered_one : (algorithm : Algorithm) (key iv a b : List ℕ) → IsKey key → IsCipherBlock iv → AreBytes a → AreBytes b → ciphered algorithm key iv a ≡ ciphered algorithm key iv b → a ≡ b
 ciphered_one Cbc key iv a b k v ha hb same = sym (cbc_undone key iv k v a ha) ∙ ap (uncbc_tail key iv) same ∙ cbc_undone key iv k v b hb
 ciphered_one Ctr key iv a b k v ha hb same =
     sym (ctr_twice key iv a (stream_blocks key iv k (whole_blocks a + 1))) ∙ ap (ctr key iv) same ∙ ctr_twice key iv b (stream_blocks key iv k (whole_blocks b + 1))
@@ -57,7 +57,7 @@ ciphered_one Ctr key iv a b k v ha hb same =
 pub local_is_key : (key : PageKey) → HasKeyBytes key → IsKey key.local
 local_is_key key h = key_from key.local (inl h.long) h.bytes
 
-under_one : (key : Option PageKey) (iv a b : List ℕ) → IfSome key HasKeyBytes → IsBlock iv → AreBytes a → AreBytes b → enciphered key iv a ≡ enciphered key iv b → a ≡ b
+under_one : (key : Option PageKey) (iv a b : List ℕ) → IfSome key HasKeyBytes → IsCipherBlock iv → AreBytes a → AreBytes b → enciphered key iv a ≡ enciphered key iv b → a ≡ b
 under_one None iv a b h v ha hb same = same
 under_one (Some key) iv a b h v ha hb same = ciphered_one key.algorithm key.local iv a b (local_is_key key h) v ha hb same
 

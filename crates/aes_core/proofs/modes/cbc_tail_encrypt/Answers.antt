@@ -1,12 +1,12 @@
 use Rattle.std.proofs.Common.{◌≡◌, ℕ, suc, List, length, ◌+◌, ◌-◌, ◌*◌, ◌/◌, ◌++◌, bit_xor, refl, sym, ap, ap₂, ◌∙◌, arith, add-one}
 use Rattle.std.specs.Int.{to_le_bytes, w128}
 use Rattle.aes_core.specs.Cipher.{encrypted, xored}
-use Rattle.aes_core.specs.Modes.{block_at, chain, joined}
+use Rattle.aes_core.specs.Modes.{text_block, chain, joined}
 use Rattle.aes_core.proofs.BigEndian.{le_xored}
 use Rattle.aes_core.proofs.BlockLoop.{Written, written_all, written_more, written_none, written_read, written_rest}
 use Rattle.aes_core.proofs.modes.cbc_tail_encrypt.Goals as goal
 
-next : (key iv text : List ℕ) (n : ℕ) → encrypted key (xored (block_at text n) (chain key iv text n)) ≡ chain key iv text (suc n)
+next : (key iv text : List ℕ) (n : ℕ) → encrypted key (xored (text_block text n) (chain key iv text n)) ≡ chain key iv text (suc n)
 unfolding chain
 next key iv text n = refl
 
@@ -30,7 +30,7 @@ loop-i-preserved c =
     let f = λ (j : ℕ). chain key iv xs (suc j) in
     let w = c.loop-i.invariant.1 in
     let width : 16 * i + 16 - 16 * i ≡ 16 = omega arith in
-    let mixed : to_le_bytes w128 (bit_xor c.number_of.result c.loop-i.chain) ≡ xored (block_at xs i) (chain key iv xs i) =
+    let mixed : to_le_bytes w128 (bit_xor c.number_of.result c.loop-i.chain) ≡ xored (text_block xs i) (chain key iv xs i) =
     le_xored c.number_of.result c.loop-i.chain
     ∙ ap₂ (λ (a b : List ℕ). xored a b) (c.number_of.ensures ∙ written_read f xs c.loop-i.bytes i _ w width) c.loop-i.invariant.0 in
     let made : to_le_bytes w128 c.encrypt_number-chain.result ≡ f i = c.encrypt_number-chain.ensures ∙ ap (encrypted key) mixed ∙ next key iv xs i in

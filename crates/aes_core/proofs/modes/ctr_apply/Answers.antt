@@ -3,10 +3,10 @@ use Rattle.std.specs.Int.{to_be_bytes, w128}
 use borrow.Author.Count.{below_more}
 use borrow.Rule.Slice.PartMut.{put_mid}
 use Rattle.aes_core.specs.Cipher.{encrypted, xored}
-use Rattle.aes_core.specs.Modes.{block_at, counter_at, ctr, joined, whole_blocks}
+use Rattle.aes_core.specs.Modes.{text_block, counter_at, ctr, joined, whole_blocks}
 use Rattle.std.proofs.Common.{bit_xor}
 use Rattle.std.proofs.lemmas.Simd.{length-zip2}
-use Rattle.aes_core.proofs.BlockLoop.{AreBlocks, Written, length-block_at, written_all, written_as, written_more, written_read, written_rest}
+use Rattle.aes_core.proofs.BlockLoop.{AreBlocks, Written, length-text_block, written_all, written_as, written_more, written_read, written_rest}
 use Rattle.aes_core.proofs.Loops.{xored_front}
 use Rattle.aes_core.proofs.ModeLaws.{ctr_is, ctr_twice, stream_blocks}
 use Rattle.aes_core.proofs.modes.ctr_apply.Goals as goal
@@ -14,7 +14,7 @@ use Rattle.aes_core.proofs.modes.ctr_apply.Goals as goal
 -- the stream and what is written, up to block n
 record Reached (key counter xs now : List ℕ) (n : ℕ) : Type 0 where
   blocks : AreBlocks (λ j. encrypted key (counter_at counter j)) n
-  text : Written (λ j. xored (block_at xs j) (encrypted key (counter_at counter j))) xs now n
+  text : Written (λ j. xored (text_block xs j) (encrypted key (counter_at counter j))) xs now n
 
 -- one block on
 one_more : (key counter xs now s ys : List ℕ) (n m k j : ℕ) → Reached key counter xs now n → m ≡ n → 16 * n + 16 ≤ length xs → k ≡ 16 → j ≡ 16
@@ -22,12 +22,12 @@ one_more : (key counter xs now s ys : List ℕ) (n m k j : ℕ) → Reached key 
     → Reached key counter xs (put_mid (16 * m) k now ys) (n + 1)
 one_more key counter xs now s ys n m k j r em room ek ej made ls written =
     let g = λ (j : ℕ). encrypted key (counter_at counter j) in
-    let f = λ (j : ℕ). xored (block_at xs j) (g j) in
+    let f = λ (j : ℕ). xored (text_block xs j) (g j) in
     let made_n : s ≡ g n = made ∙ ap g em in
     let is : ys ≡ f n = written ∙ ap₂ (λ (a b : List ℕ). xored a b) (ap (λ (i : ℕ). take j (drop (16 * i) now)) em ∙ written_read f xs now n j r.text ej) made_n in
     let lg : length (g n) ≡ 16 = sym (ap length made_n) ∙ ls in
-    let lb : length (block_at xs n) ≡ 16 = length-block_at xs n room in
-    let ly : length ys ≡ 16 = ap length is ∙ length-zip2 bit_xor (block_at xs n) (g n) (lb ∙ sym lg) ∙ lb in
+    let lb : length (text_block xs n) ≡ 16 = length-text_block xs n room in
+    let ly : length ys ≡ 16 = ap length is ∙ length-zip2 bit_xor (text_block xs n) (g n) (lb ∙ sym lg) ∙ lb in
     record {
       blocks = record { long = below_more (λ (j : ℕ). length (g j) ≡ 16) n r.blocks.long lg };
       text = rw em (written_more f xs now ys n k r.text room ek is ly);
@@ -43,18 +43,18 @@ fours-init c =
     let counter : List ℕ = c.args.counter.now in
     let n : ℕ = 8 * (length xs / 128) in
     let g = λ (j : ℕ). encrypted key (counter_at counter j) in
-    let f = λ (j : ℕ). xored (block_at xs j) (g j) in
+    let f = λ (j : ℕ). xored (text_block xs j) (g j) in
     let blocks : AreBlocks g n = stream_blocks key counter c.known.ensures n in
     let each : AreBlocks f n = record {
       long = λ j lt.
-          let lb : length (block_at xs j) ≡ 16 = length-block_at xs j (omega arith) in
+          let lb : length (text_block xs j) ≡ 16 = length-text_block xs j (omega arith) in
           let lg : length (g j) ≡ 16 = blocks.long j lt in
-          length-zip2 bit_xor (block_at xs j) (g j) (lb ∙ sym lg) ∙ lb;
+          length-zip2 bit_xor (text_block xs j) (g j) (lb ∙ sym lg) ∙ lb;
     } in
     let same : 128 * (length xs / 128) ≡ 16 * n = omega arith in
     let made : c.apply_eights.new.bytes ≡ joined f n ++ drop (16 * n) xs =
     c.apply_eights.ensures
-    ∙ ap (λ (s : ℕ). joined (λ j. xored (block_at xs j) (encrypted key (to_be_bytes w128 ((s + j) % 2 ^ 128)))) n ++ drop (128 * (length xs / 128)) xs) c.from_be_bytes-start.ensures
+    ∙ ap (λ (s : ℕ). joined (λ j. xored (text_block xs j) (encrypted key (to_be_bytes w128 ((s + j) % 2 ^ 128)))) n ++ drop (128 * (length xs / 128)) xs) c.from_be_bytes-start.ensures
     ∙ ap (λ (m : ℕ). joined f n ++ drop m xs) same in
     let e : n ≡ 4 * (2 * (length xs / 128)) = omega arith in
     let r = at_place key counter xs c.apply_eights.new.bytes n (4 * (2 * (length xs / 128))) e (record { blocks = blocks; text = written_as f xs c.apply_eights.new.bytes n each (omega arith) made }) in
@@ -110,7 +110,7 @@ returns c =
     let counter : List ℕ = c.args.counter.now in
     let n : ℕ = whole_blocks xs in
     let g = λ (j : ℕ). encrypted key (counter_at counter j) in
-    let f = λ (j : ℕ). xored (block_at xs j) (g j) in
+    let f = λ (j : ℕ). xored (text_block xs j) (g j) in
     let e : c.rest.k ≡ n = omega arith in
     let blocks : AreBlocks g n = rw e at c.rest.invariant.0 in
     let w : Written f xs c.rest.bytes n = rw e at c.rest.invariant.1 in

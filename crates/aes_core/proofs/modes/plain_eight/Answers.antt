@@ -1,5 +1,5 @@
 use Rattle.std.proofs.Common.{◌≡◌, ℕ, List, [], ◌∷◌, ◌<◌, get_or, refl, ap, ◌∙◌, arith}
-use Rattle.aes_core.specs.Cipher.{IsBlock, xored}
+use Rattle.aes_core.specs.Cipher.{IsCipherBlock, xored}
 use Rattle.aes_core.proofs.Inverse.{block_xored}
 use Rattle.aes_core.proofs.PlaneLists.{all_eight, are_planes, each_of_eight, plane_is}
 use Rattle.aes_core.proofs.modes.plain_eight.Goals as goal
@@ -9,7 +9,7 @@ returns-clause-planes c =
     let t = λ (k : ℕ) (lt : k < 8). plane_is c.decrypt_eight-text.result c.decrypt_eight-text.ensures.planes k lt in
     let p = λ (k : ℕ) (lt : k < 8). plane_is c.args.cipher c.requires.cipher k lt in
     are_planes _ refl
-    (all_eight IsBlock
+    (all_eight IsCipherBlock
     (block_xored _ _ (t 0 (omega arith)) c.requires.before) (block_xored _ _ (t 1 (omega arith)) (p 0 (omega arith)))
     (block_xored _ _ (t 2 (omega arith)) (p 1 (omega arith))) (block_xored _ _ (t 3 (omega arith)) (p 2 (omega arith)))
     (block_xored _ _ (t 4 (omega arith)) (p 3 (omega arith))) (block_xored _ _ (t 5 (omega arith)) (p 4 (omega arith)))

@@ -1,11 +1,11 @@
 use Rattle.std.proofs.Common.{◌≡◌, ℕ, List, [], ◌∷◌, ◌+◌, ◌%◌, ◌^◌, get_or, ap, refl, ◌∙◌, arith}
 use Rattle.std.specs.Int.{to_be_bytes, w128}
-use Rattle.aes_core.specs.Cipher.{IsBlock, encrypted}
+use Rattle.aes_core.specs.Cipher.{IsCipherBlock, encrypted}
 use Rattle.aes_core.proofs.ModeLaws.{block_of_number}
 use Rattle.aes_core.proofs.PlaneLists.{all_eight, are_planes, each_of_eight}
 use Rattle.aes_core.proofs.modes.stream_eight.Goals as goal
 
-counter_is : (n : ℕ) (s : List ℕ) → s ≡ to_be_bytes w128 n → IsBlock s
+counter_is : (n : ℕ) (s : List ℕ) → s ≡ to_be_bytes w128 n → IsCipherBlock s
 counter_is n s e = rw e (block_of_number n)
 
 pub encrypt_eight-requires : goal.encrypt_eight-requires
@@ -13,7 +13,7 @@ encrypt_eight-requires c =
     record {
       key = c.requires.key;
       blocks = are_planes _ refl
-          (all_eight IsBlock
+          (all_eight IsCipherBlock
           (counter_is _ _ c.counter_lanes.ensures) (counter_is _ _ c.counter_lanes-2.ensures)
           (counter_is _ _ c.counter_lanes-3.ensures) (counter_is _ _ c.counter_lanes-4.ensures)
           (counter_is _ _ c.counter_lanes-5.ensures) (counter_is _ _ c.counter_lanes-6.ensures)

@@ -1,11 +1,11 @@
 use Rattle.std.proofs.Common.{◌≡◌, ℕ, ◌+◌, ◌*◌, ◌%◌, ◌<◌, bit_or, get_or, refl, ap, ◌∙◌, arith}
 use Rattle.std.proofs.lemmas.Grind.{or_before_shift}
-use Rattle.aes_core.proofs.BigEndian.{le_joined, sum_four}
+use Rattle.aes_core.proofs.BigEndian.{le_joined, words_sum}
 use Rattle.aes_core.proofs.words.join.Goals as goal
 
 summed : (a b c d : ℕ) → a < 4294967296 → b < 4294967296 → c < 4294967296 → d < 4294967296
     → bit_or (bit_or (bit_or a (b * 4294967296 % 340282366920938463463374607431768211456)) (c * 18446744073709551616 % 340282366920938463463374607431768211456)) (d * 79228162514264337593543950336 % 340282366920938463463374607431768211456)
-    ≡ sum_four a b c d
+    ≡ words_sum a b c d
 summed a b c d ha hb hc hd =
     let two = or_before_shift a b 4294967296 340282366920938463463374607431768211456 refl ha (omega arith) in
     let three = or_before_shift (b * 4294967296 + a) c 18446744073709551616 340282366920938463463374607431768211456 refl (omega arith) (omega arith) in

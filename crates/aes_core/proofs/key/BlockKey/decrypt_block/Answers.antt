@@ -1,5 +1,5 @@
 use Rattle.std.proofs.Common.{◌≡◌, ℕ, List, ◌+◌, ◌-◌, ◌*◌, ◌/◌, length, ap, ap₂, ◌∙◌, arith}
-use Rattle.aes_core.specs.Cipher.{IsBlock, IsKey, bytes_of, decrypted, decrypted_by, encrypted, round_count, schedule}
+use Rattle.aes_core.specs.Cipher.{IsCipherBlock, IsKey, bytes_of, decrypted, decrypted_by, encrypted, round_count, schedule}
 use Rattle.aes_core.proofs.Inverse.{decrypted-encrypted, encrypted-decrypted}
 use Rattle.aes_core.proofs.Schedule.{keys_of, opened_key}
 use Rattle.aes_core.proofs.WordKeys.{length-bytes_of, opened_back, opened_words}
@@ -20,7 +20,7 @@ returns c =
     c.decrypt.ensures ∙ ap₂ (λ (v : List ℕ) (n : ℕ). decrypted_by v n c.args.block.now) e.0 e.1 in
     let long : length (bytes_of i.words) ≡ 240 = omega (arith, length-bytes_of i.words, w.words_long) in
     let k : IsKey key = opened_key (bytes_of i.words) i.key_len key long w.ready c.self.view_is in
-    let block : IsBlock c.args.block.now = record { long = c.told-block; bytes = c.fits-block } in
+    let block : IsCipherBlock c.args.block.now = record { long = c.told-block; bytes = c.fits-block } in
     record {
       value = value;
       inverse = ap (encrypted key) value ∙ encrypted-decrypted (schedule key) c.args.block.now (round_count key) (omega arith) (keys_of key k) block;

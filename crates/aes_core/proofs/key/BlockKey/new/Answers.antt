@@ -1,5 +1,5 @@
 use Rattle.std.proofs.Common.{◌≡◌, ℕ, List, length, ◌+◌, ◌*◌, ◌/◌, take, refl, sym, ap, ◌∙◌, inl, inr, arith}
-use Rattle.aes_core.specs.Cipher.{AreBytes, IsKeyLength, IsWordReady, bytes_of, round_key, schedule, inv_mix_columns}
+use Rattle.aes_core.specs.Cipher.{AreBytes, IsKeyLength, IsWordSchedule, bytes_of, round_key, schedule, inv_mix_columns}
 use Rattle.aes_core.specs.Modes.{joined}
 use Rattle.aes_core.proofs.BlockLoop.{AreBlocks}
 use Rattle.aes_core.proofs.Schedule.{begins, key_from, ready}
@@ -8,7 +8,7 @@ use Rattle.aes_core.proofs.key.BlockKey.new.Goals as goal
 use Rattle.aes_core.proofs.key.BlockKey.new.Goals.{else-n-ne16-via-then-n-ne16+then-n-ne24+else-n-ne32, else-n-ne16-via-then-n-ne16+else-n-ne24, else-n-ne16-via-else-n-ne16}
 
 ready_words : (keys key words back : List ℕ) → IsKeyLength (length key) → AreBytes key → take (16 * (length key / 4 + 7)) keys ≡ schedule key
-    → bytes_of words ≡ keys → AreBlocks (λ j. inv_mix_columns (round_key keys j)) 15 → bytes_of back ≡ joined (λ j. inv_mix_columns (round_key keys j)) 15 → length words ≡ 60 → length back ≡ 60 → IsWordReady words back (length key)
+    → bytes_of words ≡ keys → AreBlocks (λ j. inv_mix_columns (round_key keys j)) 15 → bytes_of back ≡ joined (λ j. inv_mix_columns (round_key keys j)) 15 → length words ≡ 60 → length back ≡ 60 → IsWordSchedule words back (length key)
 ready_words keys key words back h b e ew blocks eb lw lb = record {
   ready = rw ew (ready keys key h b e);
   back_long = lb;

@@ -1,6 +1,6 @@
 use Rattle.aes_core.specs.Cipher.{IsKey}
 use Rattle.std.proofs.Common.{◌≡◌, ℕ, List, ◌+◌, ◌-◌, ◌*◌, ◌/◌, ap, ap₂, ◌∙◌, arith}
-use Rattle.aes_core.specs.Cipher.{IsBlock, decrypted, decrypted_by, encrypted, round_count, schedule}
+use Rattle.aes_core.specs.Cipher.{IsCipherBlock, decrypted, decrypted_by, encrypted, round_count, schedule}
 use Rattle.aes_core.proofs.Inverse.{decrypted-encrypted, encrypted-decrypted}
 use Rattle.aes_core.proofs.Schedule.{keys_of, opened, opened_key}
 use Rattle.aes_core.proofs.plain.PlainKey.decrypt_block.Goals as goal
@@ -12,7 +12,7 @@ returns c =
     let value : c.decrypt.new.s ≡ decrypted key c.args.block.now =
     c.decrypt.ensures ∙ ap₂ (λ (w : List ℕ) (n : ℕ). decrypted_by w n c.args.block.now) e.0 e.1 in
     let k : IsKey key = opened_key c.self.inside.keys c.self.inside.key_len key c.self.told c.self.invariant c.self.view_is in
-    let block : IsBlock c.args.block.now = record { long = c.told-block; bytes = c.fits-block } in
+    let block : IsCipherBlock c.args.block.now = record { long = c.told-block; bytes = c.fits-block } in
     record {
       value = value;
       inverse = ap (encrypted key) value ∙ encrypted-decrypted (schedule key) c.args.block.now (round_count key) (omega arith) (keys_of key k) block;
