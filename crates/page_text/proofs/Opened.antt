@@ -15,7 +15,7 @@ use Rattle.byte_list.proofs.ByteLaws.{bytes_append, bytes_four, bytes_range}
 use Rattle.page_text.specs.Opening.{Undoes, clear_check, fits_page, in_clear, inner_check, left_after, unciphered}
 use Rattle.page_text.specs.Parts.{body, cipher_part}
 use Rattle.page_text.specs.State.{computed_sum, stored_sum}
-use Rattle.page_text.specs.Text.{FitsPage, IsText, Plain, before_sum, enciphered, inner, inner_start, key_of, page_iv, plain_of, start}
+use Rattle.page_text.specs.Text.{FitsPage, IsText, Plain, before_sum, enciphered, inner, inner_start, page_key, page_iv, plain_of, start}
 use Rattle.page_text.specs.declared.fault.OpenFault.{OpenFault}
 use Rattle.page_text.specs.declared.fault.OpenFault.TheVariants.{Checksum, WrongEnd, WrongFill, WrongKind, WrongPage, WrongSpace}
 use Rattle.page_text.specs.declared.key.PageKey.{PageKey}
@@ -149,14 +149,14 @@ pub record FieldsFit (o : List ℕ) : Type 0 where
 
 pub opened_is : (o : List ℕ) (space number : ℕ) (key : Option PageKey) → IsPageSize (length o) → 46 ≤ length o → AreBytes o → FieldsFit o
     → (be32_at o 0 ≢ 0 → IsSome key) → IsClear o number
-    → Undoes (key_of (be32_at o 0) key) (page_iv space number (be64_at o 16)) (cipher_part o)
+    → Undoes (page_key (be32_at o 0) key) (page_iv space number (be64_at o 16)) (cipher_part o)
     → AreBytes (in_clear space number key o) → IsInner (in_clear space number key o) space
     → IsText (length o) space number (be64_at o 16) (be32_at o 0) key (plain_of (in_clear space number key o)) o
 opened_is o space number key sized room are fit keyed clear undo are_clear held =
     let n : ℕ = length o in
     let lsn : ℕ = be64_at o 16 in
     let version : ℕ = be32_at o 0 in
-    let k : Option PageKey = key_of version key in
+    let k : Option PageKey = page_key version key in
     let iv : List ℕ = page_iv space number lsn in
     let d : List ℕ = unciphered k iv (cipher_part o) in
     let p : List ℕ = put 26 d o in
@@ -220,7 +220,7 @@ module _ (o : List ℕ) (space number lsn version : ℕ) (key : Option PageKey) 
   clear_inner = inner space lsn plain.bytes
 
   abbrev x : List ℕ
-  x = enciphered (key_of version key) (page_iv space number lsn) clear_inner
+  x = enciphered (page_key version key) (page_iv space number lsn) clear_inner
 
   abbrev front : List ℕ
   front = before_sum space number lsn version key plain
@@ -318,11 +318,11 @@ module _ (o : List ℕ) (space number lsn version : ℕ) (key : Option PageKey) 
     pub inside : inner_check (in_clear space number key o) space ≡ Ok tt
     pub back : plain_of (in_clear space number key o) ≡ plain
 
-  pub inside_taken : Undoes (key_of (be32_at o 0) key) (page_iv space number (be64_at o 16)) (cipher_part o) → IsTaken
+  pub inside_taken : Undoes (page_key (be32_at o 0) key) (page_iv space number (be64_at o 16)) (cipher_part o) → IsTaken
   inside_taken undo =
-      let d : List ℕ = unciphered (key_of (be32_at o 0) key) (page_iv space number (be64_at o 16)) (cipher_part o) in
-      let made : cipher_part o ≡ enciphered (key_of (be32_at o 0) key) (page_iv space number (be64_at o 16)) clear_inner =
-      cipher_reads ∙ (λ i. enciphered (key_of (sym version_reads i) key) (page_iv space number (sym lsn_reads i)) clear_inner) in
+      let d : List ℕ = unciphered (page_key (be32_at o 0) key) (page_iv space number (be64_at o 16)) (cipher_part o) in
+      let made : cipher_part o ≡ enciphered (page_key (be32_at o 0) key) (page_iv space number (be64_at o 16)) clear_inner =
+      cipher_reads ∙ (λ i. enciphered (page_key (sym version_reads i) key) (page_iv space number (sym lsn_reads i)) clear_inner) in
       let d_is : d ≡ clear_inner = undo.undoes clear_inner (bytes_of_inner space lsn plain.bytes t.body_bytes) made in
       let same : length x ≡ length clear_inner = x_long ∙ sym inner_long in
       let clear_is : in_clear space number key o ≡ clear =

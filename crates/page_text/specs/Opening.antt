@@ -7,7 +7,7 @@ use Rattle.byte_list.specs.Fields.{be16_at, be32_at, be64_at}
 use Rattle.byte_list.specs.Bytes.{put}
 use Rattle.page_text.specs.Parts.{cipher_part}
 use Rattle.page_text.specs.State.{computed_sum, stored_sum}
-use Rattle.page_text.specs.Text.{enciphered, key_of, page_iv}
+use Rattle.page_text.specs.Text.{enciphered, page_key, page_iv}
 use Rattle.page_text.specs.declared.fault.OpenFault.{OpenFault}
 use Rattle.page_text.specs.declared.fault.OpenFault.TheVariants.{Checksum, WrongEnd, WrongFill, WrongKind, WrongPage, WrongSpace}
 use Rattle.page_text.specs.declared.key.PageKey.{PageKey}
@@ -42,7 +42,7 @@ unciphered (Some key) iv bytes = deciphered key.algorithm key.local iv bytes
 -- the page with its part from byte 26 to the checksum deciphered, where its version isn't 0, and all else as it was
 abbrev pub in_clear : ℕ → ℕ → Option PageKey → List ℕ → List ℕ
 in_clear space number key page =
-    put 26 (unciphered (key_of (be32_at page 0) key) (page_iv space number (be64_at page 16)) (cipher_part page)) page
+    put 26 (unciphered (page_key (be32_at page 0) key) (page_iv space number (be64_at page 16)) (cipher_part page)) page
 
 -- the first fault of two checks
 abbrev pub and_then : Result (Unit {0}) OpenFault → Result (Unit {0}) OpenFault → Result (Unit {0}) OpenFault

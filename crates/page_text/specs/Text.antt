@@ -38,8 +38,8 @@ abbrev pub page_iv : ℕ → ℕ → ℕ → List ℕ
 page_iv space page lsn = to_le_bytes w32 space ++ (to_le_bytes w32 page ++ to_le_bytes w64 lsn)
 
 -- a page of version 0 is in clear, whatever key is at hand
-abbrev pub key_of : ℕ → Option PageKey → Option PageKey
-key_of version key = if version == 0 then None else key
+abbrev pub page_key : ℕ → Option PageKey → Option PageKey
+page_key version key = if version == 0 then None else key
 
 -- bytes under a key, or as they are without one
 abbrev pub enciphered : Option PageKey → List ℕ → List ℕ → List ℕ
@@ -49,7 +49,7 @@ enciphered (Some key) iv bytes = ciphered key.algorithm key.local iv bytes
 -- all bytes before the checksum
 abbrev pub before_sum : ℕ → ℕ → ℕ → ℕ → Option PageKey → Plain → List ℕ
 before_sum space page lsn version key plain =
-    start page lsn version ++ (to_be_bytes w16 plain.kind ++ enciphered (key_of version key) (page_iv space page lsn) (inner space lsn plain.bytes))
+    start page lsn version ++ (to_be_bytes w16 plain.kind ++ enciphered (page_key version key) (page_iv space page lsn) (inner space lsn plain.bytes))
 
 -- the text: the checksum comes last, over the cipher text
 abbrev pub text : ℕ → ℕ → ℕ → ℕ → Option PageKey → Plain → List ℕ

@@ -7,7 +7,7 @@ ghost use Rattle.space_head.specs.Sizes.{IsPageSize};
 ghost use Rattle.page_text.specs.Opening.{Undoes, clear_check, fits_page, in_clear, inner_check, left_after, opening, unciphered};
 ghost use Rattle.page_text.specs.Parts.{cipher_part};
 ghost use Rattle.page_text.specs.State.{computed_sum};
-ghost use Rattle.page_text.specs.Text.{IsText, Plain, enciphered, key_lent, key_of, page_iv, plain_of};
+ghost use Rattle.page_text.specs.Text.{IsText, Plain, enciphered, key_lent, page_key, page_iv, plain_of};
 
 use crate::sealing::{known_page, page_iv};
 use crate::{OpenFault, PageKey, PageMut};
@@ -114,8 +114,8 @@ fn decipher(key: Option<&PageKey>, iv: &[u8; 16], bytes: &mut [u8])
 }
 
 // A page of version 0 is in clear, whatever key is at hand.
-fn key_of<'a>(version: u32, key: Option<&'a PageKey>) -> Option<&'a PageKey>
-    ensures { key_lent result ≡ key_of version (key_lent key.entry) }
+fn page_key<'a>(version: u32, key: Option<&'a PageKey>) -> Option<&'a PageKey>
+    ensures { key_lent result ≡ page_key version (key_lent key.entry) }
 {
     if version == 0 { None } else { key }
 }
@@ -137,12 +137,12 @@ pub(crate) fn known_fields(page: &[u8])
 fn decipher_part(page: &mut [u8], space: u32, number: u32, key: Option<&PageKey>)
     requires { 46 ≤ length page.old }
     ensures value { page.new ≡ in_clear space number (key_lent key.entry) page.old }
-    ensures undoes { Undoes (key_of (be32_at page.old 0) (key_lent key.entry)) (page_iv space number (be64_at page.old 16)) (cipher_part page.old) }
+    ensures undoes { Undoes (page_key (be32_at page.old 0) (key_lent key.entry)) (page_iv space number (be64_at page.old 16)) (cipher_part page.old) }
 {
     let version = be32_at(page, 0);
     let iv = page_iv(space, number, be64_at(page, 16));
     let end = page.len() - 4;
-    decipher(key_of(version, key), &iv, &mut page[26..end]);
+    decipher(page_key(version, key), &iv, &mut page[26..end]);
 }
 
 fn open_text(

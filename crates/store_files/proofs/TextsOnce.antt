@@ -15,7 +15,7 @@ use Rattle.byte_list.proofs.ByteLaws.{bytes_append, bytes_four, bytes_made}
 use Rattle.byte_list.specs.Fields.{be16_at}
 use Rattle.byte_list.specs.Bytes.{range}
 use Rattle.byte_list.proofs.FieldLaws.{be16_at-written}
-use Rattle.page_text.specs.Text.{Plain, IsText, text, before_sum, start, inner, inner_start, page_iv, key_of, enciphered}
+use Rattle.page_text.specs.Text.{Plain, IsText, text, before_sum, start, inner, inner_start, page_iv, page_key, enciphered}
 use Rattle.page_text.specs.declared.key.PageKey.{PageKey}
 use Rattle.store_files.specs.Pages.{HasKeyBytes}
 
@@ -61,7 +61,7 @@ under_one : (key : Option PageKey) (iv a b : List ℕ) → IfSome key HasKeyByte
 under_one None iv a b h v ha hb same = same
 under_one (Some key) iv a b h v ha hb same = ciphered_one key.algorithm key.local iv a b (local_is_key key h) v ha hb same
 
-pub key_of-bytes : (version : ℕ) (key : Option PageKey) → IfSome key HasKeyBytes → IfSome (key_of version key) HasKeyBytes
+pub key_of-bytes : (version : ℕ) (key : Option PageKey) → IfSome key HasKeyBytes → IfSome (page_key version key) HasKeyBytes
 key_of-bytes version key h = by (version == 0)
   where
     by : (b : Bool) → IfSome (if b then None else key) HasKeyBytes
@@ -72,7 +72,7 @@ key_of-bytes version key h = by (version == 0)
 
 module _ (size space page lsn version : ℕ) (key : Option PageKey) (a : Plain) (bytes : List ℕ) (t : IsText size space page lsn version key a bytes) where
   abbrev x : List ℕ
-  x = enciphered (key_of version key) (page_iv space page lsn) (inner space lsn a.bytes)
+  x = enciphered (page_key version key) (page_iv space page lsn) (inner space lsn a.bytes)
 
   abbrev sum : List ℕ
   sum = to_be_bytes w32 (crc32c (before_sum space page lsn version key a))
@@ -94,7 +94,7 @@ pub plain_one : (size space page lsn version : ℕ) (key : Option PageKey) (a b 
 plain_one size space page lsn version key a b bytes h ta tb =
     let kind : a.kind ≡ b.kind = sym (kind_read size space page lsn version key a bytes ta) ∙ kind_read size space page lsn version key b bytes tb in
     let inside : inner space lsn a.bytes ≡ inner space lsn b.bytes =
-    under_one (key_of version key) (page_iv space page lsn) _ _ (key_of-bytes version key h) (iv_block space page lsn) (inner_bytes space lsn a.bytes ta.body_bytes) (inner_bytes space lsn b.bytes tb.body_bytes)
+    under_one (page_key version key) (page_iv space page lsn) _ _ (key_of-bytes version key h) (iv_block space page lsn) (inner_bytes space lsn a.bytes ta.body_bytes) (inner_bytes space lsn b.bytes tb.body_bytes)
     (sym (cipher_read size space page lsn version key a bytes ta) ∙ cipher_read size space page lsn version key b bytes tb) in
     let body : a.bytes ≡ b.bytes = body_one space lsn a.bytes b.bytes (omega (arith, ta.body_long, tb.body_long)) inside in
     (λ i. record { kind = kind i; bytes = body i })

@@ -7,8 +7,8 @@ use Rattle.byte_list.specs.Bytes.{range, put}
 use Rattle.byte_list.proofs.FieldLaws.{be16_bytes}
 use Rattle.byte_list.proofs.RangeLaws.{length-range}
 use Rattle.page_text.specs.Parts.{body, cipher_part}
-use Rattle.page_text.specs.Text.{enciphered, inner, inner_start, key_of, page_iv, start}
-use Rattle.page_text.proofs.Keys.{key_of-own}
+use Rattle.page_text.specs.Text.{enciphered, inner, inner_start, page_key, page_iv, start}
+use Rattle.page_text.proofs.Keys.{page_key-own}
 use Rattle.page_text.proofs.Writes.{body_long, cut, inner_read, joined, joined_long, write_cipher, write_end, write_inner, write_low, write_start}
 use Rattle.page_text.proofs.sealing.write_text.Goals as goal
 
@@ -42,9 +42,9 @@ returns c =
     c.put-3.ensures ∙ (λ i. put (n2 i - 8) (c.to_be_bytes.ensures i) (e2 i)) ∙ write_low s k m b l0 z n refl ek refl eb el0 ez l refl in
     let n3 : length c.put-3.new.bytes ≡ n = ap length e3 ∙ joined_long s k m b l z n refl ek refl eb refl ez in
     let read : cipher_part c.put-3.new.bytes ≡ inner v.space v.lsn b = ap cipher_part e3 ∙ inner_read s k m b l z n refl ek refl eb refl ez in
-    let x : List ℕ = enciphered (key_of v.version v.local) (page_iv v.space v.page v.lsn) (inner v.space v.lsn b) in
+    let x : List ℕ = enciphered (page_key v.version v.local) (page_iv v.space v.page v.lsn) (inner v.space v.lsn b) in
     let made : enciphered v.local c.page_iv-iv.result (cipher_part c.put-3.new.bytes) ≡ x =
-    (λ i. enciphered (sym (key_of-own v.version v.local c.requires.keyed) i) (c.page_iv-iv.ensures i) (read i)) in
+    (λ i. enciphered (sym (page_key-own v.version v.local c.requires.keyed) i) (c.page_iv-iv.ensures i) (read i)) in
     let lx : length x + 30 ≡ n = ap (λ (y : List ℕ). length y + 30) (sym made) ∙ c.encipher_part.ensures.long ∙ n3 in
     let front : List ℕ = s ++ (k ++ x) in
     let e4 : c.encipher_part.new.page ≡ front ++ z =
