@@ -3,7 +3,7 @@ use Rattle.std.proofs.Common.{◌≡◌, ℕ, ◌+◌, ◌-◌, ◌≤◌, Bool,
 use Rattle.std.proofs.lemmas.List.{drop-drop}
 use Rattle.io_core.specs.Files.{Files, bytes_from}
 use Rattle.io_core.specs.Told.{Told}
-use Rattle.key_ring.specs.Ring.{Entry}
+use Rattle.key_ring.specs.Ring.{RingEntry}
 use Rattle.binlog_text.specs.Held.{IsFront}
 use Rattle.binlog_text.specs.Events.{Found, answered, event_in, placed, placed_event}
 use Rattle.binlog_text.specs.Reading.{Holds, Keeps, Moves, Starts, is_out}
@@ -20,7 +20,7 @@ starts_keeps held name rest (Ok position) told = record { here = λ fs is. (told
 starts_keeps held name rest (Err fault) told = search rules
 
 -- the answer at a position
-pub answered_event : (ring : List Entry) (found : Option (List ℕ)) (stage : Stage) (position : Position) (rest : List ℕ) (answer : Result (Option Found) BinlogFault)
+pub answered_event : (ring : List RingEntry) (found : Option (List ℕ)) (stage : Stage) (position : Position) (rest : List ℕ) (answer : Result (Option Found) BinlogFault)
     → placed found stage ≡ Ok position → Keeps found (Events position) rest
     → (IsFront rest (drop position.place (unwrap_or found [])) → length (drop position.place (unwrap_or found [])) ≡ position.size - position.place → event_in ring (drop position.place (unwrap_or found [])) position ≡ answer)
     → answered ring found stage ≡ answer

@@ -6,7 +6,7 @@ use Rattle.byte_list.specs.Bytes.{range}
 use Rattle.byte_list.specs.Fields.{le32_at}
 use Rattle.byte_list.proofs.FieldLaws.{le32_at-same}
 use Rattle.byte_list.proofs.RangeLaws.{range-range}
-use Rattle.key_ring.specs.Ring.{Entry}
+use Rattle.key_ring.specs.Ring.{RingEntry}
 use Rattle.binlog_text.specs.Header.{framed, is_bad_length, kind_of, least_stored, length_of, whole, whole_of}
 use Rattle.binlog_text.specs.Held.{IsFront}
 use Rattle.binlog_text.specs.Events.{Found, event_in, is_log, opened, opened_event, taken_event}
@@ -45,7 +45,7 @@ framed-front format place bytes all is long most =
     ∙ sym (framed_long format place all most)
 
 -- the event, where it is there
-by_frame : (ring : List Entry) (position : Position) (bytes all : List ℕ) → IsFront bytes all → length bytes ≤ length all
+by_frame : (ring : List RingEntry) (position : Position) (bytes all : List ℕ) → IsFront bytes all → length bytes ≤ length all
     → (frame : Result (Option ℕ) BinlogFault) → ((long : ℕ) → frame ≡ Ok (Some long) → long ≤ length bytes)
     → taken_event ring bytes position (whole_of position.place bytes frame) ≡ taken_event ring all position (whole_of position.place all frame)
 by_frame ring position bytes all is fewer (Err fault) there = refl
@@ -57,7 +57,7 @@ by_frame ring position bytes all is fewer (Ok (Some long)) there =
     ∙ ap (λ (event : List ℕ). opened_event position (opened ring position.format position.place event)) same
     ∙ sym (ap (λ (b : Bool). taken_event ring all position (if b then Err (ShortEvent position.place long (length all)) else Ok (Some long))) (le-ltb (length all) long (omega arith)))
 
-pub event_in-front : (ring : List Entry) (position : Position) (bytes all : List ℕ) → Reaches position bytes all → event_in ring bytes position ≡ event_in ring all position
+pub event_in-front : (ring : List RingEntry) (position : Position) (bytes all : List ℕ) → Reaches position bytes all → event_in ring bytes position ≡ event_in ring all position
 unfolding event_in
 event_in-front ring position bytes all is =
     ⊎_elim

@@ -3,7 +3,7 @@ use Rattle.std.specs.Prelude.{◌≡◌, ◌≤◌, ◌⊎◌, ℕ, max, Bool, f
 use Rattle.cause_core.specs.Counts.{Rose}
 use Rattle.io_core.specs.Files.{Files}
 use Rattle.io_core.specs.Told.{Told}
-use Rattle.key_ring.specs.Ring.{Entry}
+use Rattle.key_ring.specs.Ring.{RingEntry}
 use Rattle.binlog_text.specs.Events.{Event, answered}
 use Rattle.binlog_text.specs.Reading.{IsAnswer, IsStage, Keeps, is_out}
 use Rattle.binlog_text.specs.declared.fault.BinlogFault.{BinlogFault}
@@ -14,7 +14,7 @@ use Rattle.binlog_text.specs.declared.stage.Stage.TheVariants.{Refused}
 
 -- Unless it comes from outside, the answer is the definition's where the library tells its files, and what the reader rests
 -- on holds at its new stage. The buffer grows to the most bytes of an event at most.
-pub record Advances (ring : List Entry) (files : Option Files) (name : List ℕ) (old new : LogReader) (result : Result (Option Event) BinlogFault) : Type 0 where
+pub record Advances (ring : List RingEntry) (files : Option Files) (name : List ℕ) (old new : LogReader) (result : Result (Option Event) BinlogFault) : Type 0 where
   pub answer : Told (λ fs. is_out result ≡ false → IsAnswer (answered ring (fs name) old.stage) new.stage result) files
   pub keeps : Told (λ fs. Keeps (fs name) new.stage new.buffer.rest) files
   pub stage : IsStage old.stage new.stage result

@@ -4,7 +4,7 @@ use Rattle.std.specs.Prelude.{Option, Some, None, Result, Ok, Err}
 use Rattle.byte_list.specs.Bytes.{range}
 use Rattle.byte_list.specs.Fields.{le32_at}
 use Rattle.bytes_core.specs.Crc.{crc32}
-use Rattle.key_ring.specs.Ring.{Entry, key_of}
+use Rattle.key_ring.specs.Ring.{RingEntry, ring_key}
 use Rattle.binlog_text.specs.Cipher.{deciphered_event}
 use Rattle.binlog_text.specs.Header.{has_sum, kind_of, least_of, length_of, whole}
 use Rattle.binlog_text.specs.declared.fault.BinlogFault.{BinlogFault}
@@ -37,11 +37,11 @@ unlocked None cipher format place event = Err (MissingKey cipher.version)
 unlocked (Some key) cipher format place event = plain_checked format place (deciphered_event key cipher.nonce (place % 2 ^ 32) event)
 
 -- the plain event of one that is ciphered or in clear
-abbrev pub opened_by : Option EventCipher → List Entry → LogFormat → ℕ → List ℕ → Result (List ℕ) BinlogFault
+abbrev pub opened_by : Option EventCipher → List RingEntry → LogFormat → ℕ → List ℕ → Result (List ℕ) BinlogFault
 opened_by None ring format place event = Ok event
-opened_by (Some cipher) ring format place event = unlocked (key_of ring 1 cipher.version) cipher format place event
+opened_by (Some cipher) ring format place event = unlocked (ring_key ring 1 cipher.version) cipher format place event
 
-unfoldable pub opened : List Entry → LogFormat → ℕ → List ℕ → Result (List ℕ) BinlogFault
+unfoldable pub opened : List RingEntry → LogFormat → ℕ → List ℕ → Result (List ℕ) BinlogFault
 opened ring format place event = opened_by format.cipher ring format place event
 
 -- ---- a plain event judged
@@ -125,17 +125,17 @@ abbrev pub opened_event : Position → Result (List ℕ) BinlogFault → Result 
 opened_event position (Err fault) = Err fault
 opened_event position (Ok plain) = judged_event position plain (judged position.format position.place plain)
 
-abbrev pub taken_event : List Entry → List ℕ → Position → Result (Option ℕ) BinlogFault → Result (Option Found) BinlogFault
+abbrev pub taken_event : List RingEntry → List ℕ → Position → Result (Option ℕ) BinlogFault → Result (Option Found) BinlogFault
 taken_event ring left position (Err fault) = Err fault
 taken_event ring left position (Ok None) = Ok None
 taken_event ring left position (Ok (Some long)) = opened_event position (opened ring position.format position.place (take long left))
 
 -- the event that begins the bytes that are left, None where there are none, or the first refusal
-unfoldable pub event_in : List Entry → List ℕ → Position → Result (Option Found) BinlogFault
+unfoldable pub event_in : List RingEntry → List ℕ → Position → Result (Option Found) BinlogFault
 event_in ring left position = taken_event ring left position (whole position.format position.place left)
 
 -- The event at a position of a file, None at the file's end, or the first refusal.
-abbrev pub event_at : List Entry → List ℕ → Position → Result (Option Found) BinlogFault
+abbrev pub event_at : List RingEntry → List ℕ → Position → Result (Option Found) BinlogFault
 event_at ring file position = event_in ring (drop position.place file) position
 
 -- ---- what a reader answers
@@ -157,17 +157,17 @@ placed (Some file) Start = if is_log file then Ok (first_position (length file))
 placed file (Events position) = Ok position
 placed file (Refused fault) = Err fault
 
-abbrev pub placed_event : List Entry → Option (List ℕ) → Result Position BinlogFault → Result (Option Found) BinlogFault
+abbrev pub placed_event : List RingEntry → Option (List ℕ) → Result Position BinlogFault → Result (Option Found) BinlogFault
 placed_event ring file (Err fault) = Err fault
 placed_event ring None (Ok position) = Err Missing
 placed_event ring (Some file) (Ok position) = event_at ring file position
 
 -- The answer at a stage: the next event, None at the file's end, or the first refusal.
-abbrev pub answered : List Entry → Option (List ℕ) → Stage → Result (Option Found) BinlogFault
+abbrev pub answered : List RingEntry → Option (List ℕ) → Stage → Result (Option Found) BinlogFault
 answered ring file stage = placed_event ring file (placed file stage)
 
 -- The events of the file from a stage on are these, and then this is answered: None at the end, or a refusal.
-abbrev pub Lists : List Entry → Option (List ℕ) → Stage → List Event → Result (Unit {0}) BinlogFault → Type 0
+abbrev pub Lists : List RingEntry → Option (List ℕ) → Stage → List Event → Result (Unit {0}) BinlogFault → Type 0
 Lists ring file stage [] (Ok u) = answered ring file stage ≡ Ok None
 Lists ring file stage [] (Err fault) = answered ring file stage ≡ Err fault
 Lists ring file stage (event ∷ events) end =

@@ -8,7 +8,7 @@ use Rattle.disk_model.specs.declared.names.FileName.TheVariants.{Log}
 use Rattle.disk_model.specs.declared.names.Mark.TheVariants.{Acked, Started}
 use Rattle.disk_model.proofs.Blocks.{length-put, range-put_same, range-put_before, range-put_after, listed-uncovered}
 use Rattle.disk_model.proofs.Moments.{weaker}
-use Rattle.engine_core.specs.Block.{IsLogBlock, IsHeader, IsCheckpoint}
+use Rattle.engine_core.specs.Block.{log_bytes, IsLogBlock, IsHeader, IsCheckpoint}
 use Rattle.engine_core.specs.Log.{log_block, ring_place, IsFramed}
 use Rattle.disk_model.specs.Marks.{acked as acked_of}
 use Rattle.disk_model.specs.Crash.{unsynced_writes}
@@ -94,14 +94,14 @@ framed_put at bytes file fits behind f = record {
 }
 
 -- A write of 4096 bytes at the place of a block.
-module _ (file : List ℕ) (size : length file ≡ 1060864) (i : ℕ) (room : i < 256) (bytes : List ℕ) (whole : length bytes ≡ 4096) where
+module _ (file : List ℕ) (size : length file ≡ log_bytes) (i : ℕ) (room : i < 256) (bytes : List ℕ) (whole : length bytes ≡ 4096) where
   abbrev at : ℕ
   at = ring_place (i + 2) * 4096
 
   pub fits : at + length bytes ≤ length file
   fits = omega (arith, size, whole, place_high (i + 2))
 
-  pub size_put : length (put at bytes file) ≡ 1060864
+  pub size_put : length (put at bytes file) ≡ log_bytes
   size_put = length-put at bytes file fits ∙ size
 
   pub other_put : (j : ℕ) → j < 256 → j ≢ i → entry_at j (put at bytes file) ≡ entry_at j file

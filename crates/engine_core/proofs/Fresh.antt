@@ -11,7 +11,7 @@ use Rattle.disk_model.specs.Past.{Past, At, grow}
 use Rattle.disk_model.proofs.Moments.{at_grow, at_is}
 use Rattle.disk_model.proofs.Blocks.{length-put, range-put_same, range-put_before, range-put_after}
 use Rattle.space_head.specs.declared.space.SpaceInfo.{SpaceInfo}
-use Rattle.engine_core.specs.Block.{checkpoint_head, header_head, space_fields, spaces_fields, IsLogBlock, IsCheckpoint, IsHeader}
+use Rattle.engine_core.specs.Block.{log_bytes, checkpoint_head, header_head, space_fields, spaces_fields, IsLogBlock, IsCheckpoint, IsHeader}
 use Rattle.engine_core.specs.Log.{log_block, ring_place, IsFramed}
 use Rattle.engine_core.specs.Layer.{entry_at, HasNone, NoBlock, Spaced, IsLogFile, IsEmpty, LogReady}
 use Rattle.disk_model.specs.Crash.{other_writes}
@@ -68,7 +68,7 @@ no_checkpoint block sequence from none is =
     let first : 75 ≡ 0 = ap (λ (l : List ℕ). get_or l 0 0) same in
     omega (arith, first)
 
-pub now_make : (es : List Event) → IsEmpty es → IsNow (zeros 1060864) (Make Log 1060864 ∷ es)
+pub now_make : (es : List Event) → IsEmpty es → IsNow (zeros log_bytes) (Make Log log_bytes ∷ es)
 now_make es e = record { there = refl; shows = refl; left = λ f torn l. l.0; synced = refl; pending = e.others; untold = e.untold }
 
 -- a write and a sync
@@ -86,26 +86,26 @@ pub now_inside : (file : List ℕ) (at : ℕ) (block : List ℕ) → at + length
 now_inside file at block fits es n = record { there = n.there; within = omega (arith, ap length n.shows, fits) }
 
 -- the file with its checkpoint and its header
-module _ (size : ℕ) (is_size : size ≡ 1060864) (checkpoint header : List ℕ) (c : IsCheckpoint 1 2 checkpoint) (spaces : List SpaceInfo) (h : IsHeader spaces header) where
+module _ (size : ℕ) (is_size : size ≡ log_bytes) (checkpoint header : List ℕ) (c : IsCheckpoint 1 2 checkpoint) (spaces : List SpaceInfo) (h : IsHeader spaces header) where
   abbrev one : List ℕ
   one = put 8192 checkpoint (zeros size)
 
   abbrev two : List ℕ
   two = put 0 header one
 
-  long : length (zeros size) ≡ 1060864
+  long : length (zeros size) ≡ log_bytes
   long = length-zeros size ∙ is_size
 
   fits_one : 8192 + length checkpoint ≤ length (zeros size)
   fits_one = omega (arith, long, length-checkpoint c)
 
-  long_one : length one ≡ 1060864
+  long_one : length one ≡ log_bytes
   long_one = length-put 8192 checkpoint (zeros size) fits_one ∙ long
 
   fits_two : 0 + length header ≤ length one
   fits_two = omega (arith, long_one, length-header h)
 
-  pub long_two : length two ≡ 1060864
+  pub long_two : length two ≡ log_bytes
   long_two = length-put 0 header one fits_two ∙ long_one
 
   first : log_block 0 two ≡ header
@@ -157,10 +157,10 @@ module _ (size : ℕ) (is_size : size ≡ 1060864) (checkpoint header : List ℕ
   pub headed_made : (es : List Event) → IsNow two es → IsHeaded spaces es
   headed_made es n = record { header = subst (λ (f : List ℕ). IsHeader spaces (log_block 0 f)) (sym n.shows) (subst (IsHeader spaces) (sym first) h) }
 
-pub length_one : (checkpoint : List ℕ) → IsCheckpoint 1 2 checkpoint → length (put 8192 checkpoint (zeros 1060864)) ≡ 1060864
+pub length_one : (checkpoint : List ℕ) → IsCheckpoint 1 2 checkpoint → length (put 8192 checkpoint (zeros log_bytes)) ≡ log_bytes
 length_one checkpoint c =
-    let long = length-zeros 1060864 in
-    length-put 8192 checkpoint (zeros 1060864) (omega (arith, long, length-checkpoint c)) ∙ long
+    let long = length-zeros log_bytes in
+    length-put 8192 checkpoint (zeros log_bytes) (omega (arith, long, length-checkpoint c)) ∙ long
 
 -- a write, and then a sync
 pub after_two : {P Q : List Event → Type 0} {old mid new : Past} (at : ℕ) (block : List ℕ) → ((es : List Event) → P es → Q (Sync Log ∷ Write Log at block block ∷ es)) → At P old

@@ -13,7 +13,7 @@ use Rattle.disk_model.specs.Lucky.{IsSameOrApart, AreApart, AreRefusable}
 use Rattle.disk_model.specs.declared.names.FileName.{FileName}
 use Rattle.disk_model.specs.declared.names.FileName.TheVariants.{Log}
 use Rattle.disk_model.proofs.FilesLemmas.{same_file-≡}
-use Rattle.engine_core.specs.Block.{sealed, same_bytes, sums_up, IsLogBlock, block_head}
+use Rattle.engine_core.specs.Block.{log_bytes, sealed, same_bytes, sums_up, IsLogBlock, block_head}
 use Rattle.engine_core.specs.Log.{ring_place}
 use Rattle.engine_core.specs.Stands.{passes, IsBlockWrite, AreBlockWrites, AllRefusable}
 use Rattle.engine_core.specs.Layer.{Moment}
@@ -79,13 +79,12 @@ are_apart : (f : FileName) (v : Pending) (ws : List Pending) → IsBlockWrite v 
 are_apart f v [] a are = tt
 are_apart f v (w ∷ ws) a are = (λ same. same_or_apart v w a are.0, are_apart f v ws a are.1)
 
-are_refusable : (f : FileName) (size : ℕ) → (f ≡ Log → size ≡ 1060864) → (ws : List Pending) → AreBlockWrites ws → AreRefusable f (passes f) size ws
+are_refusable : (f : FileName) (size : ℕ) → (f ≡ Log → size ≡ log_bytes) → (ws : List Pending) → AreBlockWrites ws → AreRefusable f (passes f) size ws
 are_refusable f size is [] are = tt
 are_refusable f size is (w ∷ ws) are =
     let b = are.0 in (
       λ same.
-          let log : f ≡ Log = same_file-≡ f w.file same ∙ b.file in
-          (
+          let log : f ≡ Log = same_file-≡ f w.file same ∙ b.file in (
             omega (arith, is log, b.at, b.size, b.within),
             subst (λ (g : FileName). passes g (torn_bytes w.bytes) ≡ false) (sym log) (torn_refused w.bytes b.size b.sum),
             are_apart f w ws b are.1,

@@ -4,6 +4,10 @@ use Rattle.std.specs.Int.{to_be_bytes, w16, w32, w64}
 use Rattle.bytes_core.specs.Crc.{crc32c}
 use Rattle.space_head.specs.declared.space.SpaceInfo.{SpaceInfo}
 
+-- the bytes of the log's file: a header, two checkpoints and 256 ring blocks of 4096 bytes
+abbrev pub log_bytes : ℕ
+log_bytes = 1060864
+
 -- the text with its checksum behind it
 unfoldable pub sealed : List ℕ → List ℕ
 sealed text = text ++ to_be_bytes w32 (crc32c text)

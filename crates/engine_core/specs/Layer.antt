@@ -5,7 +5,7 @@ use Rattle.disk_model.specs.Image.{Leaves, Image, IsImage, IsLucky, IsListed}
 use Rattle.disk_model.specs.Crash.{unsynced_writes, other_writes, synced_bytes}
 use Rattle.disk_model.specs.Marks.{acked as acked_of}
 use Rattle.disk_model.specs.declared.names.FileName.TheVariants.{Log}
-use Rattle.engine_core.specs.Block.{IsLogBlock}
+use Rattle.engine_core.specs.Block.{log_bytes, IsLogBlock}
 use Rattle.engine_core.specs.Log.{log_block, ring_place, IsFramed}
 use Rattle.engine_core.specs.Stands.{passes, AreBlockWrites, AllRefusable}
 
@@ -28,14 +28,14 @@ pub data Place (blocks : List (List ℕ)) (written i : ℕ) (file : List ℕ) (t
 
 -- what a crash may leave of the log: the settled blocks stand, and of the written ones any
 pub record Spaced (blocks : List (List ℕ)) (settled written : ℕ) (file : List ℕ) (torn : List (ℕ × ℕ)) : Type 0 where
-  pub size : length file ≡ 1060864
+  pub size : length file ≡ log_bytes
   pub framed : IsFramed file
   pub front : (i : ℕ) → i < settled → entry_at i file ≡ entry blocks i
   pub rest : (i : ℕ) → settled ≤ i → i < 256 → Place blocks written i file torn
 
 -- a file with so many blocks, and none behind them
 pub record IsLogFile (blocks : List (List ℕ)) (written : ℕ) (file : List ℕ) : Type 0 where
-  pub size : length file ≡ 1060864
+  pub size : length file ≡ log_bytes
   pub framed : IsFramed file
   pub whole : (i : ℕ) → i < written → entry_at i file ≡ entry blocks i
   pub fresh : (i : ℕ) → written ≤ i → i < 256 → HasNone i file
@@ -66,7 +66,7 @@ pub record LogReady (blocks : List (List ℕ)) (settled written acked : ℕ) (es
 pub record Runs (blocks : List (List ℕ)) (image : Image) : Type 0 where
   pub count : ℕ
   pub within : count ≤ length blocks
-  pub size : length (image.bytes Log) ≡ 1060864
+  pub size : length (image.bytes Log) ≡ log_bytes
   pub framed : IsFramed (image.bytes Log)
   pub whole : (i : ℕ) → i < count → entry_at i (image.bytes Log) ≡ entry blocks i
   pub ends : HasNone count (image.bytes Log)

@@ -4,7 +4,7 @@ use Rattle.disk_model.specs.Event.{range}
 use Rattle.redo_text.specs.declared.change.Change.{Change}
 use Rattle.space_head.specs.declared.space.SpaceInfo.{SpaceInfo}
 use Rattle.engine_core.specs.Text.{mtr_text, AreSmall}
-use Rattle.engine_core.specs.Block.{IsLogBlock, IsCheckpoint, IsHeader}
+use Rattle.engine_core.specs.Block.{log_bytes, IsLogBlock, IsCheckpoint, IsHeader}
 
 -- a file block of 4096 bytes
 abbrev pub log_block : ℕ → List ℕ → List ℕ
@@ -28,7 +28,7 @@ pub record IsFramed (file : List ℕ) : Type 0 where
 
 -- The log's file recovers to this run of mini-transactions, each in one block.
 pub record LogRecovers (file : List ℕ) (run : List (List Change)) : Type 0 where
-  pub size : length file ≡ 1060864
+  pub size : length file ≡ log_bytes
   pub framed : IsFramed file
   pub blocks : IsRunFrom 2 file (map mtr_text run)
   pub small : AreSmall run

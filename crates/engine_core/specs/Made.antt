@@ -4,7 +4,7 @@ use Rattle.disk_model.specs.Event.{Event, put, zeros, is_there, reads, marks}
 use Rattle.disk_model.specs.Image.{Leaves}
 use Rattle.disk_model.specs.declared.names.FileName.TheVariants.{Log}
 use Rattle.space_head.specs.declared.space.SpaceInfo.{SpaceInfo}
-use Rattle.engine_core.specs.Block.{IsCheckpoint, IsHeader}
+use Rattle.engine_core.specs.Block.{log_bytes, IsCheckpoint, IsHeader}
 use Rattle.engine_core.specs.Log.{log_block}
 use Rattle.disk_model.specs.Crash.{unsynced_writes, synced_bytes}
 use Rattle.disk_model.specs.Marks.{acked as acked_of}
@@ -22,7 +22,7 @@ pub record IsNow (file : List ℕ) (es : List Event) : Type 0 where
 pub record HasCheckpoint (es : List Event) : Type 0 where
   pub block : List ℕ
   pub is : IsCheckpoint 1 2 block
-  pub now : IsNow (put 8192 block (zeros 1060864)) es
+  pub now : IsNow (put 8192 block (zeros log_bytes)) es
 
 -- the log's header tells these spaces
 pub record IsHeaded (spaces : List SpaceInfo) (es : List Event) : Type 0 where

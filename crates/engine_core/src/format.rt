@@ -3,7 +3,7 @@ ghost use Rattle.std.specs.Prelude.{◌≡◌, [], ◌+◌, ◌<◌, ◌≤◌, 
 ghost use Rattle.cause_core.specs.Counts.{Rose};
 ghost use Rattle.disk_model.specs.Event.{zeros};
 ghost use Rattle.disk_model.specs.Past.{At, HasDiskCause, HasDiskMemoryCause};
-ghost use Rattle.engine_core.specs.Block.{IsCheckpoint, IsHeader, checkpoint_head, header_head, space_fields, spaces_fields};
+ghost use Rattle.engine_core.specs.Block.{log_bytes, IsCheckpoint, IsHeader, checkpoint_head, header_head, space_fields, spaces_fields};
 ghost use Rattle.engine_core.specs.Layer.{IsEmpty, LogReady};
 ghost use Rattle.engine_core.specs.Made.{IsNow, IsHeaded, HasCheckpoint};
 
@@ -87,7 +87,7 @@ fn header_block(alloc: Global, spaces: &[SpaceInfo]) -> Result<Block, AllocError
 
 fn make_log<D: Disk>(disk: &mut D) -> Result<(), DiskError>
     requires { At IsEmpty (D.past disk.old) }
-    ensures ok { OnOk result (At (IsNow (zeros 1060864)) (D.past disk.new)) }
+    ensures ok { OnOk result (At (IsNow (zeros log_bytes)) (D.past disk.new)) }
     ensures cause { HasDiskCause (D.faults disk.old) (D.faults disk.new) result }
     ensures memory { HasDiskMemoryCause (D.memory_refusals disk.old) (D.memory_refusals disk.new) result }
     ensures later { D.is_later disk.old disk.new }
@@ -97,7 +97,7 @@ fn make_log<D: Disk>(disk: &mut D) -> Result<(), DiskError>
 
 // Writes the first checkpoint and syncs it.
 fn write_checkpoint<D: Disk>(disk: &mut D, block: &Block) -> Result<(), DiskError>
-    requires now { At (IsNow (zeros 1060864)) (D.past disk.old) }
+    requires now { At (IsNow (zeros log_bytes)) (D.past disk.old) }
     requires checkpoint { IsCheckpoint 1 2 block.now }
     ensures ok { OnOk result (At HasCheckpoint (D.past disk.new)) }
     ensures cause { HasDiskCause (D.faults disk.old) (D.faults disk.new) result }

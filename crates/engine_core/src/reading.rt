@@ -7,7 +7,7 @@ ghost use Rattle.disk_model.specs.Past.{At, HasDiskCause, HasDiskMemoryCause};
 ghost use Rattle.disk_model.specs.declared.names.FileName.TheVariants.{Log};
 ghost use Rattle.std.specs.Int.{to_be_bytes, w32};
 ghost use Rattle.bytes_core.specs.Crc.{crc32c};
-ghost use Rattle.engine_core.specs.Block.{IsLogBlock, block_head};
+ghost use Rattle.engine_core.specs.Block.{log_bytes, IsLogBlock, block_head};
 ghost use Rattle.engine_core.specs.Log.{IsRunFrom, log_block, ring_place};
 
 use crate::StartFault;
@@ -68,7 +68,7 @@ pub fn read_block(block: &[u8], number: u64) -> Option<&[u8]>
 
 // Reads the ring block at the place of this number.
 fn read_ring_block<D: Disk>(disk: &mut D, number: u64, buffer: &mut [u8]) -> Result<(), DiskError>
-    requires inside { At (InFile Log 0 1060864) (D.past disk.old) }
+    requires inside { At (InFile Log 0 log_bytes) (D.past disk.old) }
     requires size { length buffer.old ≡ 4096 }
     ensures block { OnOk result (At (λ es. buffer.new ≡ log_block (ring_place number) (reads Log es)) (D.past disk.old)) }
     ensures same { D.past disk.new ≡ D.past disk.old }
@@ -90,7 +90,7 @@ fn scan_into<D: Disk>(
     disk: &mut D,
     buffer: &mut [u8],
 ) -> Result<Vec<Piece>, StartFault>
-    requires inside { At (InFile Log 0 1060864) (D.past disk.old) }
+    requires inside { At (InFile Log 0 log_bytes) (D.past disk.old) }
     requires size { length buffer.old ≡ 4096 }
     ensures run { IfOk result (λ texts. At (λ es. IsRunFrom 2 (reads Log es) texts.items) (D.past disk.old)) }
     ensures same { D.past disk.new ≡ D.past disk.old }
@@ -115,7 +115,7 @@ fn scan_into<D: Disk>(
 /// recovered run, one text to a mini-transaction. Where the disk tells its bytes its log must have
 /// the bytes of a log.
 pub fn scan<D: Disk>(alloc: Global, disk: &mut D) -> Result<Vec<Piece>, StartFault>
-    requires inside { At (InFile Log 0 1060864) (D.past disk.old) }
+    requires inside { At (InFile Log 0 log_bytes) (D.past disk.old) }
     ensures run { IfOk result (λ texts. At (λ es. IsRunFrom 2 (reads Log es) texts.items) (D.past disk.old)) }
     ensures same { D.past disk.new ≡ D.past disk.old }
     ensures cause { result ≡ Err StartFault.DiskFault → Rose (D.faults disk.old) (D.faults disk.new) }

@@ -42,7 +42,7 @@ impl Counts {
     pub fn answer<T>(&mut self, outcome: io::Result<T>) -> Result<T, IoError>
         ensures ok { IfOk result (λ value. outcome ≡ Ok value) }
         ensures err { IsErr result ↔ IsErr outcome }
-        ensures memory { IfErr outcome (λ e. (result ≡ Err IoError.NoMemory) ↔ (error_kind e ≡ ErrorKind.OutOfMemory)) }
+        ensures kind { IfErr outcome (λ e. (result ≡ Err IoError.NoMemory) ↔ (error_kind e ≡ ErrorKind.OutOfMemory)) }
         ensures steady { OnOk result (self.new ≡ self.old) }
         ensures cause { HasIoCause self.old.faults self.new.faults result }
         ensures memory { HasIoMemoryCause self.old.memory_refusals self.new.memory_refusals result }

@@ -6,7 +6,7 @@ use Rattle.std.proofs.lemmas.Str.Parse.{digit_at}
 use Rattle.keyd_cli.proofs.Numbers.{own}
 use Rattle.keyd_cli.specs.Parts.{IsCut}
 use Rattle.keyd_cli.specs.Numbers.{IsNumber}
-use Rattle.keyd_cli.specs.Words.{Word, IsNoColon, AreParts, IsSpace}
+use Rattle.keyd_cli.specs.Words.{most_pages, last_space_id, Word, IsNoColon, AreParts, IsSpace}
 
 first_of : (c : ℕ) (xs : Word) → All IsNoColon (c ∷ xs) → c ≢ 58
 first_of c xs free = free 0 0 (omega arith)
@@ -73,7 +73,7 @@ parts_of_space value id pages key is = record {
   third_free = decimal_free key (omega (arith, is.key_to));
 }
 
-pub space_of_parts : (value a b d : Word) (id pages key : ℕ) → AreParts value a b d → IsNumber a 1 4294967279 id → IsNumber b 2 16384 pages → IsNumber d 1 4294967295 key
+pub space_of_parts : (value a b d : Word) (id pages key : ℕ) → AreParts value a b d → IsNumber a 1 last_space_id id → IsNumber b 2 most_pages pages → IsNumber d 1 4294967295 key
     → IsSpace value id pages key
 space_of_parts value a b d id pages key are first second third = record {
   spelled = are.is ∙ ap (λ t. t ++ (58 ∷ (b ++ (58 ∷ (d ++ codes ":plain"))))) first.spelled ∙ ap (λ t. decimal id ++ (58 ∷ (t ++ (58 ∷ (d ++ codes ":plain"))))) second.spelled

@@ -24,6 +24,7 @@ use Rattle.keyd_cli.specs.Keys.{IsLoaded}
 use Rattle.keyd_cli.specs.Reads.{IsSchedule, IsNotBuilt}
 use Rattle.keyd_cli.specs.Drill.{info_of, IsDrilled}
 use Rattle.keyd_cli.specs.Printed.{session_text}
+use Rattle.keyd_cli.specs.Schedule.{schedule_bytes}
 
 -- ---- the key files
 
@@ -50,12 +51,12 @@ IsKeyEnd options files faults faults' absences absences' _ = ⊥
 
 -- Where the source tells its bytes, these are all, and they are no more than a schedule may have.
 pub record IsInput (left : Option (List ℕ)) (text : List ℕ) : Type 0 where
-  pub size : length text ≤ 1048576
+  pub size : length text ≤ schedule_bytes
   pub read : Told (λ bytes. bytes ≡ text) left
 
 -- The input has more bytes than a schedule may have, or a line that isn't built, or it failed; its count of faults was and is this.
 abbrev pub IsInputEnd : DrillPlan → Option (List ℕ) → ℕ → ℕ → Status → Type 0
-IsInputEnd plan left faults faults' status.ScriptTooLarge = Told (λ bytes. 1048576 < length bytes) left
+IsInputEnd plan left faults faults' status.ScriptTooLarge = Told (λ bytes. schedule_bytes < length bytes) left
 IsInputEnd plan left faults faults' (status.NotBuilt line) = (text : List ℕ) × IsInput left text × IsNotBuilt plan.space.space plan.space.pages text line
 IsInputEnd plan left faults faults' status.InputFault = Rose faults faults'
 IsInputEnd plan left faults faults' status.OutOfMemory = Unit {0}
@@ -146,6 +147,6 @@ pub record IsComplete (words : List Word) (files : Option Files) (left : Option 
   pub faultless : (fault : LoadFault) → IsLoaded fs (drop 1 words) (Err fault) → ⊥
   pub text : List ℕ
   pub read : left ≡ Some text
-  pub size : length text ≤ 1048576
+  pub size : length text ≤ schedule_bytes
   pub statements : List Statement
   pub schedule : IsSchedule plan.space.space plan.space.pages text statements

@@ -1,7 +1,7 @@
 -- The plan of a list of options.
 use Rattle.std.specs.Prelude.{◌≤◌, ◌<◌, List, length}
 use Rattle.keyd_cli.specs.declared.plan.DrillPlan.{DrillPlan}
-use Rattle.keyd_cli.specs.Words.{Word}
+use Rattle.keyd_cli.specs.Words.{most_pages, last_space_id, Word}
 use Rattle.keyd_cli.specs.Plan.{IsSpaceIn, IsStopIn, AreChoicesIn}
 
 pub record IsPlan (options : List Word) (plan : DrillPlan) : Type 0 where
@@ -11,7 +11,7 @@ pub record IsPlan (options : List Word) (plan : DrillPlan) : Type 0 where
 
 -- a plan within the bounds of the words
 pub record IsFitting (plan : DrillPlan) : Type 0 where
-  pub id_to : plan.space.space ≤ 4294967279
+  pub id_to : plan.space.space ≤ last_space_id
   pub pages_from : 2 ≤ plan.space.pages
-  pub pages_to : plan.space.pages ≤ 16384
+  pub pages_to : plan.space.pages ≤ most_pages
   pub some : 0 < length plan.choices.items

@@ -7,6 +7,10 @@ use Rattle.keyd_cli.specs.declared.act.Act.{Act}
 use Rattle.keyd_cli.specs.declared.act.Act.TheVariants.{Mtr, Sync}
 use Rattle.keyd_cli.specs.Parts.{parts_of}
 
+-- the most bytes that a schedule has
+abbrev pub schedule_bytes : ℕ
+schedule_bytes = 1048576
+
 abbrev pub schedule_lines : List ℕ → List (List ℕ)
 schedule_lines text = parts_of 10 text
 

@@ -7,6 +7,14 @@ use Rattle.keyd_cli.specs.Parts.{IsNot}
 use Rattle.keyd_cli.specs.declared.words.Flag.{Flag}
 use Rattle.keyd_cli.specs.declared.words.Flag.TheVariants.{KeyFile, FileKey, Digest, Space, Stop, Choice}
 
+-- the most pages of a space
+abbrev pub most_pages : ℕ
+most_pages = 16384
+
+-- the greatest id of a space
+abbrev pub last_space_id : ℕ
+last_space_id = 4294967279
+
 abbrev pub Word : Type 0
 Word = List ℕ
 
@@ -41,9 +49,9 @@ space_value id pages key = decimal id ++ (58 ∷ (decimal pages ++ (58 ∷ (deci
 pub record IsSpace (value : Word) (id pages key : ℕ) : Type 0 where
   pub spelled : value ≡ space_value id pages key
   pub id_from : 1 ≤ id
-  pub id_to : id ≤ 4294967279
+  pub id_to : id ≤ last_space_id
   pub pages_from : 2 ≤ pages
-  pub pages_to : pages ≤ 16384
+  pub pages_to : pages ≤ most_pages
   pub key_from : 1 ≤ key
   pub key_to : key ≤ 4294967295
 

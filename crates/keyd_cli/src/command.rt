@@ -8,6 +8,7 @@ ghost use Rattle.keyd_cli.specs.Words.{IsDrill, IsUsage, AreOptions};
 ghost use Rattle.keyd_cli.specs.Reads.{IsSchedule, IsNotBuilt};
 ghost use Rattle.keyd_cli.specs.Ends.{load_status, IsKeyed, IsKeyEnd, IsInput, IsInputEnd, IsInputDrilled, IsCommandDrilled, IsDone, IsEnd, NoneRose, IsComplete, drill_text};
 ghost use Rattle.keyd_cli.specs.PlanOf.{IsFitting};
+ghost use Rattle.keyd_cli.specs.Schedule.{schedule_bytes};
 
 use crate::act::Statement;
 use crate::drill::{Drilled, drill, report_after};
@@ -67,7 +68,7 @@ fn read_input<S: Source>(alloc: Global, input: &mut S) -> Result<Vec<u8>, Status
 // The statements of a schedule.
 fn statements_of(alloc: Global, text: &[u8], space: &SpaceWords) -> Result<Vec<Statement>, Status>
     requires pages { 2 ≤ space.now.pages }
-    requires size { length text.now ≤ 1048576 }
+    requires size { length text.now ≤ schedule_bytes }
     ensures ok { IfOk result (λ s. IsSchedule space.now.space space.now.pages text.now s.items) }
     ensures err { IfErr result (λ s. (s ≡ status.OutOfMemory) ⊎ ((line : ℕ) × (s ≡ status.NotBuilt line) × IsNotBuilt space.now.space space.now.pages text.now line)) }
 {

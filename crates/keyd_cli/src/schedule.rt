@@ -1,6 +1,6 @@
 // The schedule of a drill.
 ghost use Rattle.std.specs.Prelude.{◌≡◌, ◌≤◌, ◌∷◌, [], MatchOption, IfOk, codes, IsTrue, ◌↔◌, ◌+◌, IfNone, IfSome, true, if◌then◌else◌, length};
-ghost use Rattle.keyd_cli.specs.Schedule.{words_of, AreNumbers, IsPutLine, IsAct};
+ghost use Rattle.keyd_cli.specs.Schedule.{schedule_bytes, words_of, AreNumbers, IsPutLine, IsAct};
 ghost use Rattle.keyd_cli.specs.Lines.{IsLine};
 ghost use Rattle.keyd_cli.specs.Reads.{is_mtr, HasRoom, IsSchedule, IsNotBuilt};
 
@@ -166,7 +166,7 @@ pub fn read_schedule(
     plan: &SpaceWords,
 ) -> Result<Vec<Statement>, ScheduleFault>
     requires pages { 2 ≤ plan.now.pages }
-    requires size { length text.now ≤ 1048576 }
+    requires size { length text.now ≤ schedule_bytes }
     ensures ok { IfOk result (λ s. IsSchedule plan.now.space plan.now.pages text.now s.items) }
     ensures not_built { (line : _) → result ≡ Err (ScheduleFault.NotBuilt line) → IsNotBuilt plan.now.space plan.now.pages text.now line }
 {

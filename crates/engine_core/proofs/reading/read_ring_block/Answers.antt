@@ -5,6 +5,7 @@ use Rattle.disk_model.specs.declared.names.FileName.TheVariants.{Log}
 use Rattle.disk_model.proofs.Moments.{at_each}
 use Rattle.engine_core.proofs.Places.{place_high}
 use Rattle.engine_core.proofs.reading.read_ring_block.Goals as goal
+use Rattle.engine_core.specs.Block.{log_bytes}
 
 pub overflow_mul-ring_place : goal.overflow_mul-ring_place
 overflow_mul-ring_place g c = let high = place_high c.args.number in omega (arith, high, c.ring_place.ensures)
@@ -12,7 +13,7 @@ overflow_mul-ring_place g c = let high = place_high c.args.number in omega (arit
 pub read-requires : goal.read-requires
 read-requires g c =
     let high = place_high c.args.number in
-    let fits : c.ring_place.result * 4096 + length c.args.buffer.now ≤ 1060864 = omega (arith, high, c.ring_place.ensures, c.requires.size) in
+    let fits : c.ring_place.result * 4096 + length c.args.buffer.now ≤ log_bytes = omega (arith, high, c.ring_place.ensures, c.requires.size) in
     at_each (λ es i. record { there = i.there; within = omega (arith, fits, i.within) }) c.requires.inside
 
 pub returns-clause-block : goal.returns-clause-block
