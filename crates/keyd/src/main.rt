@@ -6,7 +6,7 @@
 use disk_model::FileDisk;
 use io_core::{Folder, StdSink, StdSource};
 use key_file::KeyFault;
-use keyd_cli::{Status, keyd_now};
+use keyd_cli::{Status, check_words, keyd_now};
 use rand::make_rng;
 use rand::rngs::StdRng;
 use std::alloc::{AllocError, Global};
@@ -94,8 +94,11 @@ fn tell(rt: &impl Print, text: &str) -> Status {
 }
 
 // Does the command over the files of the current folder, standard input and standard output. A
-// system without random bytes is a fault of the input.
+// system without random bytes is a fault of the input, told only where the words are a command's.
 fn run(rt: &HostRuntime, words: &[String]) -> Status {
+    if let Err(index) = check_words(words) {
+        return Status::Usage(index);
+    }
     let mut rng: StdRng = match make_rng(rt) {
         Ok(rng) => rng,
         Err(error) => return status_of(&error, Status::InputFault),

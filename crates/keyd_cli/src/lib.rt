@@ -36,6 +36,7 @@ mod words;
 pub use command::keyd_now;
 pub use outcome::{Answer, DrillEnd, Drills, Ended, Replies, Reply};
 pub use status::Status;
+pub use words::check_words;
 
 #[cfg(test)]
 mod tests;
