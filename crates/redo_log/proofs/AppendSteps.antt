@@ -1,0 +1,226 @@
+-- The blocks of a mini-transaction behind the pending ones.
+use Rattle.std.proofs.Common.{◌≡◌, ◌≢◌, ℕ, zero, suc, ◌+◌, ◌-◌, ◌*◌, ◌/◌, ◌^◌, ◌<◌, ◌≤◌, ⊎_elim, Bool, true, false, nat_eq, List, [], ◌∷◌, ◌++◌, length, take, drop, Option, Some, Ok, Result, refl, sym, ap, subst, ◌∙◌, arith, length-append, length-drop}
+use Rattle.std.specs.Result.{is_ok}
+use Rattle.std.proofs.lemmas.Bool.{cases_lt}
+use Rattle.std.proofs.lemmas.Bool.Decides.{nat_tests}
+use Rattle.std.proofs.lemmas.List.{drop_all, drop-append-le, take-append-le, take-append-drop, length-take-le}
+use Rattle.std.proofs.Math.Seq.{drop-append-add}
+use Rattle.byte_list.specs.Bytes.{AreBytes, range}
+use Rattle.byte_list.proofs.RangeLaws.{split_off}
+use Rattle.places.specs.Places.{place}
+use Rattle.ring_log.specs.Ring.{IsWholeMtr, listed_blocks}
+use Rattle.redo_text.specs.declared.change.Change.{Change}
+use Rattle.redo_text.specs.declared.change.Change.TheVariants.{Put, Kind, Touch, Floor, Encrypt}
+use Rattle.redo_text.specs.declared.key.RedoKey.{RedoKey}
+use Rattle.redo_text.specs.Block.{AreOf, block_count, blocks, nth_block, text_part}
+use Rattle.redo_text.proofs.BlockLoop.{length-joined, range-joined}
+use Rattle.redo_text.specs.Reading.{reading, version_of, used_of, flags_of, is_first, is_last, clear_body}
+use Rattle.redo_text.specs.Text.{text_of, AreAllowed}
+use Rattle.redo_log.specs.State.{LogState}
+use Rattle.redo_log.specs.Blocks.{Keys, HoldText, is_block, redo_form}
+use Rattle.redo_log.specs.Log.{IsOpen, durable, free_of, pending_at, pending_count}
+use Rattle.redo_log.specs.Append.{appended, logged_entry, taken_back, IsEntry, HasLast, HasPending}
+use Rattle.redo_log.specs.Append.{IsRedoKey}
+use Rattle.redo_log.proofs.TextFacts.{IsNth, nth_is}
+
+eq_true : (a b : ℕ) → a ≡ b → nat_eq a b ≡ true
+eq_true a b is = grind (arith, nat_tests)
+
+eq_false : (a b : ℕ) → a ≢ b → nat_eq a b ≡ false
+eq_false a b is = grind (arith, nat_tests)
+
+pub valid_nth : (n : ℕ) (b : List ℕ) → reading n b ≡ Ok tt → is_block n b ≡ true
+unfolding is_block
+valid_nth n b is = ap is_ok is
+
+-- places of a list, with other bytes before or behind them
+pub place_front : (j : ℕ) (a b : List ℕ) → j * 4096 + 4096 ≤ length a → place 4096 j (a ++ b) ≡ place 4096 j a
+unfolding place
+place_front j a b fits = front 4096 (j * 4096) a b fits
+  where
+    front : (n at : ℕ) (a b : List ℕ) → at + n ≤ length a → take n (drop at (a ++ b)) ≡ take n (drop at a)
+    front n at a b fits = ap (λ (l : List ℕ). take n l) (drop-append-le at a b (omega (arith, fits))) ∙ take-append-le n (drop at a) b (omega (arith, fits, length-drop at a))
+
+-- A reading in which the blocks of a text stand from a number on.
+module _ (key : RedoKey) (number : ℕ) (text : List ℕ) (some : 0 < length text) (few : block_count text ≤ 16) (at : ℕ → List ℕ) (nth : (j : ℕ) → j < block_count text → IsNth key number text j (at j)) where
+  abbrev count : ℕ
+  count = block_count text
+
+  module _ (N : ℕ) (keys : Keys) (has : keys key.version ≡ Some key) (block : ℕ → List ℕ) (reads : (j : ℕ) → j < count → block (number + j) ≡ at j) where
+    read_back : (m : ℕ) → number ≤ m → m < number + count → (j : ℕ) × (j < count) × (number + j ≡ m) × (block m ≡ at j)
+    read_back m low high =
+        let e : number + (m - number) ≡ m = omega (arith, low) in
+        let lt : m - number < count = omega (arith, low, high) in
+        (m - number, lt, e, ap block (sym e) ∙ reads (m - number) lt)
+
+    first_at : (j : ℕ) → j < count → is_first (flags_of (at j)) ≡ nat_eq j 0
+    first_at j lt = let n = nth j lt in n.first_is
+
+    last_at : (j : ℕ) → j < count → is_last (flags_of (at j)) ≡ nat_eq (j + 1) count
+    last_at j lt = let n = nth j lt in n.last_is
+
+    pub whole : IsWholeMtr N (redo_form keys) block number (number + count)
+    whole = record {
+      some = omega (arith, some);
+      most = omega (arith, few);
+      valid = λ m low high. let r = read_back m low high in subst (λ (n : ℕ). is_block n (block m) ≡ true) r.2 (ap (is_block (number + r.0)) r.3 ∙ valid_nth (number + r.0) (at r.0) (nth r.0 r.1).valid);
+      first = let r = read_back number (omega arith) (omega (arith, some)) in ap (λ (b : List ℕ). is_first (flags_of b)) r.3 ∙ first_at r.0 r.1 ∙ eq_true r.0 0 (omega (arith, r.2));
+      others = λ m gt high. let r = read_back m (omega (arith, gt)) high in ap (λ (b : List ℕ). is_first (flags_of b)) r.3 ∙ first_at r.0 r.1 ∙ eq_false r.0 0 (λ e. omega (arith, e, r.2, gt));
+      before = λ m low high. let r = read_back m low (omega (arith, high)) in ap (λ (b : List ℕ). is_last (flags_of b)) r.3 ∙ last_at r.0 r.1 ∙ eq_false (r.0 + 1) count (λ e. omega (arith, e, r.2, high));
+      last = λ m is.
+          let r = read_back m (omega (arith, is, some)) (omega (arith, is)) in
+          ap (λ (b : List ℕ). is_last (flags_of b)) r.3 ∙ last_at r.0 r.1 ∙ eq_true (r.0 + 1) count (omega (arith, r.2, is));
+    }
+
+    texts_from : (r j : ℕ) → j + r ≡ count → HoldText keys (listed_blocks N (redo_form keys) block (number + j) r) (drop (4076 * j) text)
+    texts_from zero j is = drop_all (4076 * j) text (omega (arith, is))
+    texts_from (suc r) j is =
+        let lt : j < count = omega (arith, is) in
+        let n = nth j lt in
+        let here = reads j lt in
+        let on : number + j + 1 ≡ number + (j + 1) = omega arith in
+        let e : 4076 * j + 4076 ≡ 4076 * (j + 1) = omega arith in (
+          key,
+          drop (4076 * (j + 1)) text,
+          ap (λ (b : List ℕ). keys (version_of b)) here ∙ ap keys n.version ∙ has,
+          split_off (4076 * j) 4076 text ∙ ap (λ (l : List ℕ). l ++ drop (4076 * j + 4076) text) (sym n.text_is ∙ ap (λ (b : List ℕ). take (used_of b) (clear_body key b)) (sym here)) ∙ ap (λ (k : ℕ). take (used_of (block (number + j))) (clear_body key (block (number + j))) ++ drop k text) e,
+          subst (λ (i : ℕ). HoldText keys (listed_blocks N (redo_form keys) block i r) (drop (4076 * (j + 1)) text)) (sym on) (texts_from r (j + 1) (omega (arith, is))),
+        )
+
+    pub texts : HoldText keys (listed_blocks N (redo_form keys) block number count) text
+    texts =
+        let e : number + 0 ≡ number = omega arith in
+        subst (λ (i : ℕ). HoldText keys (listed_blocks N (redo_form keys) block i count) text) e (texts_from count 0 (omega arith))
+
+-- A log to which a mini-transaction was appended.
+module _ (old : LogState) (mtr : List Change) (key : RedoKey) (is : IsOpen old) (some : 0 < length (text_of mtr)) (few : block_count (text_of mtr) ≤ 16) (bytes : AreBytes (text_of mtr)) (keyed : IsRedoKey key) (each : AreOf 4096 (nth_block key old.next (text_of mtr)) (block_count (text_of mtr)))
+    (spent : old.next + block_count (text_of mtr) ≤ 34359738368) (free : block_count (text_of mtr) ≤ free_of old) where
+  abbrev new : LogState
+  new = appended old mtr key
+
+  abbrev needed : ℕ
+  needed = block_count (text_of mtr)
+
+  abbrev more : List ℕ
+  more = blocks key old.next (text_of mtr)
+
+  long : length more ≡ needed * 4096
+  long = let l = length-joined 4096 (nth_block key old.next (text_of mtr)) needed each in omega (arith, l)
+
+  total : pending_count new ≡ pending_count old + needed
+  total = let w = is.whole in let l = length-append old.pending more in omega (arith, long, w, l)
+
+  same_durable : durable new ≡ durable old
+  same_durable = let order = is.order in omega (arith, total)
+
+  abbrev at : ℕ → List ℕ
+  at j = place 4096 j more
+
+  at_is : (j : ℕ) → j < needed → at j ≡ nth_block key old.next (text_of mtr) j
+  unfolding place
+  at_is j lt = let e : j * 4096 ≡ 4096 * j = omega arith in ap (λ (k : ℕ). range k 4096 more) e ∙ range-joined 4096 (nth_block key old.next (text_of mtr)) needed j each lt
+
+  nth : (j : ℕ) → j < needed → IsNth key old.next (text_of mtr) j (at j)
+  nth j lt = subst (λ (b : List ℕ). IsNth key old.next (text_of mtr) j b) (sym (at_is j lt)) (nth_is key keyed old.next (text_of mtr) bytes (omega (arith, spent)) j lt (each.long j lt))
+
+  front_at : (j : ℕ) → j < pending_count old → pending_at new j ≡ pending_at old j
+  front_at j lt = let w = is.whole in place_front j old.pending more (omega (arith, w, lt))
+
+  back_at : (j : ℕ) → pending_at new (pending_count old + j) ≡ at j
+  unfolding place
+  back_at j =
+      let w = is.whole in
+      let e : (pending_count old + j) * 4096 ≡ length old.pending + j * 4096 = omega (arith, w) in
+      ap (λ (k : ℕ). take 4096 (drop k (old.pending ++ more))) e ∙ ap (λ (l : List ℕ). take 4096 l) (drop-append-add old.pending more (j * 4096))
+
+  pub appended_open : IsOpen new
+  appended_open = record {
+    least = is.least;
+    most = is.most;
+    low = is.low;
+    high = omega (arith, spent);
+    some = is.some;
+    below = is.below;
+    order = let a = is.order in omega (arith, total);
+    room = let a = is.order in let b = is.room in omega (arith, free);
+    whole = let w = is.whole in let l = length-append old.pending more in omega (arith, long, w, l, total);
+    valid = λ j lt. ⊎_elim (λ (b : j < pending_count old). ap (is_block (durable new + j)) (front_at j b) ∙ ap (λ (d : ℕ). is_block (d + j) (pending_at old j)) same_durable ∙ is.valid j b)
+        (λ (ge : pending_count old ≤ j). behind j (j - pending_count old) (omega (arith, ge)) (omega (arith, ge, lt, total))) (cases_lt j (pending_count old));
+  }
+    where
+      behind : (j i : ℕ) → j ≡ pending_count old + i → i < needed → is_block (durable new + j) (pending_at new j) ≡ true
+      behind j i e lt =
+          let a = is.order in
+          let number : durable new + (pending_count old + i) ≡ old.next + i = omega (arith, same_durable) in
+          subst (λ (k : ℕ). is_block (durable new + k) (pending_at new k) ≡ true) (sym e)
+          (ap (is_block (durable new + (pending_count old + i))) (back_at i) ∙ ap (λ (n : ℕ). is_block n (at i)) number ∙ valid_nth (old.next + i) (at i) (nth i lt).valid)
+
+  pub appended_entry : AreAllowed mtr → IsEntry old new mtr key
+  appended_entry allowed keys has block pending = (
+    needed,
+    whole key old.next (text_of mtr) some few at nth old.blocks keys has block reads,
+    (allowed, texts key old.next (text_of mtr) some few at nth old.blocks keys has block reads),
+    refl,
+    refl,
+    refl,
+  )
+    where
+      reads : (j : ℕ) → j < needed → block (old.next + j) ≡ at j
+      reads j lt =
+          let a = is.order in
+          let e : old.next + j ≡ durable new + (pending_count old + j) = omega (arith, same_durable) in
+          ap block e ∙ pending (pending_count old + j) (omega (arith, lt, total)) ∙ back_at j
+
+  pub appended_last : HasLast new needed
+  appended_last = record {
+    some = omega (arith, some);
+    within = omega (arith, total);
+    first = let e : pending_count new - needed ≡ pending_count old + 0 = omega (arith, total) in
+        ap (λ (i : ℕ). is_first (flags_of (pending_at new i))) e ∙ ap (λ (b : List ℕ). is_first (flags_of b)) (back_at 0) ∙ (nth 0 (omega (arith, some))).first_is ∙ eq_true 0 0 refl;
+    others = λ j gt lt.
+        let e : j ≡ pending_count old + (j - pending_count old) = omega (arith, gt, total) in
+        ap (λ (i : ℕ). is_first (flags_of (pending_at new i))) e ∙ ap (λ (b : List ℕ). is_first (flags_of b)) (back_at (j - pending_count old)) ∙ (nth (j - pending_count old) (omega (arith, lt, gt, total))).first_is
+        ∙ eq_false (j - pending_count old) 0 (λ n. omega (arith, n, gt, total));
+  }
+
+-- A log whose last k blocks are dropped.
+module _ (old : LogState) (k : ℕ) (is : IsOpen old) (few : k ≤ pending_count old) where
+  abbrev left : ℕ
+  left = pending_count old - k
+
+  kept_long : length (take (left * 4096) old.pending) ≡ left * 4096
+  kept_long = let w = is.whole in length-take-le (left * 4096) old.pending (omega (arith, w))
+
+  kept_count : pending_count (taken_back old k) ≡ left
+  kept_count = omega (arith, kept_long)
+
+  kept_at : (j : ℕ) → j < left → pending_at (taken_back old k) j ≡ pending_at old j
+  kept_at j lt =
+      sym (place_front j (take (left * 4096) old.pending) (drop (left * 4096) old.pending) (omega (arith, kept_long, lt))) ∙ ap (λ (l : List ℕ). place 4096 j l) (take-append-drop (left * 4096) old.pending)
+
+  kept_durable : durable (taken_back old k) ≡ durable old
+  kept_durable = let order = is.order in omega (arith, kept_count, few)
+
+  pub taken_open : IsOpen (taken_back old k)
+  taken_open = record {
+    least = is.least;
+    most = is.most;
+    low = is.low;
+    high = let a = is.high in omega arith;
+    some = is.some;
+    below = is.below;
+    order = let a = is.order in omega (arith, kept_count, few);
+    room = let a = is.room in omega arith;
+    whole = omega (arith, kept_long);
+    valid = λ j lt. let b : j < left = omega (arith, lt, kept_count) in
+        ap (is_block (durable (taken_back old k) + j)) (kept_at j b) ∙ ap (λ (d : ℕ). is_block (d + j) (pending_at old j)) kept_durable ∙ is.valid j (omega (arith, b));
+  }
+
+-- a mini-transaction has a text
+pub text_some : (mtr : List Change) → 0 < length mtr → 0 < length (text_of mtr)
+text_some [] lt = absurd (omega (arith, lt))
+text_some (Put space page at bytes ∷ cs) lt = omega arith
+text_some (Kind space page kind ∷ cs) lt = omega arith
+text_some (Touch space page ∷ cs) lt = omega arith
+text_some (Floor space version ∷ cs) lt = omega arith
+text_some (Encrypt space ∷ cs) lt = omega arith

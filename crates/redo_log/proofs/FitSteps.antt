@@ -1,0 +1,98 @@
+-- The log in memory after its calls.
+use Rattle.std.proofs.Common.{◌≡◌, ◌≢◌, ℕ, ◌+◌, ◌-◌, ◌*◌, ◌/◌, ◌^◌, ◌<◌, ◌≤◌, Bool, true, false, true≢false, nat_eq, if◌then◌else◌, List, [], length, refl, sym, ap, subst, ◌∙◌, arith}
+use Rattle.std.proofs.lemmas.Bool.Decides.{nat_tests}
+use Rattle.ring_log.specs.Ring.{RingState}
+use Rattle.ring_log.specs.Batches.{settle, checkpointed}
+use Rattle.redo_log.specs.State.{LogState}
+use Rattle.redo_log.specs.Blocks.{is_block}
+use Rattle.redo_log.specs.Log.{IsOpen, durable, pending_at, pending_count, empty_log, written_out, with_checkpoint, checked, Fits}
+use Rattle.redo_log.proofs.CheckSteps.{checked_same, checked_other}
+
+-- a log with nothing pending
+pub empty_open : (blocks from sequence : ℕ) → 32 ≤ blocks → blocks ≤ 4096 → 2 ≤ from → from ≤ 2 ^ 50 → 1 ≤ sequence → sequence < from → IsOpen (empty_log blocks from sequence)
+empty_open blocks from sequence least most low high some below = record {
+  least = least;
+  most = most;
+  low = low;
+  high = high;
+  some = some;
+  below = below;
+  order = omega arith;
+  room = omega arith;
+  whole = refl;
+  valid = λ j lt. absurd (omega (arith, lt));
+}
+
+-- the pending blocks are given up
+pub cleared_open : (old : LogState) → IsOpen old → IsOpen (written_out old)
+cleared_open old is = record {
+  least = is.least;
+  most = is.most;
+  low = is.low;
+  high = is.high;
+  some = is.some;
+  below = is.below;
+  order = let a = is.order in omega arith;
+  room = is.room;
+  whole = refl;
+  valid = λ j lt. absurd (omega (arith, lt));
+}
+
+pub cleared_fits : (old : LogState) → IsOpen old → (r : RingState) → Fits r old → Fits (settle r (pending_count old)) (written_out old)
+cleared_fits old is r fits = record {
+  sequence = fits.sequence;
+  from = fits.from;
+  written = let a = is.order in let w = fits.written in omega arith;
+  blocks = λ j lt. absurd (omega (arith, lt));
+}
+
+-- the run begins at a later block
+abbrev next_check : LogState → ℕ → LogState
+next_check old f = record old { from = f; sequence = old.sequence + 1 }
+
+pub moved_open : (old : LogState) (f : ℕ) → IsOpen old → old.from < f → f ≤ durable old → IsOpen (next_check old f)
+moved_open old f is low high = record {
+  least = is.least;
+  most = is.most;
+  low = let a = is.low in omega (arith, low);
+  high = is.high;
+  some = omega arith;
+  below = let a = is.below in omega (arith, low);
+  order = let a = is.order in omega (arith, high);
+  room = let a = is.room in omega (arith, low);
+  whole = is.whole;
+  valid = is.valid;
+}
+
+pub moved_fits : (old : LogState) (f : ℕ) → old.from < f → (r : RingState) → Fits r old → Fits (checked r f) (next_check old f)
+moved_fits old f low r fits = subst (λ (q : RingState). Fits q (next_check old f)) (checked_other r f (λ e. let a = fits.from in omega (arith, e, low))) (record {
+  sequence = ap (λ (s : ℕ). s + 1) fits.sequence;
+  from = refl;
+  written = fits.written;
+  blocks = fits.blocks;
+})
+
+-- a checkpoint that does nothing
+pub kept_fits : (log : LogState) (f : ℕ) → f ≡ log.from → (r : RingState) → Fits r log → Fits (checked r f) log
+kept_fits log f same r fits = subst (λ (q : RingState). Fits q log) (checked_same r f (same ∙ sym fits.from)) fits
+
+if_true : {A : Type 0} (b : Bool) (x y : A) → b ≡ true → (if b then x else y) ≡ x
+if_true true x y is = refl
+if_true false x y is = absurd (true≢false (sym is))
+
+if_false : {A : Type 0} (b : Bool) (x y : A) → b ≡ false → (if b then x else y) ≡ y
+if_false true x y is = absurd (true≢false is)
+if_false false x y is = refl
+
+-- what a checkpoint makes of the log
+pub with_checkpoint_same : (log : LogState) (f : ℕ) → f ≡ log.from → log ≡ with_checkpoint log f
+with_checkpoint_same log f same = sym (if_true (nat_eq f log.from) log (next_check log f) (eq_true f log.from same))
+  where
+    eq_true : (a b : ℕ) → a ≡ b → nat_eq a b ≡ true
+    eq_true a b is = grind (arith, nat_tests)
+
+pub with_checkpoint_other : (log : LogState) (f : ℕ) → f ≢ log.from → next_check log f ≡ with_checkpoint log f
+with_checkpoint_other log f other = sym (if_false (nat_eq f log.from) log (next_check log f) (eq_false f log.from other))
+  where
+    eq_false : (a b : ℕ) → a ≢ b → nat_eq a b ≡ false
+    eq_false a b is = grind (arith, nat_tests)

@@ -1,0 +1,12 @@
+pub mod SumLaws
+pub mod TextFacts
+pub mod CheckLaws
+pub mod FormLaws
+pub mod BlockSteps
+pub mod BlockEvents
+pub mod CheckParts
+pub mod CheckSteps
+pub mod FitSteps
+pub mod AppendSteps
+pub mod FreshLog
+pub mod RunSteps

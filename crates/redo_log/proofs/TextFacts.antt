@@ -1,0 +1,100 @@
+-- The blocks that redo_text makes, as blocks of a ring: their text comes back.
+use Rattle.std.proofs.Common.{◌≡◌, ℕ, ◌+◌, ◌-◌, ◌*◌, ◌/◌, ◌^◌, ◌==◌, ◌<◌, ◌≤◌, ⊎_elim, Bool, true, false, true≢false, nat_eq, List, [], ◌∷◌, ◌++◌, length, take, drop, Ok, refl, sym, ap, ◌∙◌, arith, length-drop}
+use Rattle.std.proofs.lemmas.Bool.{cases_lt}
+use Rattle.std.proofs.lemmas.List.{take_at, take_all, length-take-le}
+use Rattle.std.specs.Int.{byte_at, to_le_bytes, w32, w64}
+use Rattle.aes_core.specs.Algorithm.{ciphered, deciphered}
+use Rattle.aes_core.specs.Cipher.{IsCipherBlock as IsSixteen, IsKey as IsCipherKey}
+use Rattle.aes_core.specs.Modes.{whole_blocks}
+use Rattle.aes_core.specs.declared.algorithm.Algorithm.{Algorithm}
+use Rattle.aes_core.specs.declared.algorithm.Algorithm.TheVariants.{Cbc, Ctr}
+use Rattle.aes_core.proofs.Inverse.{byte_at-lt}
+use Rattle.aes_core.proofs.ModeLaws.{cbc_undone, ctr_twice, stream_blocks}
+use Rattle.byte_list.specs.Bytes.{AreBytes, zeros}
+use Rattle.byte_list.proofs.ByteLaws.{bytes_append, bytes_made, bytes_take, bytes_drop}
+use Rattle.redo_text.specs.declared.change.Change.{Change}
+use Rattle.redo_text.specs.declared.key.RedoKey.{RedoKey}
+use Rattle.redo_text.specs.Block.{block_count, filled, log_iv, nth_block, ring_block, text_part}
+use Rattle.redo_text.specs.Reading.{reading, version_of, used_of, flags_of, body_of, is_first, is_last, clear_body}
+use Rattle.redo_text.proofs.BlockFields.{body_is, number_is, filled_bytes}
+use Rattle.redo_text.proofs.BlockTaken.{taken}
+use Rattle.redo_log.specs.Append.{IsRedoKey}
+use Rattle.redo_log.proofs.SumLaws.{of_eq}
+
+-- what was enciphered comes back
+deciphered-ciphered : (a : Algorithm) (key iv p : List ℕ) → IsCipherKey key → IsSixteen iv → AreBytes p → deciphered a key iv (ciphered a key iv p) ≡ p
+deciphered-ciphered Cbc key iv p k v bytes = cbc_undone key iv k v p bytes
+deciphered-ciphered Ctr key iv p k v bytes = ctr_twice key iv p (stream_blocks key iv k (whole_blocks p + 1))
+
+iv_sixteen : (number : ℕ) → IsSixteen (log_iv number)
+unfolding log_iv
+iv_sixteen number = record {
+  long = refl;
+  bytes = bytes_append (to_le_bytes w32 0xFFFFFFF0) (to_le_bytes w32 0 ++ to_le_bytes w64 number) (four 0xFFFFFFF0) (bytes_append (to_le_bytes w32 0) (to_le_bytes w64 number) (four 0) eight);
+}
+  where
+    four : (n : ℕ) → AreBytes (to_le_bytes w32 n)
+    four n = bytes_made (λ k. byte_at k n) (λ k. byte_at-lt k n) (0 ∷ 1 ∷ 2 ∷ 3 ∷ [])
+
+    eight : AreBytes (to_le_bytes w64 number)
+    eight = bytes_made (λ k. byte_at k number) (λ k. byte_at-lt k number) (0 ∷ 1 ∷ 2 ∷ 3 ∷ 4 ∷ 5 ∷ 6 ∷ 7 ∷ [])
+
+-- block k of a text
+pub record IsNth (key : RedoKey) (first : ℕ) (text : List ℕ) (k : ℕ) (b : List ℕ) : Type 0 where
+  pub valid : reading (first + k) b ≡ Ok tt
+  pub version : version_of b ≡ key.version
+  pub first_is : is_first (flags_of b) ≡ nat_eq k 0
+  pub last_is : is_last (flags_of b) ≡ nat_eq (k + 1) (block_count text)
+  pub text_is : take (used_of b) (clear_body key b) ≡ text_part text k
+
+-- the text of a block, once it is deciphered
+clear_text : (key : RedoKey) → IsRedoKey key → (number : ℕ) (first last : Bool) (text : List ℕ) → AreBytes text → number < 2 ^ 64 → length (ring_block key number first last text) ≡ 4096
+    → used_of (ring_block key number first last text) ≡ length text → take (used_of (ring_block key number first last text)) (clear_body key (ring_block key number first last text)) ≡ text
+clear_text key keyed number first last text bytes small long used =
+    let block : List ℕ = ring_block key number first last text in
+    let alg = key.algorithm in
+    let k = key.local in
+    ap (λ (n : ℕ). take n (clear_body key block)) used
+    ∙ ap (λ (n : ℕ). take (length text) (deciphered alg k (log_iv n) (body_of block))) (number_is key number first last text block long refl small)
+    ∙ ap (λ (l : List ℕ). take (length text) (deciphered alg k (log_iv number) l)) (body_is key number first last text block long refl)
+    ∙ ap (λ (l : List ℕ). take (length text) l) (deciphered-ciphered alg k (log_iv number) (filled text) keyed.cipher (iv_sixteen number) (filled_bytes text bytes))
+    ∙ take_at text (zeros (4076 - length text)) (length text) refl
+
+part_long : (text : List ℕ) (k : ℕ) → k < block_count text → (1 ≤ length (text_part text k)) × (length (text_part text k) ≤ 4076) × (nat_eq (k + 1) (block_count text) ≡ false → length (text_part text k) ≡ 4076)
+part_long text k lt = ⊎_elim
+    (λ (less : length rest < 4076).
+    let e : length (text_part text k) ≡ length rest = ap length (take_all 4076 rest (omega (arith, less))) in
+    (omega (arith, e, left, within), omega (arith, e, less), λ ne. absurd (omega (arith, less, left, further ne))))
+    (λ (ge : 4076 ≤ length rest).
+    let e : length (text_part text k) ≡ 4076 = length-take-le 4076 rest ge in
+    (omega (arith, e), omega (arith, e), λ ne. e))
+    (cases_lt (length rest) 4076)
+  where
+    rest : List ℕ
+    rest = drop (4076 * k) text
+
+    left : length rest ≡ length text - 4076 * k
+    left = length-drop (4076 * k) text
+
+    within : 4076 * k < length text
+    within = omega (arith, lt)
+
+    further : nat_eq (k + 1) (block_count text) ≡ false → 4076 * k + 4076 < length text
+    further ne =
+        let other : k + 1 ≡ block_count text → ⊥ = λ e. true≢false (sym (of_eq (k + 1) (block_count text) e) ∙ ne) in
+        let more : k + 1 < block_count text = omega (arith, lt, other) in
+        omega (arith, more)
+
+pub nth_is : (key : RedoKey) → IsRedoKey key → (first : ℕ) (text : List ℕ) → AreBytes text → first + block_count text < 2 ^ 64 → (k : ℕ) → k < block_count text → length (nth_block key first text k) ≡ 4096 → IsNth key first text k (nth_block key first text k)
+nth_is key keyed first text bytes small k lt long =
+    let part : List ℕ = text_part text k in
+    let p = part_long text k lt in
+    let inner : AreBytes (text_part text k) = bytes_take 4076 (drop (4076 * k) text) (bytes_drop (4076 * k) text bytes) in
+    let t = taken key (first + k) (nat_eq k 0) (nat_eq (k + 1) (block_count text)) part (nth_block key first text k) long refl (omega (arith, small, lt)) keyed.some keyed.small p.0 p.1 p.2 in
+    record {
+      valid = t.0;
+      version = t.1;
+      first_is = t.3;
+      last_is = t.4;
+      text_is = clear_text key keyed (first + k) (nat_eq k 0) (nat_eq (k + 1) (block_count text)) part inner (omega (arith, small, lt)) long t.2;
+    }

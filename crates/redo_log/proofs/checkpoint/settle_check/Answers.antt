@@ -1,0 +1,36 @@
+use Rattle.std.proofs.Common.{◌≡◌, ◌+◌, refl, sym, ap, ◌∙◌, arith}
+use Rattle.std.proofs.lemmas.Result.{on_ok_weaker, on_err_weaker}
+use Rattle.disk_model.specs.Event.{Sync}
+use Rattle.disk_model.specs.Past.{Past, grow}
+use Rattle.disk_model.specs.declared.names.FileName.TheVariants.{Log as LogFile}
+use Rattle.disk_model.proofs.Layers.{does_err, does_then, does_sync}
+use Rattle.places.specs.Batches.{Syncs}
+use Rattle.redo_log.specs.Events.{side_batch, IsCheckEvent, Done}
+use Rattle.redo_log.proofs.BlockEvents.{grows_none, write_more, write_failed}
+use Rattle.redo_log.proofs.CheckSteps.{check_now, check_sync, check_then}
+use Rattle.redo_log.proofs.checkpoint.settle_check.Goals as goal
+
+pub returns-in_err-write_check-clause-does : goal.returns-in_err-write_check-clause-does
+returns-in_err-write_check-clause-does g c = does_err _ _ c.from_residual.ensures.1 c.in_err-write_check.ensures.does
+
+pub returns-in_err-write_check-clause-part : goal.returns-in_err-write_check-clause-part
+returns-in_err-write_check-clause-part g c =
+    let first : Past = g.D.Disk.past c.args.disk.now in
+    write_failed (side_batch c.args.sequence c.args.from) 0 1 first first (g.D.Disk.past c.write_check.new.disk) c.from_residual.result (omega arith) (sym (grows_none first)) c.in_err-write_check.ensures.err
+
+pub returns-clause-does : goal.returns-clause-does
+returns-clause-does g c =
+    let n = c.args.blocks in
+    let s = c.args.sequence in
+    let f = c.args.from in
+    let first = g.D.Disk.past c.args.disk.now in
+    does_then c.in_ok-write_check.ensures.does
+    (does_sync (IsCheckEvent s f) (Sync LogFile) c.in_ok-write_check.ensures.does.next (check_now n s f 1 (omega arith) first) (check_then n s f first) (Syncs refl) (check_sync n s f first) c.sync.ensures.ok c.sync.ensures.err)
+
+pub returns-clause-exact : goal.returns-clause-exact
+returns-clause-exact g c = on_ok_weaker c.sync.result (λ e. e ∙ ap (grow (Sync LogFile)) c.in_ok-write_check.ensures.ok) c.sync.ensures.ok
+
+pub returns-clause-part : goal.returns-clause-part
+returns-clause-part g c =
+    let first : Past = g.D.Disk.past c.args.disk.now in
+    on_err_weaker c.sync.result (λ e. Done 1 (omega arith) (e ∙ write_more (side_batch c.args.sequence c.args.from) 0 first first _ (sym (grows_none first)) c.in_ok-write_check.ensures.ok)) c.sync.ensures.err

@@ -1,0 +1,9 @@
+use Rattle.std.proofs.lemmas.Result.{on_ok_weaker}
+use Rattle.places.proofs.Batches.{at_end}
+use Rattle.redo_log.proofs.FreshLog.{fresh_ready}
+use Rattle.redo_log.proofs.checkpoint.write_first_checkpoint.Goals as goal
+
+pub returns-clause-ready : goal.returns-clause-ready
+returns-clause-ready g c = λ keys.
+    let does = c.settle_check.ensures.does in
+    on_ok_weaker c.settle_check.result (λ at. at_end (λ s m made t. fresh_ready keys c.args.blocks c.requires.least s m made t) does.moments.later c.requires.made at) does.next

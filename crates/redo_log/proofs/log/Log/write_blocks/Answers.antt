@@ -1,0 +1,59 @@
+use Rattle.std.proofs.Common.{◌≡◌, length, subst, sym, ap, ◌∙◌, arith}
+use Rattle.disk_model.proofs.Layers.{does_err, so_far_none, so_far_more, so_far_then, so_far_done}
+use Rattle.places.proofs.Batches.{at_end}
+use Rattle.places.specs.Batches.{From}
+use Rattle.redo_log.specs.Log.{pending_count}
+use Rattle.redo_log.specs.Events.{BlocksWrote, block_batch, writes_of, grows}
+use Rattle.redo_log.proofs.BlockSteps.{blocks_begin, blocks_now}
+use Rattle.redo_log.proofs.BlockEvents.{grows_none, write_more, write_failed}
+use Rattle.redo_log.proofs.log.Log.write_blocks.Goals as goal
+
+pub loop-i-init : goal.loop-i-init
+loop-i-init g c =
+    let log = c.args.self.now in
+    let first = g.D.Disk.past c.args.disk.now in
+    record {
+      so_far = so_far_none (blocks_now log 0 (omega arith) first) (blocks_begin log first c.requires.places);
+      exact = sym (grows_none first);
+      faults = omega arith;
+      memory_refusals = omega arith;
+      later = g.met.D.Disk.is_later_reflexive c.args.disk.now;
+    }
+
+pub write_block-requires-clause-places : goal.write_block-requires-clause-places
+write_block-requires-clause-places g c = at_end (λ s m u w. w.writing.places) c.loop-i.invariant.so_far.moments.later c.requires.places c.loop-i.invariant.so_far.at
+
+pub returns-in_err-write_block-clause-does : goal.returns-in_err-write_block-clause-does
+returns-in_err-write_block-clause-does g c =
+    let first = g.D.Disk.past c.args.disk.now in
+    does_err _ _ c.from_residual.ensures.1 (so_far_then c.loop-i.invariant.so_far (c.in_err-write_block.ensures.does first c.loop-i.invariant.so_far.at))
+
+pub returns-in_err-write_block-clause-part : goal.returns-in_err-write_block-clause-part
+returns-in_err-write_block-clause-part g c =
+    let log = c.args.self.now in
+    write_failed (block_batch log) c.loop-i.i (pending_count log) (g.D.Disk.past c.args.disk.now) (g.D.Disk.past c.loop-i.disk) (g.D.Disk.past c.write_block.new.disk) c.from_residual.result
+    (omega (arith, c.loop-i-test.true, c.pending_count-i-end.ensures.count)) c.loop-i.invariant.exact c.in_err-write_block.ensures.err
+
+pub loop-i-preserved : goal.loop-i-preserved
+loop-i-preserved g c =
+    let log = c.args.self.now in
+    let first = g.D.Disk.past c.args.disk.now in
+    record {
+      so_far = so_far_more c.loop-i.invariant.so_far (c.in_ok-write_block.ensures.does first c.loop-i.invariant.so_far.at);
+      exact = write_more (block_batch log) c.loop-i.i first (g.D.Disk.past c.loop-i.disk) (g.D.Disk.past c.write_block.new.disk) c.loop-i.invariant.exact c.in_ok-write_block.ensures.ok;
+      faults = omega (arith, c.loop-i.invariant.faults, c.in_ok-write_block.ensures.cause.later);
+      memory_refusals = omega (arith, c.loop-i.invariant.memory_refusals, c.in_ok-write_block.ensures.memory.later);
+      later = g.met.D.Disk.is_later_transitive _ _ _ c.loop-i.invariant.later c.in_ok-write_block.ensures.later;
+    }
+
+pub returns-clause-does : goal.returns-clause-does
+returns-clause-does g c =
+    let log = c.args.self.now in
+    let all : c.loop-i.i ≡ pending_count log = omega (arith, c.loop-i.auto.i-end, c.loop-i-test.false, c.pending_count-i-end.ensures.count) in
+    so_far_done (λ es r. subst (λ n. From (BlocksWrote log n) (g.D.Disk.past c.args.disk.now) es) all r) c.loop-i.invariant.so_far
+
+pub returns-clause-exact : goal.returns-clause-exact
+returns-clause-exact g c =
+    let log = c.args.self.now in
+    let all : c.loop-i.i ≡ pending_count log = omega (arith, c.loop-i.auto.i-end, c.loop-i-test.false, c.pending_count-i-end.ensures.count) in
+    c.loop-i.invariant.exact ∙ ap (λ n. grows (writes_of (block_batch log) n) (g.D.Disk.past c.args.disk.now)) all

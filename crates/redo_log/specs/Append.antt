@@ -1,0 +1,56 @@
+-- A mini-transaction is added to the pending blocks, or isn't taken, or is taken back.
+use Rattle.std.specs.Prelude.{◌≡◌, ℕ, ◌+◌, ◌-◌, ◌*◌, ◌^◌, ◌<◌, ◌≤◌, true, false, List, [], ◌∷◌, ◌++◌, length, take, Some}
+use Rattle.aes_core.specs.Cipher.{IsKey as IsCipherKey}
+use Rattle.store_image.specs.View.{Logged}
+use Rattle.ring_log.specs.Ring.{AreWholeEntries}
+use Rattle.redo_text.specs.declared.change.Change.{Change}
+use Rattle.redo_text.specs.declared.key.RedoKey.{RedoKey}
+use Rattle.redo_text.specs.declared.key.TheConstants.{LAST_BLOCK}
+use Rattle.redo_text.specs.Block.{block_count, blocks}
+use Rattle.redo_text.specs.Reading.{flags_of, is_first}
+use Rattle.redo_text.specs.Text.{text_of}
+use Rattle.redo_log.specs.State.{LogState}
+use Rattle.redo_log.specs.Blocks.{Keys, redo_form}
+use Rattle.redo_log.specs.Log.{durable, free_of, pending_at, pending_count}
+use Rattle.redo_log.specs.declared.log.LogFault.{LogFault}
+use Rattle.redo_log.specs.declared.log.LogFault.TheVariants.{Spent, LogFull, OutOfMemory}
+
+-- a key of 16 bytes, with a version
+pub record IsRedoKey (key : RedoKey) : Type 0 where
+  pub cipher : IsCipherKey key.local
+  pub some : 1 ≤ key.version
+  pub small : key.version < 2 ^ 32
+
+-- the log with the blocks of a mini-transaction more
+abbrev pub appended : LogState → List Change → RedoKey → LogState
+appended log mtr key = record log { next = log.next + block_count (text_of mtr); pending = log.pending ++ blocks key log.next (text_of mtr) }
+
+-- the log with its last k blocks fewer
+abbrev pub taken_back : LogState → ℕ → LogState
+taken_back log k = record log { next = log.next - k; pending = take ((pending_count log - k) * 4096) log.pending }
+
+-- Each refusal comes exactly where its condition is the first that holds. Without one the mini-transaction is taken, but where there is no memory.
+abbrev pub IsLogRefusal : LogState → ℕ → LogFault → Type 0
+IsLogRefusal log needed (Spent next) = (next ≡ log.next) × (LAST_BLOCK < log.next + needed)
+IsLogRefusal log needed (LogFull n free) = (log.next + needed ≤ LAST_BLOCK) × (n ≡ needed) × (free ≡ free_of log) × (free_of log < needed)
+IsLogRefusal log needed OutOfMemory = (log.next + needed ≤ LAST_BLOCK) × (needed ≤ free_of log)
+
+-- these are the bytes of the pending blocks
+abbrev pub HasPending : (ℕ → List ℕ) → LogState → Type 0
+HasPending block log = (j : ℕ) → j < pending_count log → block (durable log + j) ≡ pending_at log j
+
+-- the mini-transaction as an entry of the journal, behind the next block's number of this log
+abbrev pub logged_entry : LogState → List Change → Logged (List Change)
+logged_entry log mtr = record { first = log.next; lsn = (log.next + block_count (text_of mtr)) * 4096; mtr = mtr }
+
+-- The pending blocks of the new log end with those of the mini-transaction: it is the journal's next entry, under all keys that have its own.
+abbrev pub IsEntry : LogState → LogState → List Change → RedoKey → Type 0
+IsEntry old new mtr key =
+    (keys : Keys) → keys key.version ≡ Some key → (block : ℕ → List ℕ) → HasPending block new → AreWholeEntries old.blocks (redo_form keys) block old.next (logged_entry old mtr ∷ []) new.next
+
+-- the last k pending blocks are those of one mini-transaction, by their flags
+pub record HasLast (log : LogState) (k : ℕ) : Type 0 where
+  pub some : 0 < k
+  pub within : k ≤ pending_count log
+  pub first : is_first (flags_of (pending_at log (pending_count log - k))) ≡ true
+  pub others : (j : ℕ) → pending_count log - k < j → j < pending_count log → is_first (flags_of (pending_at log j)) ≡ false

@@ -1,0 +1,70 @@
+-- The events of a write out and of a checkpoint, and what is known of the disk while they come.
+use Rattle.std.specs.Prelude.{◌≡◌, ℕ, zero, suc, ◌+◌, ◌*◌, ◌%◌, ◌<◌, ◌≤◌, List, [], ◌∷◌, ◌++◌, Some, None}
+use Rattle.disk_model.specs.Event.{Event, Write, Sync}
+use Rattle.disk_model.specs.Past.{Past, IsWrite}
+use Rattle.disk_model.specs.declared.names.FileName.TheVariants.{Log as LogFile}
+use Rattle.places.specs.Batches.{Batch, Writing, Wrote, BatchSettled, IsOf}
+use Rattle.redo_log.specs.State.{LogState}
+use Rattle.redo_log.specs.Blocks.{file_layout}
+use Rattle.redo_log.specs.Check.{check_bytes}
+use Rattle.redo_log.specs.Log.{durable, pending_at, pending_count}
+
+-- the writes of the pending blocks
+abbrev pub block_batch : LogState → Batch
+block_batch log = record { place = λ j. 3 + (durable log + j) % log.blocks; bytes = λ j. pending_at log j }
+
+-- the write of a checkpoint
+abbrev pub side_batch : ℕ → ℕ → Batch
+side_batch sequence from = record { place = λ j. 1 + sequence % 2; bytes = λ j. check_bytes sequence from }
+
+-- pending blocks are being written, so many of them were, and all are durable
+abbrev pub BlocksWriting : LogState → List Event → List Event → Type 0
+BlocksWriting log s m = Writing LogFile (file_layout log.blocks) (block_batch log) (pending_count log) s m
+
+abbrev pub BlocksWrote : LogState → ℕ → List Event → List Event → Type 0
+BlocksWrote log k s m = Wrote LogFile (file_layout log.blocks) (block_batch log) k s m
+
+abbrev pub BlocksSettled : LogState → List Event → List Event → Type 0
+BlocksSettled log s m = BatchSettled LogFile (file_layout log.blocks) (block_batch log) (pending_count log) s m
+
+-- a write of a pending block, or a sync of the log
+abbrev pub IsBlockEvent : LogState → Event → Type 0
+IsBlockEvent log e = IsOf LogFile 4096 (block_batch log) (pending_count log) e
+
+-- the first k writes of a batch, the newest first
+abbrev pub writes_of : Batch → ℕ → List Event
+writes_of b zero = []
+writes_of b (suc k) = Write LogFile (b.place k * 4096) (b.bytes k) (b.bytes k) ∷ writes_of b k
+
+-- a past with these events more
+abbrev pub grows : List Event → Past → Past
+grows news None = None
+grows news (Some es) = Some (news ++ es)
+
+-- what a write out adds: each pending block in order, and one sync, but nothing where nothing is pending
+abbrev pub out_events : ℕ → LogState → List Event
+out_events zero log = []
+out_events (suc k) log = Sync LogFile ∷ writes_of (block_batch log) (suc k)
+
+-- Some of the first k writes were done in order. The one behind them may have failed.
+pub data IsPart (b : Batch) (k : ℕ) (old new : Past) : Type 0 where
+  Done : (j : ℕ) → j ≤ k → new ≡ grows (writes_of b j) old → IsPart b k old new
+  Failed : (j : ℕ) (e : Event) → j < k → IsWrite LogFile (b.place j * 4096) (b.bytes j) e → new ≡ grows (e ∷ writes_of b j) old → IsPart b k old new
+
+-- a checkpoint is being written, was written, and is durable
+abbrev pub CheckWriting : ℕ → ℕ → ℕ → List Event → List Event → Type 0
+CheckWriting blocks sequence from s m = Writing LogFile (file_layout blocks) (side_batch sequence from) 1 s m
+
+abbrev pub CheckWrote : ℕ → ℕ → ℕ → ℕ → List Event → List Event → Type 0
+CheckWrote blocks sequence from k s m = Wrote LogFile (file_layout blocks) (side_batch sequence from) k s m
+
+abbrev pub CheckSettled : ℕ → ℕ → ℕ → List Event → List Event → Type 0
+CheckSettled blocks sequence from s m = BatchSettled LogFile (file_layout blocks) (side_batch sequence from) 1 s m
+
+-- a write of the checkpoint, or a sync of the log
+abbrev pub IsCheckEvent : ℕ → ℕ → Event → Type 0
+IsCheckEvent sequence from e = IsOf LogFile 4096 (side_batch sequence from) 1 e
+
+-- the write itself
+abbrev pub check_event : ℕ → ℕ → Event
+check_event sequence from = Write LogFile ((1 + sequence % 2) * 4096) (check_bytes sequence from) (check_bytes sequence from)

@@ -1,0 +1,123 @@
+// Mini-transactions are added to the pending blocks, and taken back.
+ghost use Rattle.std.specs.Prelude.{◌≡◌, ℕ, ◌+◌, ◌-◌, ◌*◌, ◌<◌, ◌≤◌, ◌^◌, length, IfOk, OnOk, OnErr, IfErr};
+ghost use Rattle.byte_list.specs.Bytes.{AreBytes};
+ghost use Rattle.redo_text.specs.Block.{block_count};
+ghost use Rattle.redo_text.specs.Reading.{flags_of, is_first};
+ghost use Rattle.redo_text.specs.Text.{text_of, AreAllowed};
+ghost use Rattle.redo_log.specs.Log.{IsOpen, pending_at, pending_count};
+ghost use Rattle.redo_log.specs.Append.{appended, taken_back, IsRedoKey, IsLogRefusal, IsEntry, HasLast};
+
+use crate::{Log, LogFault};
+use byte_list::fields::be16_at;
+use redo_text::{LAST_BLOCK, Mtr, RedoKey, encode, mtr_blocks};
+use std::alloc::Global;
+
+impl Log {
+    /// Adds the blocks of a mini-transaction under a key, and answers its LSN. They are pending. It
+    /// must not be empty, its changes must be ones that the format allows, and it must have at most
+    /// 16 blocks.
+    ///
+    /// # Errors
+    /// The first of these, in this order, and nothing has changed then: [`LogFault::Spent`] exactly
+    /// where the number behind its last block is past [`LAST_BLOCK`]; [`LogFault::LogFull`] exactly
+    /// where it has more blocks than are free; [`LogFault::OutOfMemory`].
+    pub fn append(&mut self, alloc: Global, mtr: &Mtr, key: &RedoKey) -> Result<u64, LogFault>
+        requires some { 0 < length mtr.now }
+        requires many { length mtr.now ≤ 65536 }
+        requires allowed { AreAllowed mtr.now }
+        requires most { block_count (text_of mtr.now) ≤ 16 }
+        requires version { 1 ≤ key.now.version }
+        ensures lsn { IfOk result (λ lsn. lsn ≡ (self.old.next + block_count (text_of mtr.now)) * 4096) }
+        ensures added { OnOk result (self.new ≡ appended self.old mtr.now key.now) }
+        ensures entry { OnOk result (IsEntry self.old self.new mtr.now key.now) }
+        ensures last { OnOk result (HasLast self.new (block_count (text_of mtr.now))) }
+        ensures refusal { IfErr result (IsLogRefusal self.old (block_count (text_of mtr.now))) }
+        ensures unchanged { OnErr result (self.new ≡ self.old) }
+        ensures open { IsOpen self.new }
+    {
+        let needed = mtr_blocks(mtr) as u64;
+        if self.next + needed > LAST_BLOCK {
+            return Err(LogFault::Spent { next: self.next });
+        }
+        let free = self.free();
+        if needed > free {
+            return Err(LogFault::LogFull { needed, free });
+        }
+        known_key(key);
+        let Ok(blocks) = encode(alloc, mtr, self.next, key) else {
+            return Err(LogFault::OutOfMemory);
+        };
+        let Ok(()) = self.pending.extend_from_slice(&blocks) else {
+            return Err(LogFault::OutOfMemory);
+        };
+        self.next += needed;
+        Ok(self.next * 4096)
+    }
+
+    /// Takes back the mini-transaction of this LSN, whose blocks must be the last pending ones: they
+    /// are dropped, and the next block is the first of them again.
+    pub fn take_back(&mut self, lsn: u64)
+        requires last { (k : ℕ) × HasLast self.old k }
+        requires lsn { lsn ≡ self.old.next * 4096 }
+        ensures taken { (k : ℕ) → HasLast self.old k → self.new ≡ taken_back self.old k }
+        ensures open { IsOpen self.new }
+    {
+        let _ = lsn;
+        let kept = self.last_first();
+        let dropped = self.pending_count() - kept;
+        self.pending.truncate(kept * 4096);
+        self.next -= dropped as u64;
+    }
+
+    // Where the last pending block stands that begins a mini-transaction.
+    fn last_first(&self) -> usize
+        ensures within { result ≤ pending_count self.now }
+        ensures last { (k : ℕ) → HasLast self.now k → result + k ≡ pending_count self.now }
+    {
+        let n = self.pending_count();
+        for i in 0..n {
+            let at = n - 1 - i;
+            if begins(self.pending_block(at)) {
+                return at;
+            }
+        }
+        0
+    }
+}
+
+// Whether a block begins a mini-transaction.
+fn begins(block: &[u8]) -> bool
+    requires { length block.now ≡ 4096 }
+    ensures { result ≡ is_first (flags_of block.now) }
+{
+    be16_at(block, 14) % 2 == 1
+}
+
+// Tells that a key is one of 16 bytes, with a version of 32 bits.
+fn known_key(key: &RedoKey)
+    requires { 1 ≤ key.now.version }
+    ensures { IsRedoKey key.now }
+{
+    known_version(key.version);
+    known_local(&key.local);
+}
+
+fn known_version(version: u32)
+    ensures { version < 2 ^ 32 }
+{
+    let _ = version;
+}
+
+fn known_local(local: &[u8; 16])
+    ensures long { length local.now ≡ 16 }
+    ensures bytes { AreBytes local.now }
+{
+    let _local = *local;
+    known_bytes(local);
+}
+
+fn known_bytes(bytes: &[u8])
+    ensures { AreBytes bytes.now }
+{
+    let _ = bytes.len();
+}

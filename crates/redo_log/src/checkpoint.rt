@@ -1,0 +1,142 @@
+// Checkpoints are written: device calls, one to a function.
+ghost use Rattle.std.specs.Prelude.{◌≡◌, ℕ, ◌+◌, ◌*◌, ◌%◌, ◌<◌, ◌≤◌, ◌^◌, List, OnOk, OnErr, Ok};
+ghost use Rattle.disk_model.specs.Does.{Does};
+ghost use Rattle.disk_model.specs.Event.{Sync};
+ghost use Rattle.disk_model.specs.Past.{Past, At, Throughout, MayGrow, IsWrite, grow, HasDiskCause, HasDiskMemoryCause};
+ghost use Rattle.disk_model.specs.declared.names.FileName.TheVariants.{Log as LogFile};
+ghost use Rattle.places.specs.Batches.{From};
+ghost use Rattle.places.specs.Places.{HasPlaces};
+ghost use Rattle.ring_log.specs.Batches.{checking};
+ghost use Rattle.ring_log.specs.Ring.{RingState, Ringed, RingReady, IsBound, IsRingJournal, AllRingStand};
+ghost use Rattle.store_image.specs.View.{Logged};
+ghost use Rattle.redo_text.specs.declared.change.Change.{Change};
+ghost use Rattle.redo_log.specs.Blocks.{Keys, redo_form, file_layout};
+ghost use Rattle.redo_log.specs.Check.{check_bytes};
+ghost use Rattle.redo_log.specs.Events.{side_batch, CheckWriting, CheckWrote, CheckSettled, IsCheckEvent, check_event, IsPart};
+ghost use Rattle.redo_log.specs.Fresh.{fresh_ring, IsFresh};
+ghost use Rattle.redo_log.specs.Log.{IsOpen, durable, checked, with_checkpoint, Fits};
+
+use crate::Log;
+use crate::check_block::fill_check;
+use disk_model::{Disk, DiskError, FileName};
+
+// Writes a checkpoint of a log with so many ring blocks.
+fn write_check<D: Disk>(
+    disk: &mut D,
+    blocks: u64,
+    sequence: u64,
+    from: u64,
+) -> Result<(), DiskError>
+    requires some { 1 ≤ sequence }
+    requires order { sequence < from }
+    requires most { from ≤ 2 ^ 50 }
+    requires places { At (HasPlaces LogFile (file_layout blocks)) (D.past disk.old) }
+    ensures does { Does (From (CheckWriting blocks sequence from) (D.past disk.old)) (IsCheckEvent sequence from) (From (CheckWrote blocks sequence from 1) (D.past disk.old)) (D.past disk.old) (D.past disk.new) result }
+    ensures ok { OnOk result (D.past disk.new ≡ grow (check_event sequence from) (D.past disk.old)) }
+    ensures err { OnErr result (MayGrow (IsWrite LogFile ((1 + sequence % 2) * 4096) (check_bytes sequence from)) (D.past disk.old) (D.past disk.new)) }
+    ensures later { D.is_later disk.old disk.new }
+    ensures cause { HasDiskCause (D.faults disk.old) (D.faults disk.new) result }
+    ensures memory { HasDiskMemoryCause (D.memory_refusals disk.old) (D.memory_refusals disk.new) result }
+{
+    let _ = blocks;
+    let mut block = [0; 4096];
+    fill_check(&mut block, sequence, from);
+    disk.write(FileName::Log, (1 + sequence % 2) * 4096, &block)
+}
+
+// Writes a checkpoint, and syncs the log.
+fn settle_check<D: Disk>(
+    disk: &mut D,
+    blocks: u64,
+    sequence: u64,
+    from: u64,
+) -> Result<(), DiskError>
+    requires some { 1 ≤ sequence }
+    requires order { sequence < from }
+    requires most { from ≤ 2 ^ 50 }
+    requires places { At (HasPlaces LogFile (file_layout blocks)) (D.past disk.old) }
+    ensures does { Does (From (CheckWriting blocks sequence from) (D.past disk.old)) (IsCheckEvent sequence from) (From (CheckSettled blocks sequence from) (D.past disk.old)) (D.past disk.old) (D.past disk.new) result }
+    ensures exact { OnOk result (D.past disk.new ≡ grow (Sync LogFile) (grow (check_event sequence from) (D.past disk.old))) }
+    ensures part { OnErr result (IsPart (side_batch sequence from) 1 (D.past disk.old) (D.past disk.new)) }
+    ensures later { D.is_later disk.old disk.new }
+    ensures cause { HasDiskCause (D.faults disk.old) (D.faults disk.new) result }
+    ensures memory { HasDiskMemoryCause (D.memory_refusals disk.old) (D.memory_refusals disk.new) result }
+{
+    write_check(disk, blocks, sequence, from)?;
+    disk.sync(FileName::Log)
+}
+
+/// Writes the first checkpoint of a log that was made of zero bytes, with so many ring blocks: its
+/// sequence is 1, and the run begins at block 2. The log is synced. It takes no memory.
+///
+/// # Errors
+/// As the disk gives them.
+pub fn write_first_checkpoint<D: Disk>(disk: &mut D, blocks: u64) -> Result<(), DiskError>
+    requires least { 32 ≤ blocks }
+    requires most { blocks ≤ 4096 }
+    requires made { At (IsFresh blocks) (D.past disk.old) }
+    ensures ready { (keys : Keys) → OnOk result (At (RingReady blocks (redo_form keys) (fresh_ring blocks)) (D.past disk.new)) }
+    ensures exact { OnOk result (D.past disk.new ≡ grow (Sync LogFile) (grow (check_event 1 2) (D.past disk.old))) }
+    ensures part { OnErr result (IsPart (side_batch 1 2) 1 (D.past disk.old) (D.past disk.new)) }
+    ensures later { D.is_later disk.old disk.new }
+    ensures cause { HasDiskCause (D.faults disk.old) (D.faults disk.new) result }
+    ensures memory { HasDiskMemoryCause (D.memory_refusals disk.old) (D.memory_refusals disk.new) result }
+{
+    settle_check(disk, blocks, 1, 2)
+}
+
+impl Log {
+    // Writes the next checkpoint, where the run begins at another block than at the old one.
+    fn move_from<D: Disk>(&self, disk: &mut D, from: u64) -> Result<(), DiskError>
+        requires low { self.now.from ≤ from }
+        requires high { from ≤ durable self.now }
+        requires places { At (HasPlaces LogFile (file_layout self.now.blocks)) (D.past disk.old) }
+        ensures does { (keys : Keys) (r : RingState) → Fits r self.now → At (RingReady self.now.blocks (redo_form keys) r) (D.past disk.old) → Does (Ringed self.now.blocks (redo_form keys) (checking r from)) (IsCheckEvent (self.now.sequence + 1) from) (RingReady self.now.blocks (redo_form keys) (checked r from)) (D.past disk.old) (D.past disk.new) result }
+        ensures places { At (HasPlaces LogFile (file_layout self.now.blocks)) (D.past disk.new) }
+        ensures nothing { from ≡ self.now.from → (result ≡ Ok tt) × (D.past disk.new ≡ D.past disk.old) }
+        ensures exact { self.now.from < from → OnOk result (D.past disk.new ≡ grow (Sync LogFile) (grow (check_event (self.now.sequence + 1) from) (D.past disk.old))) }
+        ensures part { OnErr result (IsPart (side_batch (self.now.sequence + 1) from) 1 (D.past disk.old) (D.past disk.new)) }
+        ensures later { D.is_later disk.old disk.new }
+        ensures cause { HasDiskCause (D.faults disk.old) (D.faults disk.new) result }
+        ensures memory { HasDiskMemoryCause (D.memory_refusals disk.old) (D.memory_refusals disk.new) result }
+    {
+        if from == self.from() {
+            return Ok(());
+        }
+        settle_check(disk, self.blocks(), self.sequence() + 1, from)
+    }
+
+    /// Writes the next checkpoint, from which the run begins at this block, and syncs the log. The
+    /// block must be from the one of the last synced checkpoint up to the first pending one. Where it
+    /// is that of the last synced checkpoint nothing is done. It takes no memory.
+    ///
+    /// # Errors
+    /// As the disk gives them. The checkpoint may then be on the disk or not, and the log goes on with
+    /// the last synced one.
+    pub fn checkpoint<D: Disk>(&mut self, disk: &mut D, from: u64) -> Result<(), DiskError>
+        requires low { self.old.from ≤ from }
+        requires high { from ≤ durable self.old }
+        requires places { At (HasPlaces LogFile (file_layout self.old.blocks)) (D.past disk.old) }
+        // Each lucky image of each moment stands for a part of the journal.
+        ensures stands { (keys : Keys) (r : RingState) (start : ℕ) (journal : List (Logged (List Change))) → Fits r self.old → At (RingReady self.old.blocks (redo_form keys) r) (D.past disk.old) → IsRingJournal self.old.blocks (redo_form keys) r start journal self.old.next → IsBound self.old.blocks (redo_form keys) r.block start journal from → Throughout (AllRingStand self.old.blocks (redo_form keys) (checking r from) start journal self.old.next) (D.past disk.old) (D.past disk.new) }
+        ensures does { (keys : Keys) (r : RingState) → Fits r self.old → At (RingReady self.old.blocks (redo_form keys) r) (D.past disk.old) → Does (Ringed self.old.blocks (redo_form keys) (checking r from)) (IsCheckEvent (self.old.sequence + 1) from) (RingReady self.old.blocks (redo_form keys) (checked r from)) (D.past disk.old) (D.past disk.new) result }
+        ensures fits { OnOk result ((r : RingState) → Fits r self.old → Fits (checked r from) self.new) }
+        ensures nothing { from ≡ self.old.from → (result ≡ Ok tt) × (D.past disk.new ≡ D.past disk.old) }
+        ensures exact { self.old.from < from → OnOk result (D.past disk.new ≡ grow (Sync LogFile) (grow (check_event (self.old.sequence + 1) from) (D.past disk.old))) }
+        ensures part { OnErr result (IsPart (side_batch (self.old.sequence + 1) from) 1 (D.past disk.old) (D.past disk.new)) }
+        ensures moved { OnOk result (self.new ≡ with_checkpoint self.old from) }
+        ensures kept { OnErr result (self.new ≡ self.old) }
+        ensures open { IsOpen self.new }
+        ensures places { At (HasPlaces LogFile (file_layout self.old.blocks)) (D.past disk.new) }
+        ensures later { D.is_later disk.old disk.new }
+        ensures cause { HasDiskCause (D.faults disk.old) (D.faults disk.new) result }
+        ensures memory { HasDiskMemoryCause (D.memory_refusals disk.old) (D.memory_refusals disk.new) result }
+    {
+        self.move_from(disk, from)?;
+        if from != self.from {
+            self.from = from;
+            self.sequence += 1;
+        }
+        Ok(())
+    }
+}

@@ -1,0 +1,186 @@
+// The run is read block by block. Reading adds no event.
+ghost use Rattle.std.specs.Prelude.{◌≡◌, ℕ, ◌+◌, ◌-◌, ◌*◌, ◌<◌, ◌≤◌, ◌^◌, ◌++◌, ◌∷◌, [], length, IfOk, OnOk, IfSome, IfNone, take};
+ghost use Rattle.std.specs.List.{Contains};
+ghost use Rattle.std.specs.List.Sorted.{IsStrictlyIncreasing};
+ghost use Rattle.disk_model.specs.Event.{reads};
+ghost use Rattle.disk_model.specs.Image.{InFile};
+ghost use Rattle.disk_model.specs.Past.{At, HasDiskCause};
+ghost use Rattle.disk_model.specs.declared.names.FileName.TheVariants.{Log as LogFile};
+ghost use Rattle.ring_log.specs.Ring.{read_in};
+ghost use Rattle.ring_log.specs.Scans.{IsRun, Goes, Stops};
+ghost use Rattle.redo_text.specs.Reading.{version_of};
+ghost use Rattle.redo_log.specs.Blocks.{Keys, redo_form, read_at};
+ghost use Rattle.redo_log.specs.Runs.{versions_up, AreVersions};
+
+use disk_model::{Disk, DiskError, FileName};
+use redo_text::read_block;
+use std::alloc::Global;
+use std::marker::Model;
+
+/// Key versions, ascending, each once. Contracts see the list.
+#[derive(Drop)]
+pub struct Versions {
+    items: Vec<u32>,
+}
+
+impl Model for Versions {
+    ghost use Rattle.std.specs.Prelude.{List, ℕ};
+    ghost use Rattle.std.specs.List.Sorted.{IsStrictlyIncreasing};
+
+    ghost Value = { List ℕ };
+
+    ghost view = { λ v. v.items.items };
+
+    ghost invariant = { λ v. IsStrictlyIncreasing v.items.items };
+}
+
+impl Versions {
+    // Those among these.
+    fn among(mut items: Vec<u32>) -> Versions
+        ensures all { (v : ℕ) → Contains items.items v → Contains result v }
+        ensures none { (v : ℕ) → Contains result v → Contains items.items v }
+    {
+        items.sort_unstable();
+        items.dedup();
+        Versions { items }
+    }
+
+    /// All of them.
+    pub fn items(&self) -> &[u32]
+        ensures items { result.now ≡ self.now }
+        ensures ascending { IsStrictlyIncreasing self.now }
+    {
+        &self.items
+    }
+}
+
+/// What a scan finds: the number of the run's last block, or the one before the first where the run
+/// is empty, and the key versions that its blocks name.
+#[derive(Drop)]
+pub struct Run {
+    pub last: u64,
+    pub versions: Versions,
+}
+
+// What a block says where it goes on with the run.
+#[derive(Drop)]
+struct Next {
+    // Where the whole mini-transactions end behind it.
+    end: u64,
+    version: u32,
+}
+
+// What the block of this number says where it goes on with what was read, whose whole
+// mini-transactions end at `end`, and none where it doesn't.
+fn next_of(block: &[u8], number: u64, end: u64) -> Option<Next>
+    requires size { length block.now ≡ 4096 }
+    requires small { number + 1 ≤ 2 ^ 63 }
+    requires order { end ≤ number }
+    ensures some { IfSome result (λ next. (keys : Keys) → (N : ℕ) → Goes N (redo_form keys) number end block.now next.end) }
+    ensures bounds { IfSome result (λ next. (end ≤ next.end) × (next.end ≤ number + 1)) }
+    ensures version { IfSome result (λ next. next.version ≡ version_of block.now) }
+    ensures none { IfNone result ((keys : Keys) → (N : ℕ) → Stops N (redo_form keys) number end block.now) }
+{
+    if number - end >= 16 {
+        return None;
+    }
+    let Ok(view) = read_block(block, number) else {
+        return None;
+    };
+    let begins = end == number;
+    if view.first() != begins {
+        return None;
+    }
+    let end = if view.last() { number + 1 } else { end };
+    Some(Next {
+        end,
+        version: view.version(),
+    })
+}
+
+// Reads the ring block at the place of this number.
+fn read_number<D: Disk>(
+    disk: &mut D,
+    blocks: u64,
+    number: u64,
+    buffer: &mut [u8],
+) -> Result<(), DiskError>
+    requires least { 32 ≤ blocks }
+    requires most { blocks ≤ 4096 }
+    requires inside { At (InFile LogFile 0 ((3 + blocks) * 4096)) (D.past disk.old) }
+    requires size { length buffer.old ≡ 4096 }
+    ensures block { OnOk result (At (λ es. buffer.new ≡ read_at blocks (reads LogFile es) number) (D.past disk.old)) }
+    ensures same { D.past disk.new ≡ D.past disk.old }
+    ensures later { D.is_later disk.old disk.new }
+    ensures cause { HasDiskCause (D.faults disk.old) (D.faults disk.new) result }
+    ensures memory_refusals { D.memory_refusals disk.old ≤ D.memory_refusals disk.new }
+{
+    disk.read(FileName::Log, (3 + number % blocks) * 4096, buffer)
+}
+
+// Reads the run into the versions of its blocks, one for each block that was read, and gives the
+// number behind its last block.
+fn scan_into<D: Disk>(
+    disk: &mut D,
+    blocks: u64,
+    from: u64,
+    buffer: &mut [u8],
+    versions: &mut Vec<u32>,
+) -> Result<u64, DiskError>
+    requires least { 32 ≤ blocks }
+    requires most { blocks ≤ 4096 }
+    requires high { from ≤ 2 ^ 50 }
+    requires inside { At (InFile LogFile 0 ((3 + blocks) * 4096)) (D.past disk.old) }
+    requires size { length buffer.old ≡ 4096 }
+    requires none { versions.old.items ≡ [] }
+    ensures low { IfOk result (λ end. (from ≤ end) × (end ≤ from + length versions.new.items)) }
+    ensures run { IfOk result (λ end. At (λ es. (keys : Keys) → IsRun blocks (redo_form keys) (read_at blocks (reads LogFile es)) from end) (D.past disk.old)) }
+    ensures versions { OnOk result (At (λ es. versions.new.items ≡ versions_up (read_at blocks (reads LogFile es)) from (length versions.new.items)) (D.past disk.old)) }
+    ensures same { D.past disk.new ≡ D.past disk.old }
+    ensures later { D.is_later disk.old disk.new }
+    ensures cause { HasDiskCause (D.faults disk.old) (D.faults disk.new) result }
+    ensures memory_refusals { D.memory_refusals disk.old ≤ D.memory_refusals disk.new }
+{
+    let mut end = from;
+    for i in 0..blocks {
+        read_number(disk, blocks, from + i, buffer)?;
+        let Some(next) = next_of(buffer, from + i, end) else {
+            return Ok(end);
+        };
+        let Ok(()) = versions.push(next.version) else {
+            return Err(DiskError::NoMemory);
+        };
+        end = next.end;
+    }
+    Ok(end)
+}
+
+/// The longest run of whole mini-transactions from this block on in a log of so many ring blocks, as
+/// the disk reads. Each block is read once at most, and no event is added.
+///
+/// # Errors
+/// As the disk gives them, and `NoMemory` also where the versions find no room.
+pub fn scan<D: Disk>(alloc: Global, disk: &mut D, blocks: u64, from: u64) -> Result<Run, DiskError>
+    requires least { 32 ≤ blocks }
+    requires most { blocks ≤ 4096 }
+    requires low { 2 ≤ from }
+    requires high { from ≤ 2 ^ 50 }
+    requires inside { At (InFile LogFile 0 ((3 + blocks) * 4096)) (D.past disk.old) }
+    ensures low { IfOk result (λ run. from ≤ run.last + 1) }
+    ensures run { IfOk result (λ run. At (λ es. (keys : Keys) → IsRun blocks (redo_form keys) (read_at blocks (reads LogFile es)) from (run.last + 1)) (D.past disk.old)) }
+    ensures versions { IfOk result (λ run. At (λ es. AreVersions (read_at blocks (reads LogFile es)) from (run.last + 1) run.versions) (D.past disk.old)) }
+    ensures ascending { IfOk result (λ run. IsStrictlyIncreasing run.versions) }
+    ensures same { D.past disk.new ≡ D.past disk.old }
+    ensures later { D.is_later disk.old disk.new }
+    ensures cause { HasDiskCause (D.faults disk.old) (D.faults disk.new) result }
+    ensures memory_refusals { D.memory_refusals disk.old ≤ D.memory_refusals disk.new }
+{
+    let mut buffer = [0; 4096];
+    let mut versions = Vec::new(alloc);
+    let end = scan_into(disk, blocks, from, &mut buffer, &mut versions)?;
+    versions.truncate((end - from) as usize);
+    Ok(Run {
+        last: end - 1,
+        versions: Versions::among(versions),
+    })
+}

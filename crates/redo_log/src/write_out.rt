@@ -1,0 +1,96 @@
+// The pending blocks are written out: device calls, one to a function.
+ghost use Rattle.std.specs.Prelude.{◌≡◌, ℕ, ◌+◌, ◌*◌, ◌%◌, ◌<◌, ◌≤◌, List, length, OnOk, OnErr};
+ghost use Rattle.disk_model.specs.Does.{Does};
+ghost use Rattle.disk_model.specs.Event.{Write};
+ghost use Rattle.disk_model.specs.Past.{Past, At, Throughout, MayGrow, IsWrite, grow, HasDiskCause, HasDiskMemoryCause};
+ghost use Rattle.disk_model.specs.declared.names.FileName.TheVariants.{Log as LogFile};
+ghost use Rattle.places.specs.Batches.{From};
+ghost use Rattle.places.specs.Places.{HasPlaces};
+ghost use Rattle.ring_log.specs.Batches.{more, settle};
+ghost use Rattle.ring_log.specs.Ring.{RingState, Ringed, RingReady, IsRingJournal, AllRingStand};
+ghost use Rattle.store_image.specs.View.{Logged};
+ghost use Rattle.redo_text.specs.declared.change.Change.{Change};
+ghost use Rattle.redo_log.specs.Blocks.{Keys, redo_form, file_layout};
+ghost use Rattle.redo_log.specs.Events.{block_batch, BlocksWriting, BlocksWrote, IsBlockEvent, writes_of, grows, out_events, IsPart};
+ghost use Rattle.redo_log.specs.Log.{IsOpen, durable, pending_at, pending_count, written_out, Fits};
+
+use crate::Log;
+use disk_model::{Disk, DiskError, FileName};
+
+impl Log {
+    // Writes one pending block.
+    fn write_block<D: Disk>(&self, disk: &mut D, i: usize) -> Result<(), DiskError>
+        requires more { i < pending_count self.now }
+        requires places { At (HasPlaces LogFile (file_layout self.now.blocks)) (D.past disk.old) }
+        ensures does { (first : Past) → At (From (BlocksWrote self.now i) first) (D.past disk.old) → Does (From (BlocksWriting self.now) first) (IsBlockEvent self.now) (From (BlocksWrote self.now (i + 1)) first) (D.past disk.old) (D.past disk.new) result }
+        ensures ok { OnOk result (D.past disk.new ≡ grow (Write LogFile ((3 + (durable self.now + i) % self.now.blocks) * 4096) (pending_at self.now i) (pending_at self.now i)) (D.past disk.old)) }
+        ensures err { OnErr result (MayGrow (IsWrite LogFile ((3 + (durable self.now + i) % self.now.blocks) * 4096) (pending_at self.now i)) (D.past disk.old) (D.past disk.new)) }
+        ensures later { D.is_later disk.old disk.new }
+        ensures cause { HasDiskCause (D.faults disk.old) (D.faults disk.new) result }
+        ensures memory { HasDiskMemoryCause (D.memory_refusals disk.old) (D.memory_refusals disk.new) result }
+    {
+        let number = self.durable() + i as u64;
+        let place = 3 + number % self.blocks();
+        disk.write(FileName::Log, place * 4096, self.pending_block(i))
+    }
+
+    // Writes the pending blocks in order.
+    fn write_blocks<D: Disk>(&self, disk: &mut D) -> Result<(), DiskError>
+        requires places { At (HasPlaces LogFile (file_layout self.now.blocks)) (D.past disk.old) }
+        ensures does { Does (From (BlocksWriting self.now) (D.past disk.old)) (IsBlockEvent self.now) (From (BlocksWrote self.now (pending_count self.now)) (D.past disk.old)) (D.past disk.old) (D.past disk.new) result }
+        ensures exact { OnOk result (D.past disk.new ≡ grows (writes_of (block_batch self.now) (pending_count self.now)) (D.past disk.old)) }
+        ensures part { OnErr result (IsPart (block_batch self.now) (pending_count self.now) (D.past disk.old) (D.past disk.new)) }
+        ensures later { D.is_later disk.old disk.new }
+        ensures cause { HasDiskCause (D.faults disk.old) (D.faults disk.new) result }
+        ensures memory { HasDiskMemoryCause (D.memory_refusals disk.old) (D.memory_refusals disk.new) result }
+    {
+        for i in 0..self.pending_count() {
+            self.write_block(disk, i)?;
+        }
+        Ok(())
+    }
+
+    // Writes the pending blocks in order, and syncs the log.
+    fn settle_blocks<D: Disk>(&self, disk: &mut D) -> Result<(), DiskError>
+        requires places { At (HasPlaces LogFile (file_layout self.now.blocks)) (D.past disk.old) }
+        ensures does { (keys : Keys) (r : RingState) → Fits r self.now → At (RingReady self.now.blocks (redo_form keys) r) (D.past disk.old) → Does (Ringed self.now.blocks (redo_form keys) (more r (pending_count self.now))) (IsBlockEvent self.now) (RingReady self.now.blocks (redo_form keys) (settle r (pending_count self.now))) (D.past disk.old) (D.past disk.new) result }
+        ensures places { At (HasPlaces LogFile (file_layout self.now.blocks)) (D.past disk.new) }
+        ensures exact { OnOk result (D.past disk.new ≡ grows (out_events (pending_count self.now) self.now) (D.past disk.old)) }
+        ensures part { OnErr result (IsPart (block_batch self.now) (pending_count self.now) (D.past disk.old) (D.past disk.new)) }
+        ensures later { D.is_later disk.old disk.new }
+        ensures cause { HasDiskCause (D.faults disk.old) (D.faults disk.new) result }
+        ensures memory { HasDiskMemoryCause (D.memory_refusals disk.old) (D.memory_refusals disk.new) result }
+    {
+        if self.pending_count() == 0 {
+            return Ok(());
+        }
+        self.write_blocks(disk)?;
+        disk.sync(FileName::Log)
+    }
+
+    /// Writes the pending blocks in order, each at its place in the ring, and syncs the log. Where
+    /// nothing is pending nothing is done. Then no block is pending. It takes no memory.
+    ///
+    /// # Errors
+    /// As the disk gives them. Some of the pending blocks may then be on the disk; they stay pending.
+    pub fn write_out<D: Disk>(&mut self, disk: &mut D) -> Result<(), DiskError>
+        requires places { At (HasPlaces LogFile (file_layout self.old.blocks)) (D.past disk.old) }
+        // Each lucky image of each moment stands for a part of the journal, and at Ok all is durable.
+        ensures stands { (keys : Keys) (r : RingState) (start : ℕ) (journal : List (Logged (List Change))) → Fits r self.old → At (RingReady self.old.blocks (redo_form keys) r) (D.past disk.old) → IsRingJournal self.old.blocks (redo_form keys) r start journal self.old.next → Throughout (AllRingStand self.old.blocks (redo_form keys) (more r (pending_count self.old)) start journal self.old.next) (D.past disk.old) (D.past disk.new) }
+        ensures does { (keys : Keys) (r : RingState) → Fits r self.old → At (RingReady self.old.blocks (redo_form keys) r) (D.past disk.old) → Does (Ringed self.old.blocks (redo_form keys) (more r (pending_count self.old))) (IsBlockEvent self.old) (RingReady self.old.blocks (redo_form keys) (settle r (pending_count self.old))) (D.past disk.old) (D.past disk.new) result }
+        ensures fits { OnOk result ((r : RingState) → Fits r self.old → Fits (settle r (pending_count self.old)) self.new) }
+        ensures exact { OnOk result (D.past disk.new ≡ grows (out_events (pending_count self.old) self.old) (D.past disk.old)) }
+        ensures part { OnErr result (IsPart (block_batch self.old) (pending_count self.old) (D.past disk.old) (D.past disk.new)) }
+        ensures given_up { OnOk result (self.new ≡ written_out self.old) }
+        ensures kept { OnErr result (self.new ≡ self.old) }
+        ensures open { IsOpen self.new }
+        ensures places { At (HasPlaces LogFile (file_layout self.old.blocks)) (D.past disk.new) }
+        ensures later { D.is_later disk.old disk.new }
+        ensures cause { HasDiskCause (D.faults disk.old) (D.faults disk.new) result }
+        ensures memory { HasDiskMemoryCause (D.memory_refusals disk.old) (D.memory_refusals disk.new) result }
+    {
+        self.settle_blocks(disk)?;
+        self.pending.clear();
+        Ok(())
+    }
+}
