@@ -9,7 +9,7 @@ use Rattle.store_image.specs.View.{Text, Held, Holds, Zero, Bad, Slot, IsCopy, I
 use Rattle.page_places.specs.Texts.{held, is_page_text, text_in, are_zero}
 use Rattle.page_places.proofs.Sums.{and_left, and_right}
 use Rattle.page_places.proofs.Texts.{held-text, held_is}
-use Rattle.image_reader.specs.Choosing.{slot_in, page_view, IsCopyIn, better, IsBest, Best, IsChoice}
+use Rattle.image_reader.specs.Choosing.{slot_in, page_view, IsCopyIn, better, IsBest, Best, IsTextChoice}
 use Rattle.image_reader.specs.declared.choosing.Chosen.TheVariants as answer
 use Rattle.image_reader.specs.declared.copies.Newest.{Newest}
 
@@ -109,10 +109,10 @@ module _ (home double : List ℕ) (s p : ℕ) where
   no_home : is_page_text p home ≡ false → (t : Text) → held p home ≢ Holds t
   no_home none t e = true≢false (sym (held_is p home t e).0 ∙ none)
 
-  pub home_choice : is_page_text p home ≡ true → IsChoice home double s p answer.Home
+  pub home_choice : is_page_text p home ≡ true → IsTextChoice home double s p answer.Home
   home_choice is = (held-text p home is, Home (text_in home) (held-text p home is) refl)
 
-  pub copy_choice : (c : Newest) → is_page_text p home ≡ false → Best double s p 64 (Some c) → IsChoice home double s p (answer.Copy c.index)
+  pub copy_choice : (c : Newest) → is_page_text p home ≡ false → Best double s p 64 (Some c) → IsTextChoice home double s p (answer.Copy c.index)
   copy_choice c none best = (
     best.text,
     best.is,
@@ -121,10 +121,10 @@ module _ (home double : List ℕ) (s p : ℕ) where
         (λ j u copy same. best.first j u copy.within copy.is (same ∙ best.lsn)) refl,
   )
 
-  pub unused_choice : is_page_text p home ≡ false → are_zero home ≡ true → Best double s p 64 None → IsChoice home double s p answer.Unused
+  pub unused_choice : is_page_text p home ≡ false → are_zero home ≡ true → Best double s p 64 None → IsTextChoice home double s p answer.Unused
   unused_choice none zeros best = Unused (held-else p home true none zeros) (λ i t copy. best i t copy.within copy.is) refl
 
-  pub nothing_choice : is_page_text p home ≡ false → are_zero home ≡ false → Best double s p 64 None → IsChoice home double s p answer.Nothing
+  pub nothing_choice : is_page_text p home ≡ false → are_zero home ≡ false → Best double s p 64 None → IsTextChoice home double s p answer.Nothing
   nothing_choice none zeros best chosen (Home t is e) = no_home none t is
   nothing_choice none zeros best chosen (Copy i t torn copy most first e) = best i t copy.within copy.is
   nothing_choice none zeros best chosen (Unused is empty e) = bad (sym (held-else p home false none zeros) ∙ is)

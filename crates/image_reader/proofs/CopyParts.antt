@@ -1,6 +1,6 @@
 -- What the bytes of a slot say of a page's copy.
 use Rattle.std.proofs.Common.{◌≡◌, ◌≢◌, ℕ, true, false, List, Option, Some, None, refl, sym, ap, ◌∙◌}
-use Rattle.space_head.specs.Fields.{be32_at, be64_at}
+use Rattle.byte_list.specs.Fields.{be32_at, be64_at}
 use Rattle.store_image.specs.Groups.{copy_of}
 use Rattle.store_image.specs.View.{Text, Slot}
 use Rattle.page_places.specs.Texts.{is_slot, slot_held, slot_page, text_in}

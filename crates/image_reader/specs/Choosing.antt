@@ -42,8 +42,8 @@ Best double s p n None = (j : ℕ) (u : Text) → j < n → slot_in double j ≢
 Best double s p n (Some c) = IsBest double s p n c
 
 -- The page is read from its home, from this copy, from nothing as it is unused, or it can't be read.
-abbrev pub IsChoice : List ℕ → List ℕ → ℕ → ℕ → Chosen → Type 0
-IsChoice home double s p Home = (held p home ≡ Holds (text_in home)) × IsChosen (page_view home double) s p (Some (text_in home))
-IsChoice home double s p (Copy i) = (t : Text) × (slot_in double i ≡ copy_of s p t) × IsChosen (page_view home double) s p (Some t)
-IsChoice home double s p Unused = IsChosen (page_view home double) s p None
-IsChoice home double s p Nothing = (chosen : Option Text) → IsChosen (page_view home double) s p chosen → ⊥
+abbrev pub IsTextChoice : List ℕ → List ℕ → ℕ → ℕ → Chosen → Type 0
+IsTextChoice home double s p Home = (held p home ≡ Holds (text_in home)) × IsChosen (page_view home double) s p (Some (text_in home))
+IsTextChoice home double s p (Copy i) = (t : Text) × (slot_in double i ≡ copy_of s p t) × IsChosen (page_view home double) s p (Some t)
+IsTextChoice home double s p Unused = IsChosen (page_view home double) s p None
+IsTextChoice home double s p Nothing = (chosen : Option Text) → IsChosen (page_view home double) s p chosen → ⊥

@@ -1,8 +1,8 @@
 // What a page is read from.
 ghost use Rattle.std.specs.Prelude.{◌≡◌, ◌≤◌, ◌<◌, ◌*◌, length, not, ◌&&◌, nat_eq};
 ghost use Rattle.page_places.specs.Texts.{ends_in_sum};
-ghost use Rattle.space_head.specs.Fields.{be32_at};
-ghost use Rattle.image_reader.specs.Choosing.{IsChoice};
+ghost use Rattle.byte_list.specs.Fields.{be32_at};
+ghost use Rattle.image_reader.specs.Choosing.{IsTextChoice};
 
 use crate::copies::newest_copy;
 use crate::texts::{are_zero, is_page_text};
@@ -25,7 +25,7 @@ pub enum Chosen {
 pub fn chosen_text(home: &[u8], double: &[u8], space: u32, page: u32) -> Chosen
     requires home { length home.now ≡ 16384 }
     requires double { length double.now ≡ 64 * 16896 }
-    ensures { IsChoice home.now double.now space page result }
+    ensures { IsTextChoice home.now double.now space page result }
 {
     if is_page_text(home, page) {
         return Chosen::Home;

@@ -3,7 +3,7 @@ ghost use Rattle.std.specs.Prelude.{◌≡◌, ◌≤◌, ◌<◌, ◌+◌, ◌*
 ghost use Rattle.image_reader.specs.Choosing.{Best, IsCopyIn, better};
 
 use crate::texts::{is_slot, place};
-use space_head::fields::{be32_at, be64_at};
+use byte_list::fields::{be32_at, be64_at};
 
 /// A copy of a page: its slot, 0 to 63, and its LSN.
 #[derive(Clone, Copy, Debug, PartialEq, Eq)]

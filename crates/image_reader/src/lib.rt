@@ -11,3 +11,6 @@ mod texts;
 
 pub use choosing::{Chosen, chosen_text};
 pub use copies::{Newest, newest_copy};
+
+#[cfg(test)]
+mod tests;

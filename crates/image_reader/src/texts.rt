@@ -6,8 +6,8 @@ ghost use Rattle.bytes_core.specs.Crc.{crc32c};
 ghost use Rattle.places.specs.Places.{place};
 ghost use Rattle.page_places.specs.Texts.{has_magic, is_page_text, is_slot};
 
+use byte_list::fields::be32_at;
 use bytes_core::{Crc32c, ends_in_crc32c};
-use space_head::fields::be32_at;
 
 // The bytes of a place, in places of this size.
 #[tactic(auto, unfolding(places::specs::Places::place))]
