@@ -47,7 +47,7 @@ fn encipher_body(block: &mut [u8], number: u64, key: &RedoKey, block_key: &Block
 }
 
 // Writes the checksum of all bytes before the last four into these.
-fn write_sum(block: &mut [u8])
+pub(crate) fn write_sum(block: &mut [u8])
     requires { length block.old ≡ 4096 }
     ensures { block.new ≡ put 4092 (to_be_bytes w32 (crc32c (range 0 4092 block.old))) block.old }
 {

@@ -32,3 +32,6 @@ pub use encoding::{encode, mtr_blocks};
 pub use fault::{BadRecord, BlockFault};
 pub use key::{LAST_BLOCK, RedoKey};
 pub use view::{BlockView, read_block};
+
+#[cfg(test)]
+mod tests;
