@@ -23,7 +23,7 @@ def main():
     wanted = os.path.join(fixtures, "innochecksum.json")
     if not os.path.exists(wanted):
         print("skipped: no fixtures")
-        return 0
+        return 77
     with open(wanted) as file:
         cases = json.load(file)
     tried = failed = 0

@@ -20,7 +20,7 @@ def main():
     program = sys.argv[1] if len(sys.argv) > 1 else os.path.join(TOP, "crates/innochecksum/out/innochecksum")
     if not os.path.exists(program):
         print("skipped: no program built")
-        return 0
+        return 77
     printed = subprocess.run([program, "--help"], capture_output=True, text=True, check=True).stdout
     helped = set(re.findall(r"(?:^  |, )(-{1,2}[A-Za-z][a-z-]*)", printed, re.MULTILINE))
     section = read("docs/innochecksum.md").split("## OPTIONS")[1].split("## OUTPUT")[0]
