@@ -13,36 +13,30 @@ use Rattle.byte_list.specs.Bytes.{range}
 use Rattle.page_places.specs.Texts.{ends_in_sum}
 use Rattle.page_places.proofs.Sums.{and_left, and_right}
 use Rattle.ring_log.specs.Ring as ring
-use Rattle.ring_log.specs.Ring.{Check, Form, IsForm, listed_blocks, side}
+use Rattle.ring_log.specs.Ring.{Form, IsForm, listed_blocks}
+use Rattle.store_image.specs.Checkpoint.{Checkpoint, side_of}
 use Rattle.store_image.specs.Places.{LogView}
 use Rattle.store_image.specs.View.{Logged}
 use Rattle.redo_text.specs.declared.change.Change.{Change}
-use Rattle.store_files.specs.Checkpoint.{Checkpoint, checkpoint_in, is_checkpoint, side_of}
+use Rattle.redo_text.specs.Reading.{version_of}
+use Rattle.store_files.specs.Checkpoint.{checkpoint_in, is_checkpoint}
 use Rattle.store_files.specs.Header.{Header}
-use Rattle.store_files.specs.RingBlock.{is_ring_block, is_first, is_last, block_version, block_text}
-use Rattle.store_files.specs.Run.{block_at, IsWhole, AreWhole, HasText, AreEntries, IsRun, IsLogOf, IsClear}
-use Rattle.crash_image.specs.LogForm.{check_of, AreTexts, AreOf, log_form}
+use Rattle.store_files.specs.RingBlock.{is_ring_block, begins_mtr, ends_mtr, block_text, IsMtrText}
+use Rattle.store_files.specs.Run.{block_at, MakeWholeMtr, MakeWholeMtrs, HasText, AreLogEntries, IsRun, IsLogOf, IsClear}
+use Rattle.store_files.proofs.RingBlocks.{block_number, block_sum}
+use Rattle.store_files.proofs.RunsOnce.{changes_one}
+use Rattle.crash_image.specs.LogForm.{AreTexts, AreBlocksOf, log_form}
 
 -- ---- what is valid
 
-pub block_number : (n : ℕ) (b : List ℕ) → is_ring_block n b ≡ true → be64_at b 0 ≡ n
-unfolding is_ring_block
-block_number n b valid =
-    let same : nat_eq (be64_at b 0) n ≡ true = and_left _ _ (and_right (ends_in_sum b) _ valid) in
-    grind (arith, nat_tests)
-
-block_sum : (n : ℕ) (b : List ℕ) → is_ring_block n b ≡ true → ends_in_sum b ≡ true
-unfolding is_ring_block
-block_sum n b valid = and_left _ _ valid
-
-check_is : (i : ℕ) (b : List ℕ) (c : Check) → check_of (checkpoint_in i b) ≡ Some c → (is_checkpoint i b ≡ true) × (be64_at b 8 ≡ c.sequence) × (be64_at b 16 ≡ c.from)
+check_is : (i : ℕ) (b : List ℕ) (c : Checkpoint) → checkpoint_in i b ≡ Some c → (is_checkpoint i b ≡ true) × (be64_at b 8 ≡ c.sequence)
 unfolding checkpoint_in
 check_is i b c is = by (is_checkpoint i b) is
   where
-    by : (v : Bool) → check_of (if v then Some (record { sequence = be64_at b 8; from = be64_at b 16 }) else None) ≡ Some c → (v ≡ true) × (be64_at b 8 ≡ c.sequence) × (be64_at b 16 ≡ c.from)
-    by true e = let same : record { sequence = be64_at b 8; from = be64_at b 16 } ≡ c = one _ e in (refl, ap (λ (x : Check). x.sequence) same, ap (λ (x : Check). x.from) same)
+    by : (v : Bool) → (if v then Some (record { sequence = be64_at b 8; from = be64_at b 16 }) else None) ≡ Some c → (v ≡ true) × (be64_at b 8 ≡ c.sequence)
+    by true e = (refl, ap (λ (x : Checkpoint). x.sequence) (one _ e))
       where
-        one : (x : Check) → Some x ≡ Some c → x ≡ c
+        one : (x : Checkpoint) → Some x ≡ Some c → x ≡ c
         one x e = cc
     by false e = absurd (cc)
 
@@ -52,22 +46,8 @@ checkpoint_parts i b valid =
     let placed : nat_eq i (side_of (be64_at b 8)) ≡ true = and_left _ _ (and_right (bytes_eq (range 0 8 b) (codes "KEYCHK01")) _ (and_right (ends_in_sum b) _ valid)) in
     (and_left _ _ valid, grind (arith, nat_tests))
 
-side_is : (s : ℕ) → side_of s ≡ side s
-unfolding side_of
-side_is s = refl
-
-from_check : (i : ℕ) (b : List ℕ) (c : Check) → check_of (checkpoint_in i b) ≡ Some c → checkpoint_in i b ≡ Some (record { sequence = c.sequence; from = c.from })
-from_check i b c is = by (checkpoint_in i b) is
-  where
-    by : (x : Option Checkpoint) → check_of x ≡ Some c → x ≡ Some (record { sequence = c.sequence; from = c.from })
-    by None e = absurd (cc)
-    by (Some d) e = let same : record { sequence = d.sequence; from = d.from } ≡ c = one _ e in (λ i. Some (record { sequence = (same i).sequence; from = (same i).from }))
-      where
-        one : (x : Check) → Some x ≡ Some c → x ≡ c
-        one x e = cc
-
-module _ (Reads : List ℕ → List Change → Type 0) (reads_one : (text : List ℕ) (x y : List Change) → Reads text x → Reads text y → x ≡ y) (header : Header) (keys : List RingEntry) where
-  texts_one : (bs : List (List ℕ)) (t u : List ℕ) → AreTexts Reads header keys bs t → AreTexts Reads header keys bs u → t ≡ u
+module _ (header : Header) (keys : List RingEntry) where
+  texts_one : (bs : List (List ℕ)) (t u : List ℕ) → AreTexts header keys bs t → AreTexts header keys bs u → t ≡ u
   texts_one [] t u a b = a ∙ sym b
   texts_one (x ∷ xs) t u (l, r, kl, hr, et) (m, s, km, hs, eu) =
       let same : l ≡ m = one l m (sym kl ∙ km) in
@@ -77,18 +57,18 @@ module _ (Reads : List ℕ → List Change → Type 0) (reads_one : (text : List
       one a b e = cc
 
   -- the laws that the ring asks of a form
-  pub is_form : IsForm (log_form Reads header keys)
+  pub is_form : IsForm (log_form header keys)
   is_form = record {
     block_one = λ n m b x y. sym (block_number n b x) ∙ block_number m b y;
     block_passes = block_sum;
     check_passes = λ i b c is. (checkpoint_parts i b (check_is i b c is).0).0;
-    check_side = λ i b c is. let k = check_is i b c is in (checkpoint_parts i b k.0).1 ∙ ap side_of k.1 ∙ side_is c.sequence;
-    mtr_one = λ n bs x y (t, ht, rx) (u, hu, ry). reads_one u x y (subst (λ (l : List ℕ). Reads l x) (texts_one bs t u ht hu) rx) ry;
+    check_side = λ i b c is. let k = check_is i b c is in (checkpoint_parts i b k.0).1 ∙ ap side_of k.1;
+    mtr_one = λ n bs x y (t, ht, rx) (u, hu, ry). changes_one u x y (subst (λ (l : List ℕ). IsMtrText l x) (texts_one bs t u ht hu) rx) ry;
   }
 
-module _ (Reads : List ℕ → List Change → Type 0) (header : Header) (keys : List RingEntry) (file : List ℕ) where
+module _ (header : Header) (keys : List RingEntry) (file : List ℕ) where
   abbrev F : Form (List Change)
-  F = log_form Reads header keys
+  F = log_form header keys
 
   abbrev N : ℕ
   N = header.blocks
@@ -102,7 +82,7 @@ module _ (Reads : List ℕ → List Change → Type 0) (header : Header) (keys :
 
   -- ---- whole mini-transactions, both ways
 
-  whole_here : (n k : ℕ) → ring.IsWholeMtr N F read n (n + k) → IsWhole N file n k
+  whole_here : (n k : ℕ) → ring.IsWholeMtr N F read n (n + k) → MakeWholeMtr N file n k
   whole_here n k w =
       record {
         some = let s = w.some in omega (arith, s);
@@ -112,32 +92,32 @@ module _ (Reads : List ℕ → List Change → Type 0) (header : Header) (keys :
         last = last;
       }
     where
-      first : (i : ℕ) → i < k → is_first (block_at N file (n + i)) ≡ nat_eq i 0
+      first : (i : ℕ) → i < k → begins_mtr (block_at N file (n + i)) ≡ nat_eq i 0
       first zero lt =
           let e : n + 0 ≡ n = omega arith in
           let z : nat_eq 0 0 ≡ true = grind (arith, nat_tests) in
-          ap (λ (m : ℕ). is_first (block_at N file m)) e ∙ ap is_first (sym (at n)) ∙ w.first ∙ sym z
+          ap (λ (m : ℕ). begins_mtr (block_at N file m)) e ∙ ap begins_mtr (sym (at n)) ∙ w.first ∙ sym z
       first (suc i) lt =
           let z : nat_eq (suc i) 0 ≡ false = grind (arith, nat_tests) in
-          ap is_first (sym (at (n + suc i))) ∙ w.others (n + suc i) (omega arith) (omega (arith, lt)) ∙ sym z
+          ap begins_mtr (sym (at (n + suc i))) ∙ w.others (n + suc i) (omega arith) (omega (arith, lt)) ∙ sym z
 
-      last : (i : ℕ) → i < k → is_last (block_at N file (n + i)) ≡ nat_eq (i + 1) k
+      last : (i : ℕ) → i < k → ends_mtr (block_at N file (n + i)) ≡ nat_eq (i + 1) k
       last i lt = by (nat_eq (i + 1) k) refl
         where
-          by : (b : Bool) → nat_eq (i + 1) k ≡ b → is_last (block_at N file (n + i)) ≡ b
-          by true is = let e : i + 1 ≡ k = grind (arith, nat_tests) in ap is_last (sym (at (n + i))) ∙ w.last (n + i) (omega (arith, e))
-          by false isnt = let e : i + 1 < k = grind (arith, nat_tests) in ap is_last (sym (at (n + i))) ∙ w.before (n + i) (omega arith) (omega (arith, e))
+          by : (b : Bool) → nat_eq (i + 1) k ≡ b → ends_mtr (block_at N file (n + i)) ≡ b
+          by true is = let e : i + 1 ≡ k = grind (arith, nat_tests) in ap ends_mtr (sym (at (n + i))) ∙ w.last (n + i) (omega (arith, e))
+          by false isnt = let e : i + 1 < k = grind (arith, nat_tests) in ap ends_mtr (sym (at (n + i))) ∙ w.before (n + i) (omega arith) (omega (arith, e))
 
-  whole_there : (n k : ℕ) → IsWhole N file n k → ring.IsWholeMtr N F read n (n + k)
+  whole_there : (n k : ℕ) → MakeWholeMtr N file n k → ring.IsWholeMtr N F read n (n + k)
   whole_there n k w =
       record {
         some = let s = w.some in omega (arith, s);
         most = let s = w.few in omega (arith, s);
         valid = λ m le lt. back (λ x. is_ring_block m (read x) ≡ true) m le (λ i e. ap₂ (λ (y : ℕ) (b : List ℕ). is_ring_block y b) (sym e) (at (n + i)) ∙ w.valid i (omega (arith, lt, e)));
-        first = ap (λ (m : ℕ). is_first (read m)) plus_none ∙ ap is_first (at (n + 0)) ∙ w.first 0 w.some ∙ zero_is;
-        others = λ m lt below. back (λ x. is_first (read x) ≡ false) m (omega (arith, lt)) (λ i e. ap is_first (at (n + i)) ∙ w.first i (omega (arith, below, e)) ∙ not_zero i (omega (arith, lt, e)));
-        before = λ m le below. back (λ x. is_last (read x) ≡ false) m le (λ i e. ap is_last (at (n + i)) ∙ w.last i (omega (arith, below, e)) ∙ not_last i (omega (arith, below, e)));
-        last = λ m e. let s = w.some in back (λ x. is_last (read x) ≡ true) m (omega (arith, e, s)) (λ i f. ap is_last (at (n + i)) ∙ w.last i (omega (arith, e, f)) ∙ is_at_last i (omega (arith, e, f)));
+        first = ap (λ (m : ℕ). begins_mtr (read m)) plus_none ∙ ap begins_mtr (at (n + 0)) ∙ w.first 0 w.some ∙ zero_is;
+        others = λ m lt below. back (λ x. begins_mtr (read x) ≡ false) m (omega (arith, lt)) (λ i e. ap begins_mtr (at (n + i)) ∙ w.first i (omega (arith, below, e)) ∙ not_zero i (omega (arith, lt, e)));
+        before = λ m le below. back (λ x. ends_mtr (read x) ≡ false) m le (λ i e. ap ends_mtr (at (n + i)) ∙ w.last i (omega (arith, below, e)) ∙ not_last i (omega (arith, below, e)));
+        last = λ m e. let s = w.some in back (λ x. ends_mtr (read x) ≡ true) m (omega (arith, e, s)) (λ i f. ap ends_mtr (at (n + i)) ∙ w.last i (omega (arith, e, f)) ∙ is_at_last i (omega (arith, e, f)));
       }
     where
       plus_none : n ≡ n + 0
@@ -161,17 +141,17 @@ module _ (Reads : List ℕ → List Change → Type 0) (header : Header) (keys :
 
   -- ---- texts and entries
 
-  texts_here : (n k : ℕ) (text : List ℕ) → AreTexts Reads header keys (listed_blocks N F read n k) text → HasText Reads header keys file n k text
+  texts_here : (n k : ℕ) (text : List ℕ) → AreTexts header keys (listed_blocks N F read n k) text → HasText header keys file n k text
   texts_here n zero text is = is
   texts_here n (suc k) text (local, rest, key, more, e) =
-      (local, rest, ap (λ (b : List ℕ). local_key keys 1 (block_version b) header.salt) (sym (at n)) ∙ key, texts_here (n + 1) k rest more, e ∙ ap (λ (b : List ℕ). block_text header.algorithm local b ++ rest) (at n))
+      (local, rest, ap (λ (b : List ℕ). local_key keys 1 (version_of b) header.salt) (sym (at n)) ∙ key, texts_here (n + 1) k rest more, e ∙ ap (λ (b : List ℕ). block_text header.algorithm local b ++ rest) (at n))
 
-  entries_here : (n : ℕ) (es : List (Logged (List Change))) (end : ℕ) → ring.AreWholeEntries N F read n es end → AreEntries Reads header keys file n es end
+  entries_here : (n : ℕ) (es : List (Logged (List Change))) (end : ℕ) → ring.AreWholeEntries N F read n es end → AreLogEntries header keys file n es end
   entries_here n [] end is = is
   entries_here n (e ∷ es) end (k, w, (text, texts, reads), first, lsn, rest) = (k, text, whole_here n k w, texts_here n k text texts, reads, first, lsn, entries_here (n + k) es end rest)
 
   -- how many blocks each entry has
-  sizes_here : (n : ℕ) (es : List (Logged (List Change))) (end : ℕ) → ring.AreWholeEntries N F read n es end → (sizes : List ℕ) × AreWhole N file n sizes end
+  sizes_here : (n : ℕ) (es : List (Logged (List Change))) (end : ℕ) → ring.AreWholeEntries N F read n es end → (sizes : List ℕ) × MakeWholeMtrs N file n sizes end
   sizes_here n [] end is = ([], is)
   sizes_here n (e ∷ es) end (k, w, mtr, first, lsn, rest) = let more = sizes_here (n + k) es end rest in (k ∷ more.0, (whole_here n k w, more.1))
 
@@ -188,7 +168,7 @@ module _ (Reads : List ℕ → List Change → Type 0) (header : Header) (keys :
       omega (arith, same, some)
 
   -- a whole mini-transaction behind the run stays within the ring, since a place has one number
-  within_ring : 16 ≤ N → (from : ℕ) (es : List (Logged (List Change))) (end k : ℕ) → ring.AreWholeEntries N F read from es end → end ≤ from + N → IsWhole N file end k → end + k ≤ from + N
+  within_ring : 16 ≤ N → (from : ℕ) (es : List (Logged (List Change))) (end k : ℕ) → ring.AreWholeEntries N F read from es end → end ≤ from + N → MakeWholeMtr N file end k → end + k ≤ from + N
   within_ring big from [] end k is few w = let f = w.few in omega (arith, is, f, big)
   within_ring big from (e ∷ es) end k (j, v, mtr, first, lsn, rest) few w = by (cases_lt (from + N) (end + k))
     where
@@ -205,15 +185,15 @@ module _ (Reads : List ℕ → List Change → Type 0) (header : Header) (keys :
           absurd (two_numbers from (omega (arith, big)) own (subst (λ (m : ℕ). is_ring_block m (block_at N file m) ≡ true) e here))
 
   -- What the ring's law says of the file, the file says under the keys.
-  pub log_is : 16 ≤ N → (l : LogView (List Change)) → ring.IsRingLog N F file l → IsLogOf Reads header keys file l
+  pub log_is : 16 ≤ N → (l : LogView (List Change)) → ring.IsRingLog N F file l → IsLogOf header keys file l
   log_is big l is =
       let sizes = sizes_here l.from l.run l.end is.run in
       record {
         run = record {
           sequence = is.sequence;
           newest = record {
-            is = newest_is;
-            newest = λ i d e. is.newest i (record { sequence = d.sequence; from = d.from }) (ap check_of e);
+            is = is.check;
+            newest = is.newest;
           };
           sizes = sizes.0;
           whole = sizes.1;
@@ -221,12 +201,7 @@ module _ (Reads : List ℕ → List Change → Type 0) (header : Header) (keys :
         };
         entries = entries_here l.from l.run l.end is.run;
       }
-    where
-      newest_is : checkpoint_in (side_of is.sequence) (place 4096 (side_of is.sequence) file) ≡ Some (record { sequence = is.sequence; from = l.from })
-      newest_is =
-          ap (λ (i : ℕ). checkpoint_in i (place 4096 i file)) (side_is is.sequence)
-          ∙ from_check (side is.sequence) (place 4096 (side is.sequence) file) (record { sequence = is.sequence; from = l.from }) is.check
 
   -- no ring block has a number of n or more
-  pub clear_is : (n : ℕ) → ring.IsClear N F file n → IsClear N file (n + N)
+  pub clear_is : (n : ℕ) → ring.IsRingClear N F file n → IsClear N file (n + N)
   clear_is n clear = clear

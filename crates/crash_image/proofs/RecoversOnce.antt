@@ -36,24 +36,24 @@ module _ (header : Header) (keys : List RingEntry) (v : View (List Change)) wher
   head_one : (a b : ℕ → List ℕ) (c d : ℕ → ℕ → Page) (s : ℕ) → pages.PageRecovers (store_theory header keys a) v c s 0 → pages.PageRecovers (store_theory header keys b) v d s 0 → c s 0 ≡ d s 0
   head_one a b c d s p q = gives_head a b c d s q.chosen (subst (pages.Gives (store_theory header keys a) v c s 0) (chosen_one v s 0 p.chosen q.chosen p.is q.is) p.gives) q.gives
 
-module _ (Reads : List ℕ → List Change → Type 0) (reads_one : (text : List ℕ) (x y : List Change) → Reads text x → Reads text y → x ≡ y) (image : Image) (keys : List RingEntry) where
-  by_one : (header : Header) (log : LogView (List Change)) (c d : List SpaceContents) → are_in_order 0 header.spaces ≡ true → RecoversBy Reads image keys header log c → RecoversBy Reads image keys header log d → c ≡ d
+module _ (image : Image) (keys : List RingEntry) where
+  by_one : (header : Header) (log : LogView (List Change)) (c d : List SpaceContents) → are_in_order 0 header.spaces ≡ true → RecoversBy image keys header log c → RecoversBy image keys header log d → c ≡ d
   by_one header log c d order rc rd =
       let v = view log image in
       let heads : (s : ℕ) → has_page header.spaces s 0 ≡ true → pages_of c s 0 ≡ pages_of d s 0 = λ s is. head_one header keys v (salts_of c) (salts_of d) (pages_of c) (pages_of d) s (rc.pages.pages s 0 is) (rd.pages.pages s 0 is) in
       let salts : salts_of c ≡ salts_of d = λ i s. salts_one 0 header.spaces c d order rc.spaces rd.spaces heads s i in
-      let as_c : pages.Recovers (store_theory header keys (salts_of c)) v (pages_of d) = subst (λ (f : ℕ → List ℕ). pages.Recovers (store_theory header keys f) v (pages_of d)) (sym salts) rd.pages in
+      let as_c : pages.ViewRecovers (store_theory header keys (salts_of c)) v (pages_of d) = subst (λ (f : ℕ → List ℕ). pages.ViewRecovers (store_theory header keys f) v (pages_of d)) (sym salts) rd.pages in
       contents_one 0 header.spaces c d order rc.spaces rd.spaces (λ s p is. page_one (store_theory header keys (salts_of c)) v (pages_of c) (pages_of d) s p (rc.pages.pages s p is) (as_c.pages s p is))
 
   one_header : (h g : Header) → Some h ≡ Some g → h ≡ g
   one_header h g e = cc
 
   -- An image recovers to one contents with one last block.
-  pub recovers_one : (c d : List SpaceContents) (last end : ℕ) → Recovers Reads image keys c last → Recovers Reads image keys d end → (c ≡ d) × (last ≡ end)
+  pub recovers_one : (c d : List SpaceContents) (last end : ℕ) → Recovers image keys c last → Recovers image keys d end → (c ≡ d) × (last ≡ end)
   recovers_one c d last end rc rd =
       let header : rd.header ≡ rc.header = one_header rd.header rc.header (sym rd.is_header ∙ rc.is_header) in
-      let same_header : RecoversBy Reads image keys rc.header rd.log d = subst (λ (h : Header). RecoversBy Reads image keys h rd.log d) header rd.by in
-      let log : rd.log ≡ rc.log = log_one Reads reads_one rc.header keys (image.bytes Log) rd.log rc.log same_header.run rc.by.run in
-      let same_log : RecoversBy Reads image keys rc.header rc.log d = subst (λ (l : LogView (List Change)). RecoversBy Reads image keys rc.header l d) log same_header in
+      let same_header : RecoversBy image keys rc.header rd.log d = subst (λ (h : Header). RecoversBy image keys h rd.log d) header rd.by in
+      let log : rd.log ≡ rc.log = log_one rc.header keys (image.bytes Log) rd.log rc.log same_header.run rc.by.run in
+      let same_log : RecoversBy image keys rc.header rc.log d = subst (λ (l : LogView (List Change)). RecoversBy image keys rc.header l d) log same_header in
       let ends : rd.log.end ≡ rc.log.end = λ i. (log i).end in
       (by_one rc.header rc.log c d (header_order (place 4096 0 (image.bytes Log)) rc.header rc.is_header) rc.by same_log, omega (arith, rc.is_last, rd.is_last, ends))

@@ -29,13 +29,13 @@ module _ (T : pages.Theory) (v : View T.M) (c d : pages.PageContents T) (same : 
   gives_same s p (Some t) there (x, m, l, e) = (x, m, l, sym (same s p there) ∙ e)
   gives_same s p None there (z, e) = (z, sym (same s p there) ∙ e)
 
-  pub recovers_same : pages.Recovers T v c → pages.Recovers T v d
+  pub recovers_same : pages.ViewRecovers T v c → pages.ViewRecovers T v d
   recovers_same r = record {
     pages = λ s p there. let q = r.pages s p there in record { chosen = q.chosen; is = q.is; gives = gives_same s p q.chosen there q.gives };
     slots = λ s p i t there live. let q = r.slots s p i t there live in record { holds = q.holds; means = q.means; named = q.named; same = sym (same s p there) ∙ q.same };
   }
 
-  pub rotated_same : pages.IsRotated T v c → pages.IsRotated T v d
+  pub rotated_same : pages.ViewRotated T v c → pages.ViewRotated T v d
   rotated_same r = record {
     floors = λ s there. subst (λ (x : T.X). minimum_of v.told s ≤ T.floor x) (same s 0 there) (r.floors s there);
     plain = λ s there clear. r.plain s there (ap T.is_ciphered (same s 0 there) ∙ clear);
@@ -62,12 +62,12 @@ module _ (header : Header) (keys : List RingEntry) (salts : ℕ → List ℕ) wh
       ∙ ap (λ (x : Page). pages.fold_page T es s p x) (sym (pages_after e.mtr header.spaces base have s p there))
       ∙ folded es (fold (e.mtr ∷ []) base) (spaces_after e.mtr header.spaces base have) (pages_of (fold (e.mtr ∷ []) base)) (λ r q is. refl) s p there
 
-module _ (Reads : List ℕ → List Change → Type 0) (image : Image) (keys : List RingEntry) (header : Header) (log : LogView (List Change)) where
+module _ (image : Image) (keys : List RingEntry) (header : Header) (log : LogView (List Change)) where
   -- what the files say beside the pages
   pub record Reading (spaces_of : List SpaceContents) : Type 0 where
     pub is_header : HasHeader image header
     pub long : AreLong image header
-    pub run : IsLogOf Reads header keys (image.bytes Log) log
+    pub run : IsLogOf header keys (image.bytes Log) log
     pub of_store : RunIsOfStore header.spaces log.run
     pub placed : (s p : ℕ) → has_page header.spaces s p ≡ true → IsPlaced p (place 16384 p (image.bytes (Space s)))
     pub spaces : HaveSpaces header.spaces spaces_of
@@ -75,8 +75,8 @@ module _ (Reads : List ℕ → List Change → Type 0) (image : Image) (keys : L
 
   -- An image whose view stands for a beginning of a journal, as the theory says it, stands for it.
   pub stands_by : (base : List SpaceContents) (journal : List (Logged (List Change))) (named : List (ℕ × ℕ)) (active last : ℕ) → last + 1 ≡ log.end → Reading base
-      → pages.Stands (store_theory header keys (salts_of base)) (pages_of base) journal (view log image)
-      → ((id version : ℕ) → Named image header log active id version → Contains named (id, version)) → Stands Reads base journal image keys named active
+      → pages.ViewStands (store_theory header keys (salts_of base)) (pages_of base) journal (view log image)
+      → ((id version : ℕ) → Named image header log active id version → Contains named (id, version)) → Stands base journal image keys named active
   stands_by base journal named active last ends reading stands keyed =
       let T = store_theory header keys (salts_of base) in
       let k : ℕ = entries_to ((last + 1) * 4096) journal in
@@ -86,8 +86,8 @@ module _ (Reads : List ℕ → List Change → Type 0) (image : Image) (keys : L
       let same : (s p : ℕ) → has_page header.spaces s p ≡ true → pages.fold_pages T (take (pages.count_to T (log.end * 4096) journal) journal) (pages_of base) s p ≡ pages_of contents s p =
       λ s p there. ap (λ (n : ℕ). pages.fold_pages T (take n journal) (pages_of base) s p) count ∙ folded header keys (salts_of base) front base reading.spaces (pages_of base) (λ r q is. refl) s p there in
       let salts : salts_of base ≡ salts_of contents = λ i s. sym (salts_folded (mtrs_of front) base s) i in
-      let recovers : pages.Recovers T (view log image) (pages_of contents) = recovers_same T (view log image) _ (pages_of contents) same stands.recovers in
-      let rotated : pages.IsRotated T (view log image) (pages_of contents) = rotated_same T (view log image) _ (pages_of contents) same stands.rotated in
+      let recovers : pages.ViewRecovers T (view log image) (pages_of contents) = recovers_same T (view log image) _ (pages_of contents) same stands.recovers in
+      let rotated : pages.ViewRotated T (view log image) (pages_of contents) = rotated_same T (view log image) _ (pages_of contents) same stands.rotated in
       record {
         last = last;
         recovers = record {
@@ -101,11 +101,11 @@ module _ (Reads : List ℕ → List Change → Type 0) (image : Image) (keys : L
             of_store = reading.of_store;
             placed = reading.placed;
             spaces = spaces_folded (mtrs_of front) header.spaces base reading.spaces;
-            pages = subst (λ (f : ℕ → List ℕ). pages.Recovers (store_theory header keys f) (view log image) (pages_of contents)) salts recovers;
+            pages = subst (λ (f : ℕ → List ℕ). pages.ViewRecovers (store_theory header keys f) (view log image) (pages_of contents)) salts recovers;
             clear = reading.clear;
           };
         };
         acknowledged = subst (λ (n : ℕ). acked image.told ≤ n) count stands.acknowledged;
-        rotated = subst (λ (f : ℕ → List ℕ). pages.IsRotated (store_theory header keys f) (view log image) (pages_of contents)) salts rotated;
+        rotated = subst (λ (f : ℕ → List ℕ). pages.ViewRotated (store_theory header keys f) (view log image) (pages_of contents)) salts rotated;
         keyed = keyed;
       }

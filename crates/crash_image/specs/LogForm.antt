@@ -3,34 +3,31 @@ use Rattle.std.specs.Prelude.{◌≡◌, ℕ, List, [], ◌∷◌, ◌++◌, Opt
 use Rattle.key_ring.specs.Ring.{RingEntry}
 use Rattle.key_ring.specs.Local.{local_key}
 use Rattle.page_places.specs.Texts.{ends_in_sum}
-use Rattle.ring_log.specs.Ring.{Check, Form}
+use Rattle.ring_log.specs.Ring.{Form}
 use Rattle.redo_text.specs.declared.change.Change.{Change}
-use Rattle.store_files.specs.Checkpoint.{Checkpoint, checkpoint_in}
+use Rattle.redo_text.specs.Reading.{version_of}
+use Rattle.store_files.specs.Checkpoint.{checkpoint_in}
 use Rattle.store_files.specs.Header.{Header}
-use Rattle.store_files.specs.RingBlock.{is_ring_block, is_first, is_last, block_version, block_text}
+use Rattle.store_files.specs.RingBlock.{is_ring_block, begins_mtr, ends_mtr, block_text, IsMtrText}
 
-abbrev pub check_of : Option Checkpoint → Option Check
-check_of None = None
-check_of (Some c) = Some (record { sequence = c.sequence; from = c.from })
-
-module _ (Reads : List ℕ → List Change → Type 0) (header : Header) (keys : List RingEntry) where
+module _ (header : Header) (keys : List RingEntry) where
   -- the text in these blocks, each under the local key of id 1 at its version
   abbrev pub AreTexts : List (List ℕ) → List ℕ → Type 0
   AreTexts [] text = text ≡ []
   AreTexts (b ∷ bs) text =
-      (local : List ℕ) × (rest : List ℕ) × (local_key keys 1 (block_version b) header.salt ≡ Some local) × AreTexts bs rest × (text ≡ block_text header.algorithm local b ++ rest)
+      (local : List ℕ) × (rest : List ℕ) × (local_key keys 1 (version_of b) header.salt ≡ Some local) × AreTexts bs rest × (text ≡ block_text header.algorithm local b ++ rest)
 
   -- these blocks are those of a mini-transaction: their text says it
-  abbrev pub AreOf : ℕ → List (List ℕ) → List Change → Type 0
-  AreOf n bs m = (text : List ℕ) × AreTexts bs text × Reads text m
+  abbrev pub AreBlocksOf : ℕ → List (List ℕ) → List Change → Type 0
+  AreBlocksOf n bs m = (text : List ℕ) × AreTexts bs text × IsMtrText text m
 
   -- the form of the log's places
   abbrev pub log_form : Form (List Change)
   log_form = record {
     is_block = is_ring_block;
-    starts = is_first;
-    ends = is_last;
-    IsMtr = AreOf;
-    checkpoint = λ i b. check_of (checkpoint_in i b);
+    starts = begins_mtr;
+    ends = ends_mtr;
+    IsMtr = AreBlocksOf;
+    checkpoint = checkpoint_in;
     passes = ends_in_sum;
   }

@@ -49,18 +49,17 @@ abbrev pub RunIsOfStore : List HeaderSpace → List (Logged (List Change)) → T
 RunIsOfStore spaces [] = Unit {0}
 RunIsOfStore spaces (e ∷ es) = AreOfStore spaces e.mtr × RunIsOfStore spaces es
 
--- Reads says which changes a text of the log says.
-module _ (Reads : List ℕ → List Change → Type 0) (image : Image) (keys : List RingEntry) where
+module _ (image : Image) (keys : List RingEntry) where
   -- Under this header and with this run the image recovers to these contents.
   pub record RecoversBy (header : Header) (log : LogView (List Change)) (c : List SpaceContents) : Type 0 where
     pub long : AreLong image header
-    pub run : IsLogOf Reads header keys (image.bytes Log) log
+    pub run : IsLogOf header keys (image.bytes Log) log
     pub of_store : RunIsOfStore header.spaces log.run
     -- no home has the text of another page
     pub placed : (s p : ℕ) → has_page header.spaces s p ≡ true → IsPlaced p (place 16384 p (image.bytes (Space s)))
     pub spaces : HaveSpaces header.spaces c
     -- each page is its chosen text's with the run's later changes, and so is what any live slot gives
-    pub pages : pages.Recovers (store_theory header keys (salts_of c)) (view log image) (pages_of c)
+    pub pages : pages.ViewRecovers (store_theory header keys (salts_of c)) (view log image) (pages_of c)
     -- no ring block has a number that the blocks behind the run could meet
     pub clear : IsClear header.blocks (image.bytes Log) (log.end + header.blocks)
 

@@ -8,14 +8,14 @@ use Rattle.key_ring.specs.Ring.{RingEntry}
 use Rattle.page_places.specs.Texts.{ends_in_sum, slot_sums_up}
 use Rattle.page_places.specs.Views.{view}
 use Rattle.store_image.specs.Places.{LogView}
-use Rattle.store_image.specs.Recovers.{IsRotated}
+use Rattle.store_image.specs.Recovers.{ViewRotated}
 use Rattle.store_image.specs.View.{Text, Logged, IsChosen, IsLive}
 use Rattle.store_model.specs.Fold.{fold}
 use Rattle.redo_text.specs.declared.change.Change.{Change}
 use Rattle.store_model.specs.declared.contents.SpaceContents.{SpaceContents}
 use Rattle.store_files.specs.Header.{Header, HeaderSpace}
 use Rattle.store_files.specs.Pages.{has_page, key_id_of, pages_of, salts_of}
-use Rattle.store_files.specs.RingBlock.{block_version}
+use Rattle.redo_text.specs.Reading.{version_of}
 use Rattle.store_files.specs.Run.{block_at}
 use Rattle.crash_image.specs.StoreTheory.{store_theory}
 use Rattle.crash_image.specs.Recovers.{Recovers}
@@ -34,7 +34,7 @@ Lucky image = IsLucky place_test image
 pub data Named (image : Image) (header : Header) (log : LogView (List Change)) (active id version : ℕ) : Type 0 where
   OfChosen : (s p : ℕ) (t : Text) → has_page header.spaces s p ≡ true → IsChosen (view log image) s p (Some t) → t.version ≢ 0 → id ≡ key_id_of header.spaces s → version ≡ t.version → Named image header log active id version
   OfSlot : (s p i : ℕ) (t : Text) → has_page header.spaces s p ≡ true → IsLive (view log image) s p i t → t.version ≢ 0 → id ≡ key_id_of header.spaces s → version ≡ t.version → Named image header log active id version
-  OfBlock : (n : ℕ) → log.from ≤ n → n < log.end → id ≡ 1 → version ≡ block_version (block_at header.blocks (image.bytes Log) n) → Named image header log active id version
+  OfBlock : (n : ℕ) → log.from ≤ n → n < log.end → id ≡ 1 → version ≡ version_of (block_at header.blocks (image.bytes Log) n) → Named image header log active id version
   OfLog : id ≡ 1 → version ≡ active → Named image header log active id version
   OfSpace : (s : ℕ) → has_page header.spaces s 0 ≡ true → id ≡ key_id_of header.spaces s → version ≡ active → Named image header log active id version
 
@@ -44,7 +44,7 @@ mtrs_of journal = map (λ e. e.mtr) journal
 
 -- no page of a space that was told to be at a version needs an older key, also once a live slot was taken for its home
 abbrev pub Rotated : Image → List RingEntry → Header → LogView (List Change) → List SpaceContents → Type 0
-Rotated image keys header log c = IsRotated (store_theory header keys (salts_of c)) (view log image) (pages_of c)
+Rotated image keys header log c = ViewRotated (store_theory header keys (salts_of c)) (view log image) (pages_of c)
 
 -- how many entries of the journal have an LSN of at most this
 abbrev pub entries_to : ℕ → List (Logged (List Change)) → ℕ
@@ -52,9 +52,9 @@ entries_to lsn [] = 0
 entries_to lsn (e ∷ es) = if nat_le e.lsn lsn then 1 + entries_to lsn es else 0
 
 -- The image stands for the first entries of the journal over the base contents, as many as its run reaches: it recovers to their fold, they hold all that was acknowledged, no key that was given up is needed, and each key that is needed is among the named.
-pub record Stands (Reads : List ℕ → List Change → Type 0) (base : List SpaceContents) (journal : List (Logged (List Change))) (image : Image) (keys : List RingEntry) (named : List (ℕ × ℕ)) (active : ℕ) : Type 0 where
+pub record Stands (base : List SpaceContents) (journal : List (Logged (List Change))) (image : Image) (keys : List RingEntry) (named : List (ℕ × ℕ)) (active : ℕ) : Type 0 where
   pub last : ℕ
-  pub recovers : Recovers Reads image keys (fold (mtrs_of (take (entries_to ((last + 1) * 4096) journal) journal)) base) last
+  pub recovers : Recovers image keys (fold (mtrs_of (take (entries_to ((last + 1) * 4096) journal) journal)) base) last
   pub acknowledged : acked image.told ≤ entries_to ((last + 1) * 4096) journal
   pub rotated : Rotated image keys recovers.header recovers.log (fold (mtrs_of (take (entries_to ((last + 1) * 4096) journal) journal)) base)
   pub keyed : (id version : ℕ) → Named image recovers.header recovers.log active id version → Contains named (id, version)

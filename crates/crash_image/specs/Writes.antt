@@ -6,7 +6,6 @@ use Rattle.disk_model.specs.declared.names.FileName.TheVariants.{Log, Double, Sp
 use Rattle.key_ring.specs.Ring.{RingEntry}
 use Rattle.page_places.specs.Texts.{is_page_text, text_in, slot_held}
 use Rattle.page_places.specs.Views.{view}
-use Rattle.byte_list.specs.Fields.{be64_at}
 use Rattle.store_image.specs.Places.{LogView}
 use Rattle.store_image.specs.Record as items
 use Rattle.store_image.specs.Record.{Item, PageText, RingBlock}
@@ -15,7 +14,8 @@ use Rattle.redo_text.specs.declared.change.Change.{Change}
 use Rattle.store_model.specs.declared.contents.SpaceContents.{SpaceContents}
 use Rattle.store_files.specs.Header.{Header}
 use Rattle.store_files.specs.Pages.{pages_of, salts_of}
-use Rattle.store_files.specs.RingBlock.{is_ring_block, block_version}
+use Rattle.store_files.specs.RingBlock.{is_ring_block}
+use Rattle.redo_text.specs.Reading.{number_of, version_of}
 use Rattle.crash_image.specs.StoreTheory.{store_theory}
 
 abbrev pub slot_item : Option Slot → List Item
@@ -26,17 +26,17 @@ slot_item (Some x) = PageText x.space x.page x.text ∷ []
 abbrev pub written_item : FileName → ℕ → List ℕ → List Item
 written_item (Space s) at bytes = if is_page_text (at / 16384) bytes then PageText s (at / 16384) (text_in bytes) ∷ [] else []
 written_item Double at bytes = slot_item (slot_held bytes)
-written_item Log at bytes = if nat_le 12288 at && is_ring_block (be64_at bytes 0) bytes then RingBlock (be64_at bytes 0) (block_version bytes) bytes ∷ [] else []
+written_item Log at bytes = if nat_le 12288 at && is_ring_block (number_of bytes) bytes then RingBlock (number_of bytes) (version_of bytes) bytes ∷ [] else []
 
 -- the page texts and ring blocks among the writes
-abbrev pub items_of : List (FileName × ℕ × List ℕ) → List Item
-items_of [] = []
-items_of (w ∷ ws) = written_item w.0 w.1 w.2 ++ items_of ws
+abbrev pub written_items : List (FileName × ℕ × List ℕ) → List Item
+written_items [] = []
+written_items (w ∷ ws) = written_item w.0 w.1 w.2 ++ written_items ws
 
 -- Of one page at one LSN only texts of one plain page were written, of one version only one text; and of one number only one ring block.
 abbrev pub Once : Header → List RingEntry → (ℕ → List ℕ) → List (FileName × ℕ × List ℕ) → Type 0
-Once header keys salts writes = items.Once (store_theory header keys salts) (items_of writes)
+Once header keys salts writes = items.ItemsOnce (store_theory header keys salts) (written_items writes)
 
 -- What was written is behind the image's run by less than a ring, agrees with the contents at each page's last LSN, and has each text that the image holds.
 abbrev pub Settled : List (FileName × ℕ × List ℕ) → Image → Header → List RingEntry → LogView (List Change) → List SpaceContents → Type 0
-Settled writes image header keys log c = items.Settled (store_theory header keys (salts_of c)) header.blocks (items_of writes) (view log image) (pages_of c)
+Settled writes image header keys log c = items.ItemsSettled (store_theory header keys (salts_of c)) header.blocks (written_items writes) (view log image) (pages_of c)

@@ -1,11 +1,11 @@
 //! What a crash image of a store recovers to, over its bytes and keys.
 //!
 //! The definitions that the log, the doublewrite file, creation, the engine and the opening all
-//! speak in. `Reads` says which changes a text of the log says.
+//! speak in.
 //!
 //! 1. `Recovers`: the contents that an image recovers to, and the last block of its run. Everything
-//!    that an opening refuses is a condition here. It is one thing (`recovers_one`), where a text of
-//!    the log says one thing.
+//!    that an opening refuses is a condition here. It is one thing
+//!    (`recovers_one`).
 //! 2. `Named`: the keys that reading an image needs. `Lucky`: no torn place passes the one test of
 //!    its file. `Rotated`: no page needs a key that was given up.
 //! 3. `Stands`: an image recovers to a beginning of a journal that holds all that was acknowledged,

@@ -10,7 +10,7 @@ use Rattle.byte_list.proofs.FieldLaws.{be64_at-written}
 use Rattle.byte_list.proofs.RangeLaws.{length-zeros}
 use Rattle.disk_model.specs.Crash.{torn_bytes}
 use Rattle.redo_text.specs.Block.{sealed}
-use Rattle.ring_log.specs.Ring.{Check, side}
+use Rattle.store_image.specs.Checkpoint.{Checkpoint, side_of}
 use Rattle.ring_log.proofs.RingSteps.{some_same, none_some}
 use Rattle.redo_log.specs.Sums.{sum_fits}
 use Rattle.redo_log.specs.Check.{check_words, check_front, check_bytes, is_check, checkpoint_read}
@@ -61,13 +61,13 @@ pub checkpoint_none : (i : ℕ) (b : List ℕ) → is_check i b ≡ false → ch
 unfolding checkpoint_read
 checkpoint_none i b is = by_false (is_check i b) _ _ is
 
-pub checkpoint_is : (i : ℕ) (b : List ℕ) (c : Check) → checkpoint_read i b ≡ Some c → (is_check i b ≡ true) × (c.sequence ≡ be64_at b 8) × (c.from ≡ be64_at b 16)
+pub checkpoint_is : (i : ℕ) (b : List ℕ) (c : Checkpoint) → checkpoint_read i b ≡ Some c → (is_check i b ≡ true) × (c.sequence ≡ be64_at b 8) × (c.from ≡ be64_at b 16)
 checkpoint_is i b c is = by (is_check i b) refl
   where
     by : (t : Bool) → is_check i b ≡ t → (is_check i b ≡ true) × (c.sequence ≡ be64_at b 8) × (c.from ≡ be64_at b 16)
     by true e =
         let same : c ≡ record { sequence = be64_at b 8; from = be64_at b 16 } = some_same _ _ (sym is ∙ checkpoint_some i b e) in
-        (e, ap (λ (d : Check). d.sequence) same, ap (λ (d : Check). d.from) same)
+        (e, ap (λ (d : Checkpoint). d.sequence) same, ap (λ (d : Checkpoint). d.from) same)
     by false e = absurd (none_some c (sym (checkpoint_none i b e) ∙ is))
 
 module _ (sequence from : ℕ) (some : 1 ≤ sequence) (order : sequence < from) (most : from ≤ 2 ^ 50) where
@@ -101,12 +101,12 @@ module _ (sequence from : ℕ) (some : 1 ≤ sequence) (order : sequence < from)
   check_fits : sum_fits check ≡ true
   check_fits = ap sum_fits is_sealed ∙ sealed_fits front check_long
 
-  pub made_check : checkpoint_read (side sequence) check ≡ Some (record { sequence = sequence; from = from })
+  pub made_check : checkpoint_read (side_of sequence) check ≡ Some (record { sequence = sequence; from = from })
   made_check =
-      checkpoint_some (side sequence) check (is_check_of (side sequence) check (record {
+      checkpoint_some (side_of sequence) check (is_check_of (side_of sequence) check (record {
         sums = check_fits;
         magic = ap (λ (l : List ℕ). take 8 l) check_parts;
-        at = ap (λ (s : ℕ). side s) (sym sequence-is);
+        at = ap (λ (s : ℕ). side_of s) (sym sequence-is);
         some = omega (arith, sequence-is, some);
         order = omega (arith, sequence-is, from-is, order);
         most = omega (arith, from-is, most);

@@ -10,7 +10,8 @@ use Rattle.std.specs.Prelude.{Result}
 use Rattle.places.specs.Places.{HasPlaces, May}
 use Rattle.places.specs.Batches.{From, IsNext}
 use Rattle.places.proofs.Batches.{wrote_none, writing_more, next_each, next_wrote, last_sync, fact_of_settled, at_start, lift_from}
-use Rattle.ring_log.specs.Ring.{Form, RingState, side, IsBehind, IsSynced, IsOther, RingAt, Ringed, RingReady}
+use Rattle.ring_log.specs.Ring.{Form, RingState, IsBehind, IsSynced, IsOther, RingAt, Ringed, RingReady}
+use Rattle.store_image.specs.Checkpoint.{side_of}
 use Rattle.ring_log.specs.Batches.{check_batch, checking, checkpointed}
 use Rattle.ring_log.proofs.RingSteps.{some_same, none_some}
 use Rattle.ring_log.proofs.Events.{ready_checking, ready_checked}
@@ -92,11 +93,11 @@ module _ (keys : Keys) (log : LogState) (r : RingState) (is : IsOpen log) (fits 
     place_same : (j : ℕ) → j < 1 → (side_batch (log.sequence + 1) f).place j ≡ (check_batch r (check_bytes (log.sequence + 1) f)).place j
     place_same j lt = ap (λ (s : ℕ). 1 + (s + 1) % 2) (sym fits.sequence)
 
-    check_is : checkpoint_read (side (r.sequence + 1)) (check_bytes (log.sequence + 1) f) ≡ Some (record { sequence = r.sequence + 1; from = f })
+    check_is : checkpoint_read (side_of (r.sequence + 1)) (check_bytes (log.sequence + 1) f) ≡ Some (record { sequence = r.sequence + 1; from = f })
     check_is =
         let below = is.below in
         let next = is.high in
-        ap (λ (s : ℕ). checkpoint_read (side (r.sequence + 1)) (check_bytes (s + 1) f)) (sym fits.sequence)
+        ap (λ (s : ℕ). checkpoint_read (side_of (r.sequence + 1)) (check_bytes (s + 1) f)) (sym fits.sequence)
         ∙ made_check (r.sequence + 1) f (omega arith) (let sequence = fits.sequence in omega arith) (omega arith)
 
     pub to_checking : (s m : List Event) → RingReady N F r s → CheckWriting N (log.sequence + 1) f s m → Ringed N F (checking r f) m

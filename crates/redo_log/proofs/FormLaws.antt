@@ -2,7 +2,8 @@
 use Rattle.std.proofs.Common.{◌≡◌, ℕ, ◌+◌, Bool, true, false, true≢false, not, nat_eq, ◌==◌, if◌then◌else◌, List, [], ◌∷◌, ◌++◌, length, take, Option, Some, Result, Ok, Err, refl, sym, ap, ap₂, subst, ◌∙◌, arith}
 use Rattle.std.specs.Result.{is_ok}
 use Rattle.disk_model.specs.Crash.{torn_bytes}
-use Rattle.ring_log.specs.Ring.{Check, Form, IsForm, side}
+use Rattle.ring_log.specs.Ring.{Form, IsForm}
+use Rattle.store_image.specs.Checkpoint.{Checkpoint, side_of}
 use Rattle.ring_log.proofs.RingSteps.{some_same}
 use Rattle.redo_text.specs.declared.change.Change.{Change}
 use Rattle.redo_text.specs.declared.key.RedoKey.{RedoKey}
@@ -54,7 +55,7 @@ form_laws keys = record {
   block_one = λ n m b x y. let p = block_is n b x in let q = block_is m b y in sym p.number ∙ q.number;
   block_passes = λ n b x. let p = block_is n b x in p.sums;
   check_passes = λ i b c is. let p = check_is i b (checkpoint_is i b c is).0 in p.sums;
-  check_side = λ i b c is. let t = checkpoint_is i b c is in let p = check_is i b t.0 in p.at ∙ ap (λ (s : ℕ). side s) (sym t.1);
+  check_side = λ i b c is. let t = checkpoint_is i b c is in let p = check_is i b t.0 in p.at ∙ ap (λ (s : ℕ). side_of s) (sym t.1);
   mtr_one = λ n bs x y is it. one_list x y is.0 it.0 (one_text keys bs (text_of x) (text_of y) is.1 it.1);
 }
 

@@ -5,7 +5,7 @@ use Rattle.std.specs.Str.{bytes_eq}
 use Rattle.byte_list.specs.Bytes.{zeros}
 use Rattle.byte_list.specs.Fields.{be64_at}
 use Rattle.redo_text.specs.Block.{sealed}
-use Rattle.ring_log.specs.Ring.{Check}
+use Rattle.store_image.specs.Checkpoint.{Checkpoint}
 use Rattle.redo_log.specs.Sums.{sum_fits}
 
 -- the first bytes: the magic, the sequence and the run's first block
@@ -27,5 +27,5 @@ is_check i b =
     && (nat_eq i (1 + be64_at b 8 % 2) && (nat_le 1 (be64_at b 8) && (nat_le (be64_at b 8 + 1) (be64_at b 16) && nat_le (be64_at b 16) (2 ^ 50)))))
 
 -- what it says
-unfoldable pub checkpoint_read : ℕ → List ℕ → Option Check
+unfoldable pub checkpoint_read : ℕ → List ℕ → Option Checkpoint
 checkpoint_read i b = if is_check i b then Some (record { sequence = be64_at b 8; from = be64_at b 16 }) else None

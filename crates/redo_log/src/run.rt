@@ -7,7 +7,7 @@ ghost use Rattle.disk_model.specs.Image.{InFile};
 ghost use Rattle.disk_model.specs.Past.{At, HasDiskCause};
 ghost use Rattle.disk_model.specs.declared.names.FileName.TheVariants.{Log as LogFile};
 ghost use Rattle.ring_log.specs.Ring.{read_in};
-ghost use Rattle.ring_log.specs.Scans.{IsRun, Goes, Stops};
+ghost use Rattle.ring_log.specs.Scans.{IsRingRun, Goes, Stops};
 ghost use Rattle.redo_text.specs.Reading.{version_of};
 ghost use Rattle.redo_log.specs.Blocks.{Keys, redo_form, read_at};
 ghost use Rattle.redo_log.specs.Runs.{versions_up, AreVersions};
@@ -134,7 +134,7 @@ fn scan_into<D: Disk>(
     requires size { length buffer.old ≡ 4096 }
     requires none { versions.old.items ≡ [] }
     ensures low { IfOk result (λ end. (from ≤ end) × (end ≤ from + length versions.new.items)) }
-    ensures run { IfOk result (λ end. At (λ es. (keys : Keys) → IsRun blocks (redo_form keys) (read_at blocks (reads LogFile es)) from end) (D.past disk.old)) }
+    ensures run { IfOk result (λ end. At (λ es. (keys : Keys) → IsRingRun blocks (redo_form keys) (read_at blocks (reads LogFile es)) from end) (D.past disk.old)) }
     ensures versions { OnOk result (At (λ es. versions.new.items ≡ versions_up (read_at blocks (reads LogFile es)) from (length versions.new.items)) (D.past disk.old)) }
     ensures same { D.past disk.new ≡ D.past disk.old }
     ensures later { D.is_later disk.old disk.new }
@@ -167,7 +167,7 @@ pub fn scan<D: Disk>(alloc: Global, disk: &mut D, blocks: u64, from: u64) -> Res
     requires high { from ≤ 2 ^ 50 }
     requires inside { At (InFile LogFile 0 ((3 + blocks) * 4096)) (D.past disk.old) }
     ensures low { IfOk result (λ run. from ≤ run.last + 1) }
-    ensures run { IfOk result (λ run. At (λ es. (keys : Keys) → IsRun blocks (redo_form keys) (read_at blocks (reads LogFile es)) from (run.last + 1)) (D.past disk.old)) }
+    ensures run { IfOk result (λ run. At (λ es. (keys : Keys) → IsRingRun blocks (redo_form keys) (read_at blocks (reads LogFile es)) from (run.last + 1)) (D.past disk.old)) }
     ensures versions { IfOk result (λ run. At (λ es. AreVersions (read_at blocks (reads LogFile es)) from (run.last + 1) run.versions) (D.past disk.old)) }
     ensures ascending { IfOk result (λ run. IsStrictlyIncreasing run.versions) }
     ensures same { D.past disk.new ≡ D.past disk.old }

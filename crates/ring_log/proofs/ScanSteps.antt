@@ -5,7 +5,7 @@ use Rattle.std.proofs.lemmas.Bool.Decides.{nat_tests}
 use Rattle.store_image.specs.View.{Logged}
 use Rattle.store_image.specs.Places.{LogView}
 use Rattle.ring_log.specs.Ring.{Form, IsWholeMtr, AreWholeEntries, read_in, IsRingLog}
-use Rattle.ring_log.specs.Scans.{AreWholeMtrs, IsRun, IsScanned, Goes, Stops}
+use Rattle.ring_log.specs.Scans.{AreWholeMtrs, IsRingRun, IsScanned, Goes, Stops}
 use Rattle.ring_log.proofs.Entries.{same_end, number_up}
 
 eq_true : (a b : ℕ) → a ≡ b → nat_eq a b ≡ true
@@ -83,7 +83,7 @@ module _ {M : Type 0} (N : ℕ) (F : Form M) (read : ℕ → List ℕ) (from : �
   inner end n (suc m) r w le = let some = w.some in true≢false (sym (w.last m (omega arith)) ∙ r.before m (omega (arith, some)) (omega (arith, le)))
 
   -- the run ends at a block that doesn't go on
-  pub read_stops : (end n : ℕ) → n ≤ from + N → IsScanned N F read from end n → Stops N F n end (read n) → IsRun N F read from end
+  pub read_stops : (end n : ℕ) → n ≤ from + N → IsScanned N F read from end n → Stops N F n end (read n) → IsRingRun N F read from end
   read_stops end n le r stops = record {
     parts = r.parts;
     whole = r.whole;
@@ -96,7 +96,7 @@ module _ {M : Type 0} (N : ℕ) (F : Form M) (read : ℕ → List ℕ) (from : �
           (λ (ne : end ≢ n). let order = r.order in w.others n (omega (arith, ne)) lt ∙ sym (eq_false end n ne)) (cases_eq end n)
 
   -- or where all blocks were read
-  pub read_all : (end n : ℕ) → n ≡ from + N → IsScanned N F read from end n → IsRun N F read from end
+  pub read_all : (end n : ℕ) → n ≡ from + N → IsScanned N F read from end n → IsRingRun N F read from end
   read_all end n is r = record {
     parts = r.parts;
     whole = r.whole;
@@ -119,5 +119,5 @@ module _ {M : Type 0} (N : ℕ) (F : Form M) (read : ℕ → List ℕ) (from : �
       one_end_of z x y parts es more (subst (λ (i : ℕ). AreWholeEntries N F read i es y) same rest) lx ly nx ny
 
 -- The run that is read from the newest checkpoint on ends where what the file says ends.
-pub run_of_log : {M : Type 0} (N : ℕ) (F : Form M) (file : List ℕ) (l : LogView M) (end : ℕ) → IsRingLog N F file l → IsRun N F (read_in N F file) l.from end → end ≡ l.end
+pub run_of_log : {M : Type 0} (N : ℕ) (F : Form M) (file : List ℕ) (l : LogView M) (end : ℕ) → IsRingLog N F file l → IsRingRun N F (read_in N F file) l.from end → end ≡ l.end
 run_of_log N F file l end is run = one_end_of N F (read_in N F file) l.from l.from end l.end run.parts l.run run.whole is.run run.few is.few run.longest is.longest

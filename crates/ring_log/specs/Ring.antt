@@ -6,17 +6,9 @@ use Rattle.disk_model.specs.declared.names.FileName.{FileName}
 use Rattle.disk_model.specs.declared.names.FileName.TheVariants.{Log}
 use Rattle.places.specs.Places.{place, May, Layout, HasPlaces}
 use Rattle.places.specs.Batches.{IsFileSettled}
+use Rattle.store_image.specs.Checkpoint.{Checkpoint, side_of}
 use Rattle.store_image.specs.View.{block_bytes, Logged}
 use Rattle.store_image.specs.Places.{LogView}
-
--- what a checkpoint says
-pub record Check : Type 0 where
-  pub sequence : ℕ
-  pub from : ℕ
-
--- where checkpoints of a sequence stand
-abbrev pub side : ℕ → ℕ
-side s = 1 + s % 2
 
 -- What is told of the blocks' form, M being what is read of a mini-transaction. The real one has the redo keys in it, and reads deciphered texts.
 pub record Form (M : Type 0) : Type 1 where
@@ -27,7 +19,7 @@ pub record Form (M : Type 0) : Type 1 where
   -- these blocks, the first of this number, are those of the mini-transaction
   pub IsMtr : ℕ → List (List ℕ) → M → Type 0
   -- the valid checkpoint in this file block
-  pub checkpoint : ℕ → List ℕ → Option Check
+  pub checkpoint : ℕ → List ℕ → Option Checkpoint
   -- the checksum of a file block is right
   pub passes : List ℕ → Bool
 
@@ -35,8 +27,8 @@ pub record Form (M : Type 0) : Type 1 where
 pub record IsForm {M : Type 0} (F : Form M) : Type 0 where
   pub block_one : (n m : ℕ) (b : List ℕ) → F.is_block n b ≡ true → F.is_block m b ≡ true → n ≡ m
   pub block_passes : (n : ℕ) (b : List ℕ) → F.is_block n b ≡ true → F.passes b ≡ true
-  pub check_passes : (i : ℕ) (b : List ℕ) (c : Check) → F.checkpoint i b ≡ Some c → F.passes b ≡ true
-  pub check_side : (i : ℕ) (b : List ℕ) (c : Check) → F.checkpoint i b ≡ Some c → i ≡ side c.sequence
+  pub check_passes : (i : ℕ) (b : List ℕ) (c : Checkpoint) → F.checkpoint i b ≡ Some c → F.passes b ≡ true
+  pub check_side : (i : ℕ) (b : List ℕ) (c : Checkpoint) → F.checkpoint i b ≡ Some c → i ≡ side_of c.sequence
   pub mtr_one : (n : ℕ) (bs : List (List ℕ)) (x y : M) → F.IsMtr n bs x → F.IsMtr n bs y → x ≡ y
 
 -- What a session knows of its log. Sequence and from are those of the last synced checkpoint, newer is the `from` of the next one where that is being written.
@@ -78,13 +70,13 @@ module _ {M : Type 0} (N : ℕ) (F : Form M) where
   -- the last synced checkpoint
   abbrev pub IsSynced : RingState → Option (List ℕ) → Type 0
   IsSynced r None = ⊥
-  IsSynced r (Some b) = checkpoint (side r.sequence) b ≡ Some (record { sequence = r.sequence; from = r.from })
+  IsSynced r (Some b) = checkpoint (side_of r.sequence) b ≡ Some (record { sequence = r.sequence; from = r.from })
 
   -- the other checkpoint: an older one or none, or the next, or torn
   abbrev pub IsOther : RingState → Option (List ℕ) → Type 0
   IsOther r None = Unit {0}
-  IsOther r (Some b) = ((c : Check) → checkpoint (side (r.sequence + 1)) b ≡ Some c → c.sequence < r.sequence)
-      ⊎ ((f : ℕ) × (r.newer ≡ Some f) × (checkpoint (side (r.sequence + 1)) b ≡ Some (record { sequence = r.sequence + 1; from = f })))
+  IsOther r (Some b) = ((c : Checkpoint) → checkpoint (side_of (r.sequence + 1)) b ≡ Some c → c.sequence < r.sequence)
+      ⊎ ((f : ℕ) × (r.newer ≡ Some f) × (checkpoint (side_of (r.sequence + 1)) b ≡ Some (record { sequence = r.sequence + 1; from = f })))
 
   -- the numbers of a ring, and that its blocks are valid
   pub record IsRingState (r : RingState) : Type 0 where
@@ -99,8 +91,8 @@ module _ {M : Type 0} (N : ℕ) (F : Form M) where
   pub record RingAt (r : RingState) (may : ℕ → Option (List ℕ) → Type 0) : Type 0 where
     pub is : IsRingState r
     pub header : (x : Option (List ℕ)) → may 0 x → x ≡ Some r.header
-    pub check : (x : Option (List ℕ)) → may (side r.sequence) x → IsSynced r x
-    pub other : (x : Option (List ℕ)) → may (side (r.sequence + 1)) x → IsOther r x
+    pub check : (x : Option (List ℕ)) → may (side_of r.sequence) x → IsSynced r x
+    pub other : (x : Option (List ℕ)) → may (side_of (r.sequence + 1)) x → IsOther r x
     pub front : (n : ℕ) (x : Option (List ℕ)) → r.from ≤ n → n < r.settled → may (place_in_ring n) x → x ≡ Some (r.block n)
     pub rest : (n : ℕ) (x : Option (List ℕ)) → r.settled ≤ n → n < r.from + N → may (place_in_ring n) x → IsBehind r n x
 
@@ -146,8 +138,8 @@ module _ {M : Type 0} (N : ℕ) (F : Form M) where
   -- What a log's file says: the newest checkpoint, and from it the longest run of whole mini-transactions.
   pub record IsRingLog (file : List ℕ) (l : LogView M) : Type 0 where
     pub sequence : ℕ
-    pub check : checkpoint (side sequence) (place block_bytes (side sequence) file) ≡ Some (record { sequence = sequence; from = l.from })
-    pub newest : (i : ℕ) (c : Check) → checkpoint i (place block_bytes i file) ≡ Some c → c.sequence ≤ sequence
+    pub check : checkpoint (side_of sequence) (place block_bytes (side_of sequence) file) ≡ Some (record { sequence = sequence; from = l.from })
+    pub newest : (i : ℕ) (c : Checkpoint) → checkpoint i (place block_bytes i file) ≡ Some c → c.sequence ≤ sequence
     pub run : AreWholeEntries (read_in file) l.from l.run l.end
     pub few : l.end ≤ l.from + N
     pub longest : (end : ℕ) → IsWholeMtr (read_in file) l.end end → end ≤ l.from + N → ⊥
@@ -182,8 +174,8 @@ module _ {M : Type 0} (N : ℕ) (F : Form M) where
     pub right : AreWholeEntries r.block l.end behind next
 
   -- no ring block has a number that the blocks behind the run could meet
-  abbrev pub IsClear : List ℕ → ℕ → Type 0
-  IsClear file end = (i m : ℕ) → i < N → end + N ≤ m → is_block m (place block_bytes (3 + i) file) ≡ true → ⊥
+  abbrev pub IsRingClear : List ℕ → ℕ → Type 0
+  IsRingClear file end = (i m : ℕ) → i < N → end + N ≤ m → is_block m (place block_bytes (3 + i) file) ≡ true → ⊥
 
   -- What an image of the log stands for.
   pub record RingStands (r : RingState) (start : ℕ) (journal : List (Logged M)) (next : ℕ) (file : List ℕ) : Type 0 where
@@ -194,7 +186,7 @@ module _ {M : Type 0} (N : ℕ) (F : Form M) where
     pub is : IsRingLog file log
     pub one : (l : LogView M) → IsRingLog file l → l ≡ log
     pub run : IsRunOf r start journal next log
-    pub clear : IsClear file log.end
+    pub clear : IsRingClear file log.end
 
   -- Each image in which no torn place of the log passes its checksum stands for a part of the journal.
   abbrev pub AllRingStand : RingState → ℕ → List (Logged M) → ℕ → List Event → Type 0

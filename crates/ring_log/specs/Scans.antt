@@ -11,7 +11,7 @@ module _ {M : Type 0} (N : ℕ) (F : Form M) where
   AreWholeMtrs read n (z ∷ zs) end = IsWholeMtr N F read n z × AreWholeMtrs read z zs end
 
   -- The longest run of whole mini-transactions from a number on ends here: N blocks are read at most, and no further mini-transaction is whole.
-  pub record IsRun (read : ℕ → List ℕ) (from end : ℕ) : Type 0 where
+  pub record IsRingRun (read : ℕ → List ℕ) (from end : ℕ) : Type 0 where
     pub parts : List ℕ
     pub whole : AreWholeMtrs read from parts end
     pub few : end ≤ from + N

@@ -10,11 +10,11 @@
 //!    refusal, and `Ready` between calls that were answered Ok. There is a lemma for each call that
 //!    writes blocks or a checkpoint (`ready_writing`, `ready_settled`, `ready_checking`,
 //!    `ready_checked`).
-//! 3. Of a ring whose blocks are a journal's (`IsJournal`) each lucky image `Stands` for a part of
+//! 3. Of a ring whose blocks are a journal's (`IsJournal`) each lucky image `ViewStands` for a part of
 //!    it: the run from its newest checkpoint is whole mini-transactions of the journal, which end
 //!    between the settled blocks and the written ones, and no valid block has a number that the
 //!    blocks behind the run could meet (`stands`; for a session of `store_image`, `image_log`).
-//! 4. `IsRun` is the longest run of whole mini-transactions by its blocks alone, as it is read
+//! 4. `IsRingRun` is the longest run of whole mini-transactions by its blocks alone, as it is read
 //!    block by block (`read_more`, `read_stops`, `read_all`); of a file that says something it ends
 //!    where that ends (`run_of_log`).
 #![tactic(auto)]

@@ -10,16 +10,15 @@ use Rattle.aes_core.specs.declared.algorithm.Algorithm.{Algorithm}
 use Rattle.aes_core.specs.declared.algorithm.Algorithm.TheVariants.{Cbc, Ctr}
 use Rattle.bytes_core.specs.Crc.{crc32c}
 use Rattle.bytes_core.proofs.LastByte.{ends-append}
-use Rattle.disk_model.specs.Event.{zeros}
 use Rattle.disk_model.specs.Crash.{torn_bytes}
 use Rattle.byte_list.specs.Fields.{be32_at}
-use Rattle.byte_list.specs.Bytes.{range}
+use Rattle.byte_list.specs.Bytes.{range, zeros}
 use Rattle.byte_list.proofs.FieldLaws.{be32_at-written}
 use Rattle.byte_list.proofs.RangeLaws.{range_at}
 use Rattle.page_places.specs.Texts.{ends_in_sum}
 use Rattle.page_places.proofs.Sums.{and_left, and_right, and_both, not_true, ends-ends_in_sum, torn_page}
-use Rattle.page_places.proofs.Texts.{length-zeros}
-use Rattle.store_files.specs.Header.{HeaderSpace, Header, spaces_at, are_in_order, pages_together, are_allowed, algorithm_code, header_fields, is_header, header_in, space_words, header_words, header_front, header_bytes, KeyIdsFit, IsHeader}
+use Rattle.byte_list.proofs.RangeLaws.{length-zeros}
+use Rattle.store_files.specs.Header.{HeaderSpace, Header, spaces_at, are_in_order, pages_together, are_allowed, algorithm_code, header_fields, is_header, header_in, space_words, header_words, header_front, header_bytes, KeyIdsFit, IsWritableHeader}
 
 -- ---- spaces
 
@@ -108,7 +107,7 @@ pub no_header : (b : List ℕ) → ends_in_sum b ≡ false → header_in b ≡ N
 unfolding header_in
 no_header b isnt = ap (λ (v : Bool). if v then Some (header_fields b) else None) (not_true (is_header b) (λ valid. true≢false (sym (header_ends b valid) ∙ isnt)))
 
-module _ (h : Header) (is : IsHeader h) where
+module _ (h : Header) (is : IsWritableHeader h) where
   abbrev b : List ℕ
   b = header_bytes h
 

@@ -3,6 +3,7 @@ pub mod HeadsOnce
 pub mod PageLaws
 pub mod HeadersWritten
 pub mod CheckpointsWritten
+pub mod RingBlocks
 pub mod RunsOnce
 pub mod ContentsOnce
 pub mod Folds

@@ -1,22 +1,13 @@
 -- A checkpoint, file block 1 or 2 of the log.
-use Rattle.std.specs.Prelude.{◌≡◌, ℕ, ◌+◌, ◌%◌, ◌^◌, ◌≤◌, Bool, nat_eq, nat_le, ◌&&◌, if◌then◌else◌, List, ◌++◌, codes, Option, Some, None}
+use Rattle.std.specs.Prelude.{◌≡◌, ℕ, ◌+◌, ◌^◌, ◌≤◌, Bool, nat_eq, nat_le, ◌&&◌, if◌then◌else◌, List, ◌++◌, codes, Option, Some, None}
 use Rattle.std.specs.Int.{to_be_bytes, w32, w64}
 use Rattle.std.specs.Str.{bytes_eq}
 use Rattle.bytes_core.specs.Crc.{crc32c}
-use Rattle.disk_model.specs.Event.{zeros}
 use Rattle.places.specs.Places.{place}
 use Rattle.byte_list.specs.Fields.{be64_at}
-use Rattle.byte_list.specs.Bytes.{range}
+use Rattle.byte_list.specs.Bytes.{range, zeros}
 use Rattle.page_places.specs.Texts.{ends_in_sum}
-
--- what a checkpoint says: its sequence, and the number of the block that the run begins with
-pub record Checkpoint : Type 0 where
-  pub sequence : ℕ
-  pub from : ℕ
-
--- the file block of checkpoints of a sequence
-unfoldable pub side_of : ℕ → ℕ
-side_of sequence = 1 + sequence % 2
+use Rattle.store_image.specs.Checkpoint.{Checkpoint, side_of}
 
 -- A valid checkpoint in file block i: checksum and magic are right, the block is that of its sequence, and it says numbers that a checkpoint may say.
 unfoldable pub is_checkpoint : ℕ → List ℕ → Bool
@@ -37,12 +28,12 @@ unfoldable pub checkpoint_bytes : Checkpoint → List ℕ
 checkpoint_bytes c = checkpoint_front c ++ to_be_bytes w32 (crc32c (checkpoint_front c))
 
 -- a checkpoint that can be written
-pub record IsCheckpoint (c : Checkpoint) : Type 0 where
+pub record IsWritableCheckpoint (c : Checkpoint) : Type 0 where
   pub some : 1 ≤ c.sequence
   pub below : c.sequence + 1 ≤ c.from
   pub within : c.from ≤ 2 ^ 50
 
 -- the newest valid checkpoint of a log's file: that of greatest sequence
-pub record IsNewest (file : List ℕ) (c : Checkpoint) : Type 0 where
+pub record IsNewestCheckpoint (file : List ℕ) (c : Checkpoint) : Type 0 where
   pub is : checkpoint_in (side_of c.sequence) (place 4096 (side_of c.sequence) file) ≡ Some c
   pub newest : (i : ℕ) (d : Checkpoint) → checkpoint_in i (place 4096 i file) ≡ Some d → d.sequence ≤ c.sequence

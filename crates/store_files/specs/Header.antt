@@ -6,9 +6,8 @@ use Rattle.aes_core.specs.Cipher.{AreBytes}
 use Rattle.aes_core.specs.declared.algorithm.Algorithm.{Algorithm}
 use Rattle.aes_core.specs.declared.algorithm.Algorithm.TheVariants.{Cbc, Ctr}
 use Rattle.bytes_core.specs.Crc.{crc32c}
-use Rattle.disk_model.specs.Event.{zeros}
 use Rattle.byte_list.specs.Fields.{be32_at}
-use Rattle.byte_list.specs.Bytes.{range}
+use Rattle.byte_list.specs.Bytes.{range, zeros}
 use Rattle.page_places.specs.Texts.{ends_in_sum}
 
 -- a space, as the header names it: its id, its pages, and the id of its key
@@ -94,7 +93,7 @@ KeyIdsFit [] = Unit {0}
 KeyIdsFit (s ∷ ss) = (s.key_id < 2 ^ 32) × KeyIdsFit ss
 
 -- a header that can be written: within the limits, with a salt of 16 bytes and key ids of four bytes
-pub record IsHeader (h : Header) : Type 0 where
+pub record IsWritableHeader (h : Header) : Type 0 where
   pub allowed : are_allowed h ≡ true
   pub salt_long : length h.salt ≡ 16
   pub salt_bytes : AreBytes h.salt

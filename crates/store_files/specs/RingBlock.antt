@@ -1,32 +1,34 @@
--- A block of the log's ring: a number, a key version, how many bytes of its text are used, flags, and a body that is ciphered whole.
-use Rattle.std.specs.Prelude.{◌≡◌, ℕ, ◌+◌, ◌%◌, ◌^◌, ◌<◌, ◌≤◌, ◌⊎◌, Bool, true, nat_eq, nat_le, ◌&&◌, ◌||◌, List, ◌++◌, length, take}
-use Rattle.std.specs.Int.{to_be_bytes, w16, w32, w64}
-use Rattle.aes_core.specs.Algorithm.{deciphered}
+-- A block of the log's ring, as redo_text reads it, and what the text of a mini-transaction says.
+use Rattle.std.specs.Prelude.{◌≡◌, ℕ, Bool, true, false, nat_eq, ◌&&◌, List, length, take, Result, Ok, Err}
 use Rattle.aes_core.specs.declared.algorithm.Algorithm.{Algorithm}
-use Rattle.bytes_core.specs.Crc.{crc32c}
-use Rattle.byte_list.specs.Fields.{be16_at, be32_at, be64_at}
-use Rattle.byte_list.specs.Bytes.{range}
 use Rattle.page_places.specs.Texts.{ends_in_sum}
-use Rattle.store_image.specs.Ivs.{log_iv}
+use Rattle.redo_text.specs.declared.change.Change.{Change}
+use Rattle.redo_text.specs.declared.fault.BlockFault.{BlockFault}
+use Rattle.redo_text.specs.Reading.{reading, version_of, used_of, flags_of, is_first, is_last, clear_body}
+use Rattle.redo_text.specs.Text.{text_of, AreAllowed}
 
--- bit 0 of the flags: the block is the first of its mini-transaction
-unfoldable pub is_first : List ℕ → Bool
-is_first b = nat_eq (be16_at b 14 % 2) 1
+-- a block was read with no fault
+abbrev pub has_no_fault : Result (Unit {0}) BlockFault → Bool
+has_no_fault (Ok u) = true
+has_no_fault (Err e) = false
 
--- bit 1: the last
-unfoldable pub is_last : List ℕ → Bool
-is_last b = nat_le 2 (be16_at b 14)
-
--- A valid ring block of this number: checksum and number are right, the version is at least 1, 1 to 4076 bytes are used, all of them but in the last block of a mini-transaction, and no flag but the two is set.
+-- A valid ring block of this number: 4096 bytes that end in their checksum, and that are read under the number with no fault.
 unfoldable pub is_ring_block : ℕ → List ℕ → Bool
-is_ring_block number b =
-    ends_in_sum b && (nat_eq (be64_at b 0) number && (nat_le 1 (be32_at b 8) && (nat_le 1 (be16_at b 12) && (nat_le (be16_at b 12) 4076
-    && (nat_le (be16_at b 14) 3 && (is_last b || nat_eq (be16_at b 12) 4076))))))
+is_ring_block number block = ends_in_sum block && (nat_eq (length block) 4096 && has_no_fault (reading number block))
 
--- the key version of a block
-unfoldable pub block_version : List ℕ → ℕ
-block_version b = be32_at b 8
+-- the block is the first of its mini-transaction
+abbrev pub begins_mtr : List ℕ → Bool
+begins_mtr block = is_first (flags_of block)
+
+-- or the last
+abbrev pub ends_mtr : List ℕ → Bool
+ends_mtr block = is_last (flags_of block)
 
 -- the part of the mini-transaction's text that a block has, under a local key
-unfoldable pub block_text : Algorithm → List ℕ → List ℕ → List ℕ
-block_text algorithm local b = take (be16_at b 12) (deciphered algorithm local (log_iv (be64_at b 0)) (range 16 4076 b))
+abbrev pub block_text : Algorithm → List ℕ → List ℕ → List ℕ
+block_text algorithm local block = take (used_of block) (clear_body (record { version = version_of block; local = local; algorithm = algorithm }) block)
+
+-- the text is that of these changes, and each of them is allowed
+pub record IsMtrText (text : List ℕ) (changes : List Change) : Type 0 where
+  pub is : text ≡ text_of changes
+  pub allowed : AreAllowed changes

@@ -5,7 +5,8 @@
 //! 1. `header_in`, `checkpoint_in` and `is_ring_block` are what a block of the log's file says, by
 //!    its bytes alone; `held` and `slot_held` of page_places are what a home and a slot hold. What
 //!    a valid header is stands in one place (`is_header`). A header and a checkpoint that are
-//!    written are read back (`header_back`, `checkpoint_back`), and a page that was sealed is held
+//!    written are read back (`header_back`, `checkpoint_back`), a ring block with its text under its
+//!    key (`ring_block_back`, `ring_block_text`), and a page that was sealed is held
 //!    by its home and its slot (`sealed_held`, `sealed_slot`). Each is refused once its last byte
 //!    is inverted.
 //! 2. `IsRun` is where the run of a log begins and ends, by its blocks alone: from the newest

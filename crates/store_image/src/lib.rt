@@ -5,10 +5,10 @@
 //! doublewrite file holds, and the run of its log.
 //!
 //! 1. `IsChosen` is the text that a page is read from, `IsLive` a slot that may be read from.
-//!    `Recovers` says that an image recovers to contents, and these are one thing
-//!    (`page_one`). `Stands` says that they are a beginning of the journal that holds all
+//!    `ViewRecovers` says that an image recovers to contents, and these are one thing
+//!    (`page_one`). `ViewStands` says that they are a beginning of the journal that holds all
 //!    that was acknowledged, and that no page needs a key that was given up.
-//! 2. `Places` are what each place reads as and what an image may hold there. `Keeps` is what
+//! 2. `Places` are what each place reads as and what an image may hold there. `KeepsSession` is what
 //!    every moment of a session has, `Ready` what holds between two calls; there is a lemma for
 //!    each step of a call. Every image of a session then stands (`stands`).
 //! 3. The stages of an opening: each image of one recovers the same contents
