@@ -4,3 +4,4 @@ pub mod Kept
 pub mod Started
 pub mod Refusals
 pub mod Answered
+pub mod Room

@@ -1,11 +1,11 @@
 -- What a call of a reader does.
-use Rattle.std.specs.Prelude.{◌≡◌, ◌≤◌, ◌⊎◌, ℕ, max, Bool, false, List, Option, Result, Err}
+use Rattle.std.specs.Prelude.{◌≡◌, ◌≤◌, ◌⊎◌, ℕ, max, Bool, false, List, Option, Result, Err, IfOk, IfSome}
 use Rattle.cause_core.specs.Counts.{Rose}
 use Rattle.io_core.specs.Files.{Files}
 use Rattle.io_core.specs.Told.{Told}
 use Rattle.key_ring.specs.Ring.{RingEntry}
 use Rattle.binlog_text.specs.Events.{Event, answered}
-use Rattle.binlog_text.specs.Reading.{IsAnswer, IsStage, Keeps, is_out}
+use Rattle.binlog_text.specs.Reading.{IsAnswer, IsBehindEvent, IsStage, Keeps, due_at, is_out}
 use Rattle.binlog_text.specs.declared.fault.BinlogFault.{BinlogFault}
 use Rattle.binlog_text.specs.declared.fault.BinlogFault.TheVariants.{FileFault, Missing}
 use Rattle.binlog_text.specs.declared.reader.LogReader.{LogReader}
@@ -13,12 +13,16 @@ use Rattle.binlog_text.specs.declared.stage.Stage.{Stage}
 use Rattle.binlog_text.specs.declared.stage.Stage.TheVariants.{Refused}
 
 -- Unless it comes from outside, the answer is the definition's where the library tells its files, and what the reader rests
--- on holds at its new stage. The buffer grows to the most bytes of an event at most.
+-- on holds at its new stage. An event is the one at the old stage, over any library, and the new one stands behind it. The
+-- buffer grows to one piece of the file, or to what the file has of the event that is due, where the library tells its files;
+-- over any library to the most bytes of an event.
 pub record Advances (ring : List RingEntry) (files : Option Files) (name : List ℕ) (old new : LogReader) (result : Result (Option Event) BinlogFault) : Type 0 where
   pub answer : Told (λ fs. is_out result ≡ false → IsAnswer (answered ring (fs name) old.stage) new.stage result) files
   pub keeps : Told (λ fs. Keeps (fs name) new.stage new.buffer.rest) files
   pub stage : IsStage old.stage new.stage result
+  pub behind : IfOk result (λ found. IfSome found (λ event. IsBehindEvent old.stage event new.stage))
   pub room : new.buffer.room ≤ max old.buffer.room 16777216
+  pub grown : Told (λ fs. new.buffer.room ≤ max old.buffer.room (max 65536 (due_at (fs name) old.stage))) files
 
 -- The counts of a library never fall. A fault of the file is answered only where its count rose in this call, and a missing one
 -- only where its count rose, or again.

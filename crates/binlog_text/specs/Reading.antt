@@ -1,5 +1,5 @@
 -- What a reader holds of the file, and what it answers.
-use Rattle.std.specs.Prelude.{◌≡◌, ◌≤◌, ◌<◌, ℕ, ◌+◌, ◌-◌, ◌^◌, min, Bool, true, false, List, length, drop, if◌then◌else◌, IfOk}
+use Rattle.std.specs.Prelude.{◌≡◌, ◌≤◌, ◌<◌, ℕ, ◌+◌, ◌-◌, ◌^◌, min, Bool, true, false, List, [], length, drop, unwrap_or, if◌then◌else◌, IfOk}
 use Rattle.std.specs.Prelude.{Option, Some, None, Result, Ok, Err}
 use Rattle.std.specs.Option.{option_map}
 use Rattle.binlog_text.specs.Events.{Event, Found, placed}
@@ -52,6 +52,23 @@ left_at Start = 2 ^ 64
 left_at (Events position) = position.size - position.place
 left_at (Refused fault) = 0
 
+-- how many bytes of the event that begins these are here, its length being known
+abbrev pub event_part : ℕ → Result (Option ℕ) BinlogFault → ℕ
+event_part left (Err fault) = 0
+event_part left (Ok None) = 0
+event_part left (Ok (Some long)) = min long left
+
+abbrev pub due_in : Position → List ℕ → ℕ
+due_in position left = event_part (length left) (framed position.format position.place left)
+
+abbrev pub due_placed : Option (List ℕ) → Result Position BinlogFault → ℕ
+due_placed file (Err fault) = 0
+due_placed file (Ok position) = due_in position (drop position.place (unwrap_or file []))
+
+-- How many bytes the next event has, as far as the file has them: none where its header is refused.
+abbrev pub due_at : Option (List ℕ) → Stage → ℕ
+due_at file stage = due_placed file (placed file stage)
+
 -- the length of a file
 abbrev pub file_size : Option (List ℕ) → Option ℕ
 file_size file = option_map length file
@@ -98,6 +115,24 @@ abbrev pub IsStage : Stage → Stage → Result (Option Event) BinlogFault → T
 IsStage old new (Err fault) = new ≡ (if is_outside fault then old else Refused fault)
 IsStage old new (Ok None) = new ≡ old
 IsStage old new (Ok (Some event)) = left_at new < left_at old
+
+-- where the next event of a stage begins
+abbrev pub StandsAt : Stage → ℕ → Type 0
+StandsAt Start place = place ≡ 4
+StandsAt (Events position) place = place ≡ position.place
+StandsAt (Refused fault) place = ⊥
+
+-- an event from where a stage stands up to a position of the file
+pub record PassesEvent (stage : Stage) (event : Event) (next : Position) : Type 0 where
+  pub begins : StandsAt stage event.mark.place
+  pub ends : next.place ≡ event.mark.place + length event.bytes
+  pub inside : next.place ≤ next.size
+
+-- the stage behind an event
+abbrev pub IsBehindEvent : Stage → Event → Stage → Type 0
+IsBehindEvent old event Start = ⊥
+IsBehindEvent old event (Events next) = PassesEvent old event next
+IsBehindEvent old event (Refused fault) = ⊥
 
 -- an event can be viewed: it has its header and its checksum, and its end is a place
 pub record Fits (mark : EventMark) (event : List ℕ) : Type 0 where

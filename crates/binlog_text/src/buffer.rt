@@ -1,6 +1,6 @@
 // The bytes of the file that a reader holds: the event that it lends, and what of the file follows it.
 
-ghost use Rattle.std.specs.Prelude.{◌≡◌, ◌+◌, ◌≤◌, [], length, take, drop, min, max, true, IfOk, IfErr, OnOk};
+ghost use Rattle.std.specs.Prelude.{◌≡◌, ◌+◌, ◌≤◌, [], length, take, drop, min, max, true, IfOk, IfErr, IsErrOf, OnOk};
 ghost use Rattle.io_core.specs.Told.{Told};
 ghost use Rattle.io_core.specs.Files.{bytes_from};
 ghost use Rattle.binlog_text.specs.Faults.{HasCauses, IsRefusal, is_outside};
@@ -139,6 +139,7 @@ impl EventBuffer {
         ensures room { self.new.room ≤ max self.old.room want }
         ensures same { L.files files.new ≡ L.files files.old }
         ensures causes { HasCauses (L.faults files.old) (L.faults files.new) (L.absences files.old) (L.absences files.new) result }
+        ensures failed { IsErrOf result BinlogFault.FileFault → L.failed_last files.new name.now }
         ensures outside { IfErr result (λ fault. is_outside fault ≡ true) }
     {
         self.event = 0;
@@ -169,6 +170,7 @@ impl EventBuffer {
         ensures room { self.new.room ≤ max self.old.room (max need PIECE) }
         ensures same { L.files files.new ≡ L.files files.old }
         ensures causes { HasCauses (L.faults files.old) (L.faults files.new) (L.absences files.old) (L.absences files.new) result }
+        ensures failed { IsErrOf result BinlogFault.FileFault → L.failed_last files.new name.now }
         ensures outside { IfErr result (λ fault. is_outside fault ≡ true) }
     {
         self.keep(left);

@@ -8,10 +8,12 @@
 //! 2. [`LogReader`] gives exactly the events of the file in order, and None exactly at its end
 //!    (`answered`). Each refusal comes exactly where it is the first in order, with its place and
 //!    values.
-//! 3. After a fault of the file or want of memory the reader is as it was; after every other refusal
-//!    it answers the same again.
-//! 4. An [`EventView`] lends the plain event from the reader's buffer. The buffer has one piece of the
-//!    file, 65536 bytes at most, or grows to the largest event; an event has 16,777,216 bytes at most.
+//! 3. After a fault of the file, which is one of the log's name, or want of memory the reader stands
+//!    where it stood; after every other refusal it answers the same again.
+//! 4. An [`EventView`] lends the plain event from the reader's buffer. The buffer has no bytes at
+//!    first. A call makes it no longer than one piece of the file, 65536 bytes, or what the file has
+//!    of the event that is due (`due_at`), where it isn't longer already; over a library that doesn't
+//!    tell its files, no longer than 16,777,216 bytes, the most that an event may have.
 //!
 //! Numbers in a binary log have their lowest byte first. No body is decoded.
 #![tactic(auto)]

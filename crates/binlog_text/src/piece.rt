@@ -1,6 +1,6 @@
 // Pieces of a file, read into a buffer.
 
-ghost use Rattle.std.specs.Prelude.{◌≡◌, ◌≤◌, length, take, min, max, true, IfOk, IfErr, OnOk, vec_len};
+ghost use Rattle.std.specs.Prelude.{◌≡◌, ◌≤◌, length, take, min, max, true, IfOk, IfErr, IsErrOf, OnOk, vec_len};
 ghost use Rattle.io_core.specs.Told.{Told};
 ghost use Rattle.io_core.specs.Files.{IsFilled, bytes_from};
 ghost use Rattle.binlog_text.specs.Faults.{HasCauses, is_outside};
@@ -20,6 +20,7 @@ fn read_piece<L: Library>(
     ensures bytes { IfOk result (λ n. Told (λ fs. IsFilled (bytes_from place name.now fs) into.old n into.new) (L.files files.old)) }
     ensures same { L.files files.new ≡ L.files files.old }
     ensures causes { HasCauses (L.faults files.old) (L.faults files.new) (L.absences files.old) (L.absences files.new) result }
+    ensures failed { IsErrOf result BinlogFault.FileFault → L.failed_last files.new name.now }
     ensures outside { IfErr result (λ fault. is_outside fault ≡ true) }
 {
     match files.read(name, place, into) {
@@ -46,6 +47,7 @@ pub(crate) fn read_front<L: Library>(
     ensures enough { IfOk result (λ n. Told (λ fs. min want (length (bytes_from place name.now fs)) ≤ n) (L.files files.old)) }
     ensures same { L.files files.new ≡ L.files files.old }
     ensures causes { HasCauses (L.faults files.old) (L.faults files.new) (L.absences files.old) (L.absences files.new) result }
+    ensures failed { IsErrOf result BinlogFault.FileFault → L.failed_last files.new name.now }
     ensures outside { IfErr result (λ fault. is_outside fault ≡ true) }
 {
     read_piece(files, name, place, &mut bytes[..want])

@@ -22,19 +22,20 @@ pub struct LogReader {
 }
 
 impl LogReader {
-    ghost use Rattle.std.specs.Prelude.{◌<◌, ◌≤◌, ◌-◌, ◌⊎◌, max, Ok, Err, None, length, IfOk, IfSome, OnErr, false};
+    ghost use Rattle.std.specs.Prelude.{◌<◌, ◌≤◌, ◌-◌, ◌⊎◌, max, Ok, Err, None, length, IfOk, IfSome, IsErrOf, OnErr, false};
     ghost use Rattle.std.specs.Borrow.{sem, follows_so};
     ghost use mathlib.Core.Option.{none};
     ghost use Rattle.io_core.specs.Told.{Told};
     ghost use Rattle.binlog_text.specs.Faults.{HasCauses};
     ghost use Rattle.binlog_text.specs.Events.{answered, placed};
-    ghost use Rattle.binlog_text.specs.Reading.{Fits, Keeps, is_out, left_at, marked, shown, viewed};
+    ghost use Rattle.binlog_text.specs.Reading.{Fits, IsBehindEvent, Keeps, StandsAt, due_at, is_out, left_at, marked, shown, viewed};
     ghost use Rattle.binlog_text.specs.Advances.{Advances, ReaderCauses};
     ghost use Rattle.binlog_text.specs.contracts.reader.LogReader.{the_row};
 
     /// A reader that has read nothing.
     pub fn new(alloc: Global) -> LogReader
-        ensures { result.stage ≡ Stage.Start }
+        ensures stage { result.stage ≡ Stage.Start }
+        ensures room { result.buffer.room ≡ 0 }
     {
         LogReader {
             stage: Stage::Start,
@@ -50,10 +51,12 @@ impl LogReader {
         ensures kept { OnErr result (Told (λ fs. Keeps (fs name.now) self.old.stage self.new.buffer.rest) (L.files files.old)) }
         ensures stage { self.new.stage ≡ self.old.stage }
         ensures left { IfOk result (λ position. position.size - position.place ≤ left_at self.old.stage) }
-        ensures room { self.new.buffer.room ≤ max self.old.buffer.room 16777216 }
+        ensures at { IfOk result (λ position. StandsAt self.old.stage position.place) }
+        ensures room { self.new.buffer.room ≤ max self.old.buffer.room 65536 }
         ensures again { (fault : BinlogFault) → self.old.stage ≡ Stage.Refused fault → result ≡ Err fault }
         ensures same { L.files files.new ≡ L.files files.old }
         ensures causes { ReaderCauses self.old.stage (L.faults files.old) (L.faults files.new) (L.absences files.old) (L.absences files.new) result }
+        ensures failed { IsErrOf result BinlogFault.FileFault → L.failed_last files.new name.now }
     {
         match self.stage {
             Stage::Start => start(&mut self.buffer, files, name),
@@ -76,10 +79,13 @@ impl LogReader {
         ensures stage { self.new.stage ≡ self.old.stage }
         ensures left { IfOk result (λ found. IfSome found (λ step. left_at (Stage.Events step.next) < left_at self.old.stage)) }
         ensures fits { IfOk result (λ found. IfSome found (λ step. Fits step.mark self.new.buffer.event)) }
+        ensures behind { IfOk result (λ found. IfSome found (λ step. IsBehindEvent self.old.stage (record { mark = step.mark; bytes = self.new.buffer.event }) (Stage.Events step.next))) }
         ensures room { self.new.buffer.room ≤ max self.old.buffer.room 16777216 }
+        ensures grown { Told (λ fs. self.new.buffer.room ≤ max self.old.buffer.room (max 65536 (due_at (fs name.now) self.old.stage))) (L.files files.old) }
         ensures again { (fault : BinlogFault) → self.old.stage ≡ Stage.Refused fault → result ≡ Err fault }
         ensures same { L.files files.new ≡ L.files files.old }
         ensures causes { ReaderCauses self.old.stage (L.faults files.old) (L.faults files.new) (L.absences files.old) (L.absences files.new) result }
+        ensures failed { IsErrOf result BinlogFault.FileFault → L.failed_last files.new name.now }
     {
         let position = self.position(files, name)?;
         read_event(&mut self.buffer, &position, files, name, ring)
@@ -98,6 +104,7 @@ impl LogReader {
         ensures again { (fault : BinlogFault) → self.old.stage ≡ Stage.Refused fault → result ≡ Err fault }
         ensures same { L.files files.new ≡ L.files files.old }
         ensures causes { ReaderCauses self.old.stage (L.faults files.old) (L.faults files.new) (L.absences files.old) (L.absences files.new) result }
+        ensures failed { IsErrOf result BinlogFault.FileFault → L.failed_last files.new name.now }
     {
         match self.answer(files, name, ring) {
             Ok(Some(step)) => {
@@ -119,7 +126,7 @@ impl LogReader {
     ///
     /// # Errors
     /// The first refusal in the file, which is answered again from then on; `FileFault` and
-    /// `OutOfMemory`, after which the reader is as it was.
+    /// `OutOfMemory`, after which the reader stands where it stood. A fault of the file is one of this name.
     pub fn next<L: Library>(
         &mut self,
         files: &mut L,
@@ -127,11 +134,12 @@ impl LogReader {
         ring: &Ring,
     ) -> Result<Option<EventView<'_>>, BinlogFault>
         requires { Told (λ fs. Keeps (fs name.now) self.old.stage self.old.buffer.rest) (L.files files.old) }
-        // Once the event is let go of, the reader is past it, or as it was, or at the refusal.
+        // Once the event is let go of, the reader stands behind it, or where it stood, or at the refusal.
         ensures* advances { sem 𝓛 (follows_so the_row the_row self.entry.ghost_name none (λ _ _. ⊤) (λ new. Advances ring.now (L.files files.old) name.now self.old new (viewed result))) }
         ensures again { (fault : BinlogFault) → self.old.stage ≡ Stage.Refused fault → result ≡ Err fault }
         ensures same { L.files files.new ≡ L.files files.old }
         ensures causes { ReaderCauses self.old.stage (L.faults files.old) (L.faults files.new) (L.absences files.old) (L.absences files.new) result }
+        ensures failed { IsErrOf result BinlogFault.FileFault → L.failed_last files.new name.now }
     {
         match self.advance(files, name, ring)? {
             Some(mark) => Ok(Some(EventView {

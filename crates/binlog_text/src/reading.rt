@@ -1,6 +1,6 @@
 // One event read.
 
-ghost use Rattle.std.specs.Prelude.{◌≡◌, ◌+◌, ◌-◌, ◌<◌, ◌≤◌, ◌⊎◌, ℕ, List, Ok, Some, length, take, drop, min, max, IfOk, IfErr, IfSome, OnOk, false, true};
+ghost use Rattle.std.specs.Prelude.{◌≡◌, ◌+◌, ◌-◌, ◌<◌, ◌≤◌, ◌⊎◌, ℕ, List, Ok, Some, length, take, drop, min, max, IfOk, IfErr, IfSome, IsErrOf, OnOk, false, true};
 ghost use Rattle.io_core.specs.Told.{Told};
 ghost use Rattle.io_core.specs.Files.{bytes_from};
 ghost use Rattle.byte_list.specs.Bytes.{part_of};
@@ -8,7 +8,7 @@ ghost use Rattle.binlog_text.specs.Faults.{HasCauses, IsRefusal, is_outside};
 ghost use Rattle.binlog_text.specs.Header.{kind_of, least_stored, sum_length};
 ghost use Rattle.binlog_text.specs.Held.{IsFront};
 ghost use Rattle.binlog_text.specs.Events.{event_in, judged_event, opened, opened_event, step_of};
-ghost use Rattle.binlog_text.specs.Reading.{Moves, Reaches, is_out, shown};
+ghost use Rattle.binlog_text.specs.Reading.{Moves, Reaches, due_in, is_out, shown};
 
 use crate::buffer::EventBuffer;
 use crate::format::{HEADER_LEN, LogFormat, framed, has_sum, whole};
@@ -73,10 +73,14 @@ fn reach<L: Library>(
         → length (bytes_from position.now.place name.now fs) ≡ position.now.size - position.now.place
         → Reaches position.now buffer.new.rest (bytes_from position.now.place name.now fs)) (L.files files.old)) }
     ensures room { buffer.new.room ≤ max buffer.old.room 16777216 }
+    ensures grown { Told (λ fs. IsFront buffer.old.rest (bytes_from position.now.place name.now fs)
+        → length (bytes_from position.now.place name.now fs) ≡ position.now.size - position.now.place
+        → buffer.new.room ≤ max buffer.old.room (max 65536 (due_in position.now (bytes_from position.now.place name.now fs)))) (L.files files.old) }
     ensures bounded { OnOk result (length buffer.new.rest ≤ position.now.size - position.now.place) }
     ensures outside { IfErr result (λ fault. is_outside fault ≡ true) }
     ensures same { L.files files.new ≡ L.files files.old }
     ensures causes { HasCauses (L.faults files.old) (L.faults files.new) (L.absences files.old) (L.absences files.new) result }
+    ensures failed { IsErrOf result BinlogFault.FileFault → L.failed_last files.new name.now }
 {
     let left = left_of(position);
     let header = left.min(HEADER_LEN as u64) as usize;
@@ -158,8 +162,12 @@ pub(crate) fn read_event<L: Library>(
         → (is_out result ≡ true) ⊎ (result ≡ Ok None) → IsFront buffer.new.rest (bytes_from position.now.place name.now fs)) (L.files files.old) }
     ensures moves { IfOk result (λ step. IfSome step (Moves position.now buffer.new.event)) }
     ensures room { buffer.new.room ≤ max buffer.old.room 16777216 }
+    ensures grown { Told (λ fs. IsFront buffer.old.rest (bytes_from position.now.place name.now fs)
+        → length (bytes_from position.now.place name.now fs) ≡ position.now.size - position.now.place
+        → buffer.new.room ≤ max buffer.old.room (max 65536 (due_in position.now (bytes_from position.now.place name.now fs)))) (L.files files.old) }
     ensures same { L.files files.new ≡ L.files files.old }
     ensures causes { HasCauses (L.faults files.old) (L.faults files.new) (L.absences files.old) (L.absences files.new) result }
+    ensures failed { IsErrOf result BinlogFault.FileFault → L.failed_last files.new name.now }
 {
     reach(buffer, position, files, name)?;
     take_event(buffer, position, ring)

@@ -1,9 +1,11 @@
-use Rattle.std.proofs.Common.{◌≡◌, ℕ, ◌-◌, ◌≤◌, min, List, length, Some, None, Ok, Err, Result, Option, sym, ap, ◌∙◌, arith}
+use Rattle.std.proofs.Common.{◌≡◌, ℕ, ◌-◌, ◌≤◌, min, max, List, length, Some, None, Ok, Err, Result, Option, sym, ap, ◌∙◌, arith}
 use Rattle.std.proofs.lemmas.Result.{on_ok_weaker}
 use Rattle.io_core.specs.Files.{bytes_from}
 use Rattle.binlog_text.specs.Header.{framed}
 use Rattle.binlog_text.specs.declared.fault.BinlogFault.{BinlogFault}
 use Rattle.binlog_text.proofs.FrontLaws.{reaches_event, reaches_header}
+use Rattle.binlog_text.specs.Reading.{due_in}
+use Rattle.binlog_text.proofs.Room.{due_said, event_room, piece_room}
 use Rattle.binlog_text.proofs.reading.reach.Goals as goal
 
 -- an answer of a frame without a length
@@ -57,3 +59,40 @@ returns-in-Ok-Some-clause-reached g c =
           (c.fill-in-Ok-Some.ensures.front.here fs same first) (omega (arith, more, c.min-need.ensures, c.left_of-left.ensures, size));
     })
     c.fill-in-Ok-Some.ensures.enough
+
+pub returns-in_err-fill-clause-grown : goal.returns-in_err-fill-clause-grown
+returns-in_err-fill-clause-grown g c = record {
+  here = λ fs is front size.
+      piece_room c.args.buffer.now.room c.fill.new.self.room (due_in c.args.position.now (bytes_from c.args.position.now.place c.args.name.now fs)) c.min-header.result
+      (omega (arith, c.min-header.ensures)) c.fill.ensures.room;
+}
+
+pub returns-in-Ok-None-clause-grown : goal.returns-in-Ok-None-clause-grown
+returns-in-Ok-None-clause-grown g c = record {
+  here = λ fs is front size.
+      piece_room c.args.buffer.now.room c.fill.new.self.room (due_in c.args.position.now (bytes_from c.args.position.now.place c.args.name.now fs)) c.min-header.result
+      (omega (arith, c.min-header.ensures)) c.fill.ensures.room;
+}
+
+pub returns-in-Err-clause-grown : goal.returns-in-Err-clause-grown
+returns-in-Err-clause-grown g c = record {
+  here = λ fs is front size.
+      piece_room c.args.buffer.now.room c.fill.new.self.room (due_in c.args.position.now (bytes_from c.args.position.now.place c.args.name.now fs)) c.min-header.result
+      (omega (arith, c.min-header.ensures)) c.fill.ensures.room;
+}
+
+pub returns-in-Ok-Some-clause-grown : goal.returns-in-Ok-Some-clause-grown
+returns-in-Ok-Some-clause-grown g c = record {
+  here = λ fs is front size.
+      let p = c.args.position.now in
+      let all : List ℕ = bytes_from p.place c.args.name.now fs in
+      let before : List ℕ = c.fill.new.self.rest in
+      let says : framed p.format p.place before ≡ Ok (Some c.in-Ok-Some.length) =
+      ap (framed p.format p.place) (sym c.rest.ensures) ∙ sym c.framed.ensures.value ∙ c.in-Ok-Some.is ∙ ap Ok c.in-Ok-Some.field-0-is in
+      let enough : c.min-header.result ≤ length before = c.in_ok-fill.ensures.enough.here fs is (size ∙ sym c.left_of-left.ensures) in
+      let due : due_in p all ≡ min c.in-Ok-Some.length (length all) =
+      due_said p before all c.in-Ok-Some.length (c.in_ok-fill.ensures.front.here fs is front) (omega (arith, enough, c.min-header.ensures, c.left_of-left.ensures, size)) says in
+      let middle : c.fill.new.self.room ≤ max c.args.buffer.now.room 65536 = omega (arith, c.fill.ensures.room, c.min-header.ensures) in
+      event_room c.args.buffer.now.room c.fill.new.self.room c.fill-in-Ok-Some.new.self.room (due_in p all) c.min-need.result middle
+      (omega (arith, due, c.min-need.ensures, c.left_of-left.ensures, size)) c.fill-in-Ok-Some.ensures.room;
+}

@@ -1,6 +1,8 @@
-use Rattle.std.proofs.Common.{◌≡◌, ℕ, List, length, drop, Ok, true, false, sym, ap, ◌∙◌, subst, arith, inl, inr, ⊎_elim}
+use Rattle.std.proofs.Common.{◌≡◌, ℕ, ◌≤◌, max, List, length, IfErr, drop, Ok, true, false, sym, ap, ◌∙◌, subst, arith, inl, inr, ⊎_elim}
 use Rattle.io_core.specs.Files.{bytes_from}
 use Rattle.binlog_text.specs.Held.{Held, IsFront}
+use Rattle.binlog_text.specs.Faults.{IsRefusal}
+use Rattle.binlog_text.specs.Reading.{due_in}
 use Rattle.binlog_text.proofs.FrontLaws.{event_in-front}
 use Rattle.binlog_text.proofs.Kept.{front_behind, front_same}
 use Rattle.binlog_text.proofs.Refusals.{inside_causes, refused_inside, step_each}
@@ -36,3 +38,14 @@ returns-clause-stays g c = record {
 pub returns-clause-causes : goal.returns-clause-causes
 returns-clause-causes g c =
     inside_causes _ _ _ _ (Ok c.in_ok-reach.field-0) c.take_event.result c.in_ok-reach.ensures.causes c.take_event.ensures.refusal
+
+pub returns-clause-grown : goal.returns-clause-grown
+returns-clause-grown g c = record {
+  here = λ fs is front size.
+      let p = c.args.position.now in
+      let all : List ℕ = bytes_from p.place c.args.name.now fs in
+      subst (λ (n : ℕ). n ≤ max c.args.buffer.now.room (max 65536 (due_in p all))) (sym c.take_event.ensures.room) (c.reach.ensures.grown.here fs is front size);
+}
+
+pub returns-clause-failed : goal.returns-clause-failed
+returns-clause-failed g c is = absurd (subst (λ x. IfErr x IsRefusal) is c.take_event.ensures.refusal)

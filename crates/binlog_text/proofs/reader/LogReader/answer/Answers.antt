@@ -1,6 +1,9 @@
 use Rattle.std.proofs.Common.{◌≡◌, ◌∙◌, refl, sym}
 use Rattle.io_core.proofs.Causes.{told_same}
 use Rattle.binlog_text.proofs.Answered.{answered_event, keeps_next, kept_stage}
+use Rattle.binlog_text.specs.Reading.{due_at}
+use Rattle.binlog_text.proofs.Refusals.{step_each}
+use Rattle.binlog_text.proofs.Room.{passes, stage_room, start_room}
 use Rattle.binlog_text.proofs.reader.LogReader.answer.Goals as goal
 
 pub returns-clause-answer : goal.returns-clause-answer
@@ -22,4 +25,22 @@ returns-clause-kept g c = λ how. record {
       kept_stage (fs c.args.name.now) c.args.self.now.stage c.in_ok-position.position c.position.new.self.buffer.rest _
       (c.in_ok-position.ensures.position.here fs is refl) (c.in_ok-position.ensures.keeps.here fs is)
       (λ front. c.read_event.ensures.stays.here fs (c.in_ok-position.ensures.same ∙ is) front how);
+}
+
+pub returns-clause-behind : goal.returns-clause-behind
+returns-clause-behind g c =
+    step_each c.read_event.result (λ s moves. passes c.args.self.now.stage c.in_ok-position.position _ s c.in_ok-position.ensures.at moves) c.read_event.ensures.moves
+
+pub returns-in_err-position-clause-grown : goal.returns-in_err-position-clause-grown
+returns-in_err-position-clause-grown g c = record {
+  here = λ fs is. start_room c.args.self.now.buffer.room c.position.new.self.buffer.room (due_at (fs c.args.name.now) c.args.self.now.stage) c.position.ensures.room;
+}
+
+pub returns-clause-grown : goal.returns-clause-grown
+returns-clause-grown g c = record {
+  here = λ fs is.
+      stage_room (fs c.args.name.now) c.args.self.now.stage c.in_ok-position.position c.position.new.self.buffer.rest
+      c.args.self.now.buffer.room c.position.new.self.buffer.room c.read_event.new.buffer.room
+      (c.in_ok-position.ensures.position.here fs is refl) (c.in_ok-position.ensures.keeps.here fs is) c.position.ensures.room
+      (λ front size. c.read_event.ensures.grown.here fs (c.in_ok-position.ensures.same ∙ is) front size);
 }
