@@ -28,3 +28,6 @@ pub use checkpoint::write_first_checkpoint;
 pub use log::{Log, LogFault};
 pub use reading::{Checkpoint, read_checkpoint};
 pub use run::{Run, Versions, scan};
+
+#[cfg(test)]
+mod tests;
