@@ -8,7 +8,7 @@ use Rattle.std.specs.Prelude.{◌==◌}
 use Rattle.script_core.specs.Words.{Word, lines_of, words_of}
 use Rattle.script_core.specs.Batches.{Tells, HasBatch}
 use Rattle.script_core.specs.Statements.{IsStatement, IsLineFault, AreArguments}
-use Rattle.script_core.specs.Scripts.{IsSkipped, Reads, NoLine, Skipped, Said, BadAt, Bad, PastSkipped, PastSaid, IsLine, IsLineRefusal, IsRefusal}
+use Rattle.script_core.specs.Scripts.{IsSkipped, Reads, NoLine, Skipped, Said, BadAt, Bad, PastSkipped, PastSaid, IsLine, IsLineRefusal, IsRefusal, IsScript}
 use Rattle.script_core.specs.declared.act.Act.{Act}
 use Rattle.script_core.specs.declared.act.Act.TheVariants.{Mtr, Read, Sync, Flush, Check, Take, Put, Activate, Encrypt, Rotate, Report}
 use Rattle.script_core.specs.declared.script.Statement.{Statement}
@@ -51,6 +51,10 @@ gives_bad number before line lines left all so_far kind begins kept fault gives 
 pub gives_end : (number : ℕ) (before : List Act) (left all : List (List ℕ)) (so_far : List Statement) → left ≡ [] → GivesOn number before left all so_far → Reads 1 [] all so_far
 gives_end number before left all so_far ends gives =
     subst (λ ss. Reads 1 [] all ss) (append-nil so_far) (gives.reads [] (subst (λ ls. Reads number before ls []) (sym ends) (NoLine number before)))
+
+-- the statements behind the last line are the script
+pub whole_script : (number : ℕ) (before : List Act) (left : List (List ℕ)) (text : List ℕ) (so_far : List Statement) → left ≡ [] → GivesOn number before left (lines_of text) so_far → length so_far ≤ 10000 → IsScript text so_far
+whole_script number before left text so_far ends gives few = record { reads = gives_end number before left (lines_of text) so_far ends gives; few = few }
 
 -- how the reading goes on behind some lines
 pub record GoesOn (number : ℕ) (out : List Bool) (left all : List (List ℕ)) (so_far : List Statement) : Type 0 where

@@ -4,7 +4,7 @@ use Rattle.script_core.specs.Words.{Word, IsNumber, lines_of, words_of}
 use Rattle.script_core.specs.Names.{name_of, change_name_of, fields_of, change_fields_of}
 use Rattle.script_core.specs.Fields.{Field, Numeral, PageType, Bytes, Byte, FreeBatch, HeldBatch, End, Takes, Fits, Passes, FaultAt, FaultIn}
 use Rattle.script_core.specs.Statements.{change_name, AreChangeArguments, IsChange, AreChanges, statement_name, AreArguments, IsStatement, ChangeFault, ChangesFault, InChange, NoSemicolon, Full, InRest, ArgumentFault, IsLineFault}
-use Rattle.script_core.specs.Scripts.{IsSkipped, Reads, NoLine, Skipped, Said, BadAt, Bad, PastSkipped, PastSaid, IsScript, IsFirstBad}
+use Rattle.script_core.specs.Scripts.{IsSkipped, Reads, NoLine, Skipped, Said, BadAt, Bad, PastSkipped, PastSaid, IsScript, IsOnlyScript, HasNoBadLine, IsFirstBad, IsRefusal, Excludes}
 use Rattle.script_core.specs.declared.names.StatementName.{StatementName}
 use Rattle.script_core.specs.declared.names.StatementName.TheVariants as name
 use Rattle.script_core.specs.declared.names.ChangeName.{ChangeName}
@@ -16,6 +16,8 @@ use Rattle.script_core.specs.declared.act.ScriptChange.TheVariants as change
 use Rattle.script_core.specs.declared.script.Statement.{Statement}
 use Rattle.script_core.specs.declared.fault.LineFault.{LineFault}
 use Rattle.script_core.specs.declared.fault.LineFault.TheVariants as fault
+use Rattle.script_core.specs.declared.fault.ScriptFault.{ScriptFault}
+use Rattle.script_core.specs.declared.fault.ScriptFault.TheVariants.{BadLine, TooMany, OutOfMemory}
 use Rattle.script_core.proofs.FaultsOnce.{AllPass, AreBounded, no_fault, one_fault, no_fault_there, one_fault_there, one_rest}
 use Rattle.script_core.proofs.StatementsOnce.{one_change, one_changes, one_statement, name_of-injective, change_name_of-injective}
 
@@ -261,3 +263,17 @@ script_not_bad text a at k is bad = read_not_bad 1 [] (lines_of text) a at k bad
 
 pub one_first_bad : (text : List ℕ) (m n : ℕ) (a b : LineFault) → IsFirstBad text m a → IsFirstBad text n b → (m ≡ n) × (a ≡ b)
 one_first_bad text m n a b p q = one_bad 1 [] (lines_of text) m n a b p q
+
+pub only_script : (text : List ℕ) (statements : List Statement) → IsScript text statements → IsOnlyScript text statements
+only_script text statements is others also = one_script text others statements also is
+
+pub no_bad_line : (text : List ℕ) (statements : List Statement) → IsScript text statements → HasNoBadLine text
+no_bad_line text statements is line kind bad = script_not_bad text statements line kind is bad
+
+pub excludes : (text : List ℕ) (f : ScriptFault) → IsRefusal text f → Excludes text f
+excludes text (BadLine line kind) is = (λ statements script. script_not_bad text statements line kind script is, λ other k bad. one_first_bad text other line k kind bad is)
+excludes text TooMany is = (
+  λ statements script. let same = one_reading 1 [] (lines_of text) statements is.statements script.reads is.reads in let size = ap length same in omega (arith, size, script.few, is.many),
+  λ line kind bad. read_not_bad 1 [] (lines_of text) is.statements line kind bad is.reads,
+)
+excludes text OutOfMemory is = tt

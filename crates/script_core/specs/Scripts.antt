@@ -50,6 +50,28 @@ IsRefusal text (BadLine line kind) = IsFirstBad text line kind
 IsRefusal text TooMany = HasTooMany text
 IsRefusal text OutOfMemory = Unit {0}
 
+-- no other statements are the text
+abbrev pub IsOnlyScript : List ℕ → List Statement → Type 0
+IsOnlyScript text statements = (others : List Statement) → IsScript text others → others ≡ statements
+
+-- the text is no script
+abbrev pub HasNoScript : List ℕ → Type 0
+HasNoScript text = (statements : List Statement) → IsScript text statements → ⊥
+
+-- no line of the text is bad
+abbrev pub HasNoBadLine : List ℕ → Type 0
+HasNoBadLine text = (line : ℕ) (kind : LineFault) → IsFirstBad text line kind → ⊥
+
+-- no other line is the first bad one, and no other fault its first
+abbrev pub IsOnlyBad : List ℕ → ℕ → LineFault → Type 0
+IsOnlyBad text line kind = (other : ℕ) (fault : LineFault) → IsFirstBad text other fault → (other ≡ line) × (fault ≡ kind)
+
+-- what can't be said of a text beside its refusal
+abbrev pub Excludes : List ℕ → ScriptFault → Type 0
+Excludes text (BadLine line kind) = HasNoScript text × IsOnlyBad text line kind
+Excludes text TooMany = HasNoScript text × HasNoBadLine text
+Excludes text OutOfMemory = Unit {0}
+
 -- what one line is, behind these statements
 abbrev pub IsLine : List Act → ℕ → List ℕ → Option Statement → Type 0
 IsLine before number line found = MatchOption found (IsSkipped line) (λ s. (s.line ≡ number) × (IsSkipped line → ⊥) × IsStatement before (words_of line) s.act)

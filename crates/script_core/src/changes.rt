@@ -14,6 +14,9 @@ use crate::names::ChangeName;
 use crate::parts::Parts;
 use std::alloc::Global;
 
+// How many changes a mini-transaction of a script has at most.
+const MOST_CHANGES: usize = 64;
+
 // SPACE PAGE AT HEX
 fn read_put(alloc: Global, words: &mut Parts<'_>) -> Result<ScriptChange, LineError>
     ensures ok { IfOk result (λ change. (change_name change ≡ name.Put) × AreChangeArguments change words.old words.new) }
@@ -115,7 +118,7 @@ pub fn read_changes(alloc: Global, words: &mut Parts<'_>) -> Result<ScriptChange
         if !take_semicolon(words)? {
             return Ok(ScriptChanges::of(changes));
         }
-        if changes.len() == 64 {
+        if changes.len() == MOST_CHANGES {
             return Err(LineError::Fault(LineFault::TooMany));
         }
     }

@@ -22,7 +22,7 @@ pub fn number_of(word: &[u8], low: u32, high: u32) -> Result<u32, LineFault>
         return Err(LineFault::Number);
     };
     if !is_numeral(word) {
-        return Err(LineFault::Number);
+        return Err(LineFault::Number); // A sign and a leading zero too.
     }
     let Ok(number) = text.parse::<u32>() else {
         return Err(LineFault::Range);

@@ -2,7 +2,8 @@
 ghost use Rattle.std.specs.Prelude.{◌≡◌, ◌≤◌, List, length, IsTrue, ◌↔◌, IfOk, IfErr};
 ghost use Rattle.script_core.specs.declared.act.Act.{Act};
 ghost use Rattle.script_core.specs.Batches.{Tells};
-ghost use Rattle.script_core.specs.Scripts.{IsSkipped, IsScript, IsRefusal, IsLine, IsLineRefusal};
+ghost use Rattle.script_core.specs.Printing.{printed};
+ghost use Rattle.script_core.specs.Scripts.{IsSkipped, IsScript, IsOnlyScript, HasNoBadLine, IsRefusal, Excludes, IsLine, IsLineRefusal};
 
 use crate::batches::Batches;
 use crate::fault::{LineError, ScriptFault};
@@ -10,6 +11,9 @@ use crate::parts::Parts;
 use crate::script::{Script, Statement};
 use crate::statements::read_statement;
 use std::alloc::Global;
+
+// How many statements a script has at most.
+const MOST_STATEMENTS: usize = 10_000;
 
 // Whether a line is empty or a comment.
 fn is_skipped(line: &[u8]) -> bool
@@ -61,7 +65,11 @@ fn statement_at(
 pub fn read_script(alloc: Global, bytes: &[u8]) -> Result<Script, ScriptFault>
     requires size { length bytes.now ≤ 1048576 }
     ensures ok { IfOk result (IsScript bytes.now) }
+    ensures only { IfOk result (IsOnlyScript bytes.now) }
+    ensures none_bad { IfOk result (λ script. HasNoBadLine bytes.now) }
+    ensures prints { IfOk result (λ script. IsScript (printed script) script) }
     ensures err { IfErr result (IsRefusal bytes.now) }
+    ensures excludes { IfErr result (Excludes bytes.now) }
 {
     let mut statements = Vec::new(alloc);
     let mut batches = Batches::none();
@@ -77,7 +85,7 @@ pub fn read_script(alloc: Global, bytes: &[u8]) -> Result<Script, ScriptFault>
             return Err(ScriptFault::OutOfMemory);
         };
     }
-    if statements.len() > 10_000 {
+    if statements.len() > MOST_STATEMENTS {
         return Err(ScriptFault::TooMany);
     }
     Ok(Script::of(statements))

@@ -34,14 +34,14 @@ returns-then-not-branch-clause-ok c =
     let size = length_push loop.changes.items c.in_ok-change.change in
     (subst (λ cs. cs) refl (search (rules, are, c.of.ensures)), search (rules, size, c.of.ensures, c.in_ok-push.ensures.items))
 
-pub returns-then-len-eq64-clause-err : goal.returns-then-len-eq64-clause-err
-returns-then-len-eq64-clause-err c =
+pub returns-then-len-eq-MOST_CHANGES-clause-err : goal.returns-then-len-eq-MOST_CHANGES-clause-err
+returns-then-len-eq-MOST_CHANGES-clause-err c =
     let loop = c.loop-changes in
     let follows = when_true _ _ c.if-not-branch.false c.in_ok-take_semicolon.ensures.ok in
     let size = length_push loop.changes.items c.in_ok-change.change in
     let grown : length c.push.new.self.items ≡ length loop.changes.items + 1 = grind (arith, size) in
     let is : IsChange c.in_ok-change.change loop.words (codes ";" ∷ c.take_semicolon.new.words) = subst (IsChange c.in_ok-change.change loop.words) follows c.in_ok-change.ensures.ok in
-    loop.invariant.fault fault.TooMany (Full (length loop.changes.items) loop.words c.take_semicolon.new.words c.in_ok-change.change is (omega (arith, grown, c.len.ensures, c.if-len-eq64.true)))
+    loop.invariant.fault fault.TooMany (Full (length loop.changes.items) loop.words c.take_semicolon.new.words c.in_ok-change.change is (omega (arith, grown, c.len.ensures, c.if-len-eq-MOST_CHANGES.true)))
 
 pub loop-changes-smaller : goal.loop-changes-smaller
 loop-changes-smaller c =
@@ -54,7 +54,7 @@ loop-changes-preserved c =
     let follows = when_true _ _ c.if-not-branch.false c.in_ok-take_semicolon.ensures.ok in
     let size = length_push loop.changes.items c.in_ok-change.change in
     let grown : length c.push.new.self.items ≡ length loop.changes.items + 1 = grind (arith, size) in
-    let room : length c.push.new.self.items < 64 = omega (arith, grown, c.len.ensures, c.if-len-eq64.false, loop.invariant.room) in
+    let room : length c.push.new.self.items < 64 = omega (arith, grown, c.len.ensures, c.if-len-eq-MOST_CHANGES.false, loop.invariant.room) in
     record {
       room = room;
       whole = gives_more loop.changes.items c.push.new.self.items c.in_ok-change.change loop.words c.take_semicolon.new.words c.read_change.new.words c.args.words.now c.in_ok-push.ensures.items c.in_ok-change.ensures.ok follows loop.invariant.whole;

@@ -1,9 +1,12 @@
 use Rattle.std.proofs.Common.{◌≡◌, ◌+◌, ◌<◌, ◌≤◌, rules, arith, sym, subst, ap, length, Some, None, [], ◌∷◌}
 use Rattle.script_core.specs.Words.{lines_of, words_of}
 use Rattle.script_core.specs.Statements.{IsStatement}
-use Rattle.script_core.specs.Scripts.{IsSkipped, IsRefusal, IsLine}
+use Rattle.script_core.specs.Scripts.{IsSkipped, IsScript, IsRefusal, Excludes, IsLine}
 use Rattle.script_core.proofs.FieldLemmas.{handed}
-use Rattle.script_core.proofs.ReadingLemmas.{few_lines, gives_all, gives_skipped, gives_said, gives_end, has_batch, refused, numbered}
+use Rattle.script_core.proofs.ReadingLemmas.{few_lines, gives_all, gives_skipped, gives_said, gives_end, whole_script, has_batch, refused, numbered}
+use Rattle.script_core.proofs.ScriptsOnce.{only_script, no_bad_line, excludes}
+use Rattle.script_core.proofs.PrintsBack.{prints_back}
+use Rattle.script_core.specs.declared.fault.ScriptFault.TheVariants.{TooMany}
 use Rattle.script_core.proofs.reading.read_script.Goals as goal
 
 pub loop-line-init : goal.loop-line-init
@@ -30,6 +33,16 @@ returns-in_err-statement-clause-err c =
     handed (IsRefusal c.args.bytes.now) c.from_residual.result c.in_err-statement.field-0.0 (search rules)
     (refused (c.loop-line.number + 1) goes.before c.in-Some.line.now c.next.new.self c.loop-line.lines c.args.bytes.now c.loop-line.statements.items c.in_err-statement.field-0.0 c.in-Some.ensures
     (c.in_err-statement.ensures.err goes.before goes.tells) goes.gives)
+
+pub returns-in_err-statement-clause-excludes : goal.returns-in_err-statement-clause-excludes
+returns-in_err-statement-clause-excludes c =
+    let goes = c.loop-line.invariant.goes in
+    let text = c.args.bytes.now in
+    let error = c.in_err-statement.field-0.0 in
+    handed (Excludes text) c.from_residual.result error (search rules)
+    (excludes text error
+    (refused (c.loop-line.number + 1) goes.before c.in-Some.line.now c.next.new.self c.loop-line.lines text c.loop-line.statements.items error c.in-Some.ensures
+    (c.in_err-statement.ensures.err goes.before goes.tells) goes.gives))
 
 pub loop-line-preserved-in_default-2 : goal.loop-line-preserved-in_default-2
 loop-line-preserved-in_default-2 c =
@@ -69,14 +82,43 @@ loop-line-preserved c =
       };
     }
 
-pub returns-then-len-gt10000-clause-err : goal.returns-then-len-gt10000-clause-err
-returns-then-len-gt10000-clause-err c =
+pub returns-then-len-gt-MOST_STATEMENTS-clause-err : goal.returns-then-len-gt-MOST_STATEMENTS-clause-err
+returns-then-len-gt-MOST_STATEMENTS-clause-err c =
     let goes = c.loop-line.invariant.goes in
     let reads = gives_end (c.loop-line.number + 1) goes.before c.loop-line.lines (lines_of c.args.bytes.now) c.loop-line.statements.items c.in_default.ensures.0 goes.gives in
-    record { statements = c.loop-line.statements.items; reads = reads; many = search (rules, c.len.ensures, c.if-len-gt10000.true) }
+    record { statements = c.loop-line.statements.items; reads = reads; many = search (rules, c.len.ensures, c.if-len-gt-MOST_STATEMENTS.true) }
+
+pub returns-then-len-gt-MOST_STATEMENTS-clause-excludes : goal.returns-then-len-gt-MOST_STATEMENTS-clause-excludes
+returns-then-len-gt-MOST_STATEMENTS-clause-excludes c =
+    let goes = c.loop-line.invariant.goes in
+    let text = c.args.bytes.now in
+    let reads = gives_end (c.loop-line.number + 1) goes.before c.loop-line.lines (lines_of text) c.loop-line.statements.items c.in_default.ensures.0 goes.gives in
+    excludes text TooMany (record { statements = c.loop-line.statements.items; reads = reads; many = search (rules, c.len.ensures, c.if-len-gt-MOST_STATEMENTS.true) })
 
 pub returns-clause-ok : goal.returns-clause-ok
 returns-clause-ok c =
     let goes = c.loop-line.invariant.goes in
-    let reads = gives_end (c.loop-line.number + 1) goes.before c.loop-line.lines (lines_of c.args.bytes.now) c.loop-line.statements.items c.in_default.ensures.0 goes.gives in
-    rw c.of.ensures (record { reads = reads; few = search (rules, c.len.ensures, c.if-len-gt10000.false) })
+    let is : IsScript c.args.bytes.now c.loop-line.statements.items =
+    whole_script (c.loop-line.number + 1) goes.before c.loop-line.lines c.args.bytes.now c.loop-line.statements.items c.in_default.ensures.0 goes.gives (search (rules, c.len.ensures, c.if-len-gt-MOST_STATEMENTS.false)) in
+    rw c.of.ensures is
+
+pub returns-clause-only : goal.returns-clause-only
+returns-clause-only c =
+    let goes = c.loop-line.invariant.goes in
+    let is : IsScript c.args.bytes.now c.loop-line.statements.items =
+    whole_script (c.loop-line.number + 1) goes.before c.loop-line.lines c.args.bytes.now c.loop-line.statements.items c.in_default.ensures.0 goes.gives (search (rules, c.len.ensures, c.if-len-gt-MOST_STATEMENTS.false)) in
+    rw c.of.ensures (only_script c.args.bytes.now c.loop-line.statements.items is)
+
+pub returns-clause-none_bad : goal.returns-clause-none_bad
+returns-clause-none_bad c =
+    let goes = c.loop-line.invariant.goes in
+    let is : IsScript c.args.bytes.now c.loop-line.statements.items =
+    whole_script (c.loop-line.number + 1) goes.before c.loop-line.lines c.args.bytes.now c.loop-line.statements.items c.in_default.ensures.0 goes.gives (search (rules, c.len.ensures, c.if-len-gt-MOST_STATEMENTS.false)) in
+    no_bad_line c.args.bytes.now c.loop-line.statements.items is
+
+pub returns-clause-prints : goal.returns-clause-prints
+returns-clause-prints c =
+    let goes = c.loop-line.invariant.goes in
+    let is : IsScript c.args.bytes.now c.loop-line.statements.items =
+    whole_script (c.loop-line.number + 1) goes.before c.loop-line.lines c.args.bytes.now c.loop-line.statements.items c.in_default.ensures.0 goes.gives (search (rules, c.len.ensures, c.if-len-gt-MOST_STATEMENTS.false)) in
+    rw c.of.ensures (prints_back c.args.bytes.now c.loop-line.statements.items is)
