@@ -13,3 +13,4 @@ pub mod StatementsOnce
 pub mod ScriptsOnce
 pub mod Joining
 pub mod PrintsBack
+pub mod Ranges

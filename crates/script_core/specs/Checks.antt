@@ -1,5 +1,9 @@
 -- Which statement of a script a store refuses, and why.
-use Rattle.std.specs.Prelude.{◌≡◌, ℕ, ◌+◌, ◌/◌, Bool, ◌==◌, ◌&&◌, nat_lt, nat_le, if◌then◌else◌, List, [], ◌∷◌, length, sum_by, Option, Some, None, is_some, option_map, Result, Ok, Err, MatchOption}
+use Rattle.std.specs.Prelude.{◌≡◌, ℕ, ◌+◌, Bool, ◌==◌, ◌&&◌, nat_lt, nat_le, if◌then◌else◌, List, [], ◌∷◌, length, map, replicate, Option, Some, None, is_some, option_map, Result, Ok, Err, MatchOption, IsTrue, ◌↔◌}
+use Rattle.redo_text.specs.Block.{block_count}
+use Rattle.redo_text.specs.Text.{text_of, IsRange}
+use Rattle.redo_text.specs.declared.change.Change.{Change}
+use Rattle.redo_text.specs.declared.change.Change.TheVariants as redo
 use Rattle.space_head.specs.declared.space.SpaceInfo.{SpaceInfo}
 use Rattle.script_core.specs.declared.act.Act.{Act}
 use Rattle.script_core.specs.declared.act.Act.TheVariants.{Mtr, Read, Sync, Flush, Check, Take, Put, Activate, Encrypt, Rotate, Report}
@@ -41,9 +45,16 @@ page_past space page (Some pages) = if nat_le 1 page && nat_lt page pages then N
 abbrev pub missing_page : List SpaceInfo → ℕ → ℕ → Option Why
 missing_page spaces space page = page_past space page (pages_of spaces space)
 
--- the range is empty, or doesn't lie in bytes 38 to 16376
+-- the range isn't empty, and lies in bytes 38 to 16376
+abbrev pub is_range : ℕ → ℕ → Bool
+is_range at size = nat_le 1 size && (nat_le 38 at && nat_le (at + size) 16376)
+
+-- the test is that of the log's ranges
+abbrev pub TellsRange : ℕ → ℕ → Type 0
+TellsRange at size = IsTrue (is_range at size) ↔ IsRange at size
+
 abbrev pub bad_range : ℕ → ℕ → Option Why
-bad_range at size = if nat_le 1 size && nat_le 38 at && nat_le (at + size) 16376 then None else Some (BadRange at size)
+bad_range at size = if is_range at size then None else Some (BadRange at size)
 
 unfoldable pub space_of : ScriptChange → ℕ
 space_of (change.Put space page at bytes) = space
@@ -70,18 +81,19 @@ change_refusal spaces Range change = range_refusal change
 abbrev pub first_refusal : List SpaceInfo → ChangeCheck → List ScriptChange → Option Why
 first_refusal spaces check changes = first_some (change_refusal spaces check) changes
 
--- how many bytes a change takes in the log
-unfoldable pub change_length : ScriptChange → ℕ
-change_length (change.Put space page at bytes) = 17 + length bytes
-change_length (change.Fill space page at length byte) = 17 + length
-change_length (change.Kind space page kind) = 11
+-- what a change is to the log: a fill is a put of so many bytes of one value
+unfoldable pub log_change : ScriptChange → Change
+log_change (change.Put space page at bytes) = redo.Put space page at bytes
+log_change (change.Fill space page at length byte) = redo.Put space page at (replicate length byte)
+log_change (change.Kind space page kind) = redo.Kind space page kind
 
-abbrev pub text_length : List ScriptChange → ℕ
-text_length changes = sum_by change_length changes
+-- the text of changes in the log
+abbrev pub log_text : List ScriptChange → List ℕ
+log_text changes = text_of (map log_change changes)
 
--- blocks of 4076 bytes, the last of them filled in part
+-- the blocks of that text
 abbrev pub blocks_of : List ScriptChange → ℕ
-blocks_of changes = (text_length changes + 4075) / 4076
+blocks_of changes = block_count (log_text changes)
 
 abbrev pub too_long : List ScriptChange → Option Why
 too_long changes = if nat_le (blocks_of changes) 16 then None else Some (TooLong (blocks_of changes))

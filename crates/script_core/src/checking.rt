@@ -1,5 +1,6 @@
 // Whether a store can run a script.
-ghost use Rattle.std.specs.Prelude.{◌≡◌, ◌≤◌, ◌<◌, ◌^◌, length};
+ghost use Rattle.std.specs.Prelude.{◌≡◌, ◌≤◌, ◌<◌, ◌^◌, ℕ, length};
+ghost use Rattle.redo_text.specs.Text.{change_text};
 ghost use Rattle.script_core.specs.Checks as checks;
 ghost use Rattle.script_core.specs.Checks.{unless_refused};
 
@@ -7,6 +8,18 @@ use crate::act::{Act, ScriptChange, ScriptChanges};
 use crate::fault::{Refused, Why};
 use crate::script::{Script, Statement};
 use space_head::SpaceInfo;
+
+// The first byte of a page's body.
+const BODY_START: u32 = 38;
+
+// The first byte behind it.
+const BODY_END: usize = 16_376;
+
+// How many bytes of a text a block of the log holds.
+const BLOCK_TEXT: u128 = 4_076;
+
+// How many blocks a mini-transaction has at most.
+const MOST_BLOCKS: usize = 16;
 
 // The number of pages of a tablespace.
 fn pages_of(spaces: &[SpaceInfo], space: u32) -> Option<u32>
@@ -40,11 +53,11 @@ fn missing_page(spaces: &[SpaceInfo], space: u32, page: u32) -> Option<Why>
     }
 }
 
-// Bytes 38 to 16376 of a page are its body.
+// A range is one of the body.
 fn bad_range(at: u32, length: usize) -> Option<Why>
     ensures { result ≡ checks.bad_range at length }
 {
-    if 1 <= length && length <= 16_376 && 38 <= at && at as usize <= 16_376 - length {
+    if 1 <= length && length <= BODY_END && BODY_START <= at && at as usize <= BODY_END - length {
         None
     } else {
         Some(Why::BadRange { at, length })
@@ -115,9 +128,9 @@ fn first_refusal(spaces: &[SpaceInfo], check: ChangeCheck, changes: &[ScriptChan
 }
 
 // How many bytes a change takes in the log.
-#[tactic(auto, unfolding(crate::specs::Checks::change_length))]
+#[tactic(auto, unfolding(crate::specs::Checks::log_change))]
 fn change_length(change: &ScriptChange) -> u128
-    ensures length { result ≡ checks.change_length change.now }
+    ensures length { result ≡ length (change_text (checks.log_change change.now)) }
     ensures small { result < 2 ^ 65 }
 {
     match change {
@@ -130,7 +143,7 @@ fn change_length(change: &ScriptChange) -> u128
 // The sum of 64 lengths of 64 bits passes a u64.
 fn text_length(changes: &[ScriptChange]) -> u128
     requires { length changes.now ≤ 64 }
-    ensures length { result ≡ checks.text_length changes.now }
+    ensures length { result ≡ length (checks.log_text changes.now) }
     ensures small { result ≤ 2 ^ 71 }
 {
     let mut sum = 0;
@@ -140,13 +153,12 @@ fn text_length(changes: &[ScriptChange]) -> u128
     sum
 }
 
-// A block of the log holds 4076 bytes, and a mini-transaction has 16 blocks at most.
 fn too_long(changes: &[ScriptChange]) -> Option<Why>
     requires { length changes.now ≤ 64 }
     ensures { result ≡ checks.too_long changes.now }
 {
-    let blocks = text_length(changes).div_ceil(4_076) as usize;
-    if blocks <= 16 {
+    let blocks = text_length(changes).div_ceil(BLOCK_TEXT) as usize;
+    if blocks <= MOST_BLOCKS {
         None
     } else {
         Some(Why::TooLong { blocks })
@@ -252,7 +264,8 @@ fn first_refused(spaces: &[SpaceInfo], running: bool, statements: &[Statement]) 
 /// 16 blocks; `NotInRun`, where it is running, for a statement other than `mtr` and `read`. The rules
 /// are this project's own.
 pub fn check_script(script: &Script, spaces: &[SpaceInfo], running: bool) -> Result<(), Refused>
-    ensures { result ≡ unless_refused (checks.refused_in spaces.now running script.now) }
+    ensures answer { result ≡ unless_refused (checks.refused_in spaces.now running script.now) }
+    ensures ranges { (at : ℕ) (size : ℕ) → checks.TellsRange at size }
 {
     match first_refused(spaces, running, script.statements()) {
         None => Ok(()),

@@ -2,15 +2,16 @@
 //!
 //! What the layers above may rely on:
 //!
-//! 1. [`read_script`] accepts exactly the grammar (`IsScript`), and the statements are the one
-//!    reading of the text (`one_script`). Else it answers the first bad line with the first fault in
-//!    order of its words (`IsFirstBad`), which is one and excludes a reading (`one_first_bad`,
-//!    `script_not_bad`), or [`ScriptFault::TooMany`] where no line is bad and there are more than
-//!    10,000 statements. Want of memory alone is free.
+//! 1. [`read_script`] accepts exactly the grammar (`IsScript`), the statements are the only reading
+//!    of the text (`IsOnlyScript`), and no line is bad. Else it answers the first bad line with the
+//!    first fault in order of its words (`IsFirstBad`), or [`ScriptFault::TooMany`] where no line is
+//!    bad and there are more than 10,000 statements; each of them excludes a reading and the other,
+//!    and no other line or fault is the first (`Excludes`). Want of memory alone is free.
 //! 2. Each script that is accepted, printed by the grammar's own spelling, reads as itself
-//!    (`prints_back`).
+//!    (`printed`).
 //! 3. [`check_script`] answers the first line that a store of these spaces refuses, with its first
-//!    refusal in the stated order (`refused_in`), and takes no memory.
+//!    refusal in the stated order (`refused_in`), and takes no memory. Its blocks are those of the
+//!    changes' text in the log, and its ranges are the log's (`TellsRange`).
 #![tactic(auto)]
 
 mod act;

@@ -308,9 +308,21 @@ fn a_script_is_cut_at_its_statements(rt: HostRuntime) -> Result<(), Fail> {
         return Err(Fail::from("another statement"));
     };
     assert!(rt; *session == 1 && changes.len() == 3);
-    let [ScriptChange::Put { bytes, .. }, ..] = changes.changes() else {
-        return Err(Fail::from("another change"));
+    let [
+        ScriptChange::Put { bytes, .. },
+        ScriptChange::Fill {
+            page,
+            length,
+            byte,
+            ..
+        },
+        ScriptChange::Kind { space, kind, .. },
+    ] = changes.changes()
+    else {
+        return Err(Fail::from("other changes"));
     };
     assert!(rt; bytes.bytes() == [0xaa].as_slice());
+    assert!(rt; *page == 2 && *length == 3 && *byte == 0x41);
+    assert!(rt; *space == 5 && *kind == 10);
     Ok(())
 }
