@@ -21,6 +21,7 @@ fn text(alloc: Global) -> Result<Vec<u8>, AllocError> {
 }
 
 fn in_lanes(rt: &(impl Print + Clock), text: &[u8]) -> Result<u32> {
+    let first = bytes_core::crc32c(text);
     let start = Instant::now(rt)?;
     let sum = bytes_core::crc32c(text);
     let figure = Figure {
@@ -29,10 +30,14 @@ fn in_lanes(rt: &(impl Print + Clock), text: &[u8]) -> Result<u32> {
         time: start.elapsed(rt)?,
     };
     println!(rt; "{figure}")?;
+    if first != sum {
+        bail!("crc32c of one text is {first:08x} and {sum:08x}");
+    }
     Ok(sum)
 }
 
 fn by_eight(rt: &(impl Print + Clock), text: &[u8]) -> Result<u32> {
+    let first = by_eight::crc32c(text);
     let start = Instant::now(rt)?;
     let sum = by_eight::crc32c(text);
     let figure = Figure {
@@ -41,10 +46,14 @@ fn by_eight(rt: &(impl Print + Clock), text: &[u8]) -> Result<u32> {
         time: start.elapsed(rt)?,
     };
     println!(rt; "{figure}")?;
+    if first != sum {
+        bail!("crc32c of one text is {first:08x} and {sum:08x}");
+    }
     Ok(sum)
 }
 
 fn by_one(rt: &(impl Print + Clock), text: &[u8]) -> Result<u32> {
+    let first = by_one::crc32c(text);
     let start = Instant::now(rt)?;
     let sum = by_one::crc32c(text);
     let figure = Figure {
@@ -53,11 +62,14 @@ fn by_one(rt: &(impl Print + Clock), text: &[u8]) -> Result<u32> {
         time: start.elapsed(rt)?,
     };
     println!(rt; "{figure}")?;
+    if first != sum {
+        bail!("crc32c of one text is {first:08x} and {sum:08x}");
+    }
     Ok(sum)
 }
 
 /// Times CRC-32C in three lanes of eight bytes at a time, by eight bytes in one stream and by one byte
-/// at a time, on one text of 64 MiB. It fails where they differ.
+/// at a time, on one text of 64 MiB, each in a second pass over it. It fails where they differ.
 pub fn measure(alloc: Global, rt: &(impl Print + Clock)) -> Result<()> {
     let text = text(alloc)?;
     let lanes = in_lanes(rt, text.as_slice())?;
