@@ -24,6 +24,9 @@ def main():
     if not os.path.exists(wanted):
         print("skipped: no fixtures")
         return 77
+    if not os.path.exists(program):
+        print("skipped: no program built")
+        return 77
     with open(wanted) as file:
         cases = json.load(file)
     tried = failed = 0
