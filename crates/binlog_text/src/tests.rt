@@ -1,4 +1,5 @@
-// The cipher's worked row, and a small ciphered log: as it is, cut, and damaged at each byte.
+// The cipher's worked row, and a small ciphered log: as it is, cut, damaged at each byte, and with a
+// second start encryption.
 
 use crate::{BinlogFault, LogReader, decipher_event, encipher_event};
 use aes_core::BlockKey;
@@ -10,7 +11,11 @@ use std::test::Fail;
 
 const KEY_ONE: [u8; 16] = [0, 1, 2, 3, 4, 5, 6, 7, 8, 9, 10, 11, 12, 13, 14, 15];
 
+const KEY_TWO: [u8; 16] = [7; 16];
+
 const NONCE: [u8; 12] = [0, 1, 2, 3, 4, 5, 6, 7, 8, 9, 10, 11];
+
+const SECOND_NONCE: [u8; 12] = [9; 12];
 
 #[test]
 fn an_event_is_enciphered_and_comes_back(rt: HostRuntime) -> Result<(), Fail> {
@@ -34,13 +39,14 @@ fn an_event_is_enciphered_and_comes_back(rt: HostRuntime) -> Result<(), Fail> {
     Ok(())
 }
 
-// Appends an event with a checksum, enciphered where there is a key.
+// Appends an event with a checksum, enciphered under a nonce where there is a key.
 fn push_event(
     alloc: Global,
     log: &mut Vec<u8>,
     kind: u8,
     body: &[u8],
     key: Option<&BlockKey>,
+    nonce: &[u8; 12],
 ) -> Result<(), AllocError> {
     let length = (body.len() & 0xffff) as u32 + 23;
     let place = (log.len() & 0xffff) as u32;
@@ -54,59 +60,118 @@ fn push_event(
     event.extend_from_slice(&sum.to_le_bytes())?;
     if let Some(key) = key {
         if event.len() >= 19 {
-            encipher_event(key, &NONCE, place, &mut event);
+            encipher_event(key, nonce, place, &mut event);
         }
     }
     log.extend_from_slice(&event)
 }
 
+// The body of a format description with CRC-32.
+fn description() -> [u8; 222] {
+    let mut body = [0u8; 222];
+    body[0] = 4;
+    body[56] = 19;
+    body[221] = 1;
+    body
+}
+
+// The body of a start encryption: scheme 1, version 1, and a nonce.
+fn first_start() -> [u8; 17] {
+    [1, 1, 0, 0, 0, 0, 1, 2, 3, 4, 5, 6, 7, 8, 9, 10, 11]
+}
+
+// The same of version 2.
+fn second_start() -> [u8; 17] {
+    [1, 2, 0, 0, 0, 9, 9, 9, 9, 9, 9, 9, 9, 9, 9, 9, 9]
+}
+
 // A format description at 4, a start encryption at 249, a ciphered stop at 289; 312 bytes.
 fn small_log(alloc: Global) -> Result<Vec<u8>, AllocError> {
     let mut log = Vec::from_slice(alloc, &[0xfe, 0x62, 0x69, 0x6e])?;
-    let mut description = vec![in alloc; 0u8; 222]?;
-    if let Some(byte) = description.get_mut(0) {
-        *byte = 4;
-    }
-    if let Some(byte) = description.get_mut(56) {
-        *byte = 19;
-    }
-    if let Some(byte) = description.get_mut(221) {
-        *byte = 1;
-    }
-    push_event(alloc, &mut log, 15, &description, None)?;
-    let mut start = Vec::from_slice(alloc, &[1, 1, 0, 0, 0])?;
-    start.extend_from_slice(&NONCE)?;
-    push_event(alloc, &mut log, 164, &start, None)?;
-    push_event(alloc, &mut log, 3, &[], BlockKey::new(&KEY_ONE).as_ref())?;
+    push_event(alloc, &mut log, 15, &description(), None, &NONCE)?;
+    push_event(alloc, &mut log, 164, &first_start(), None, &NONCE)?;
+    let key = BlockKey::new(&KEY_ONE);
+    push_event(alloc, &mut log, 3, &[], key.as_ref(), &NONCE)?;
     Ok(log)
 }
 
-// How many events a file has, and how it ends.
+// The small log, in use, with a ciphered start encryption at 312 and a query under its key at 352.
+fn rotated_log(alloc: Global) -> Result<Vec<u8>, AllocError> {
+    let mut log = small_log(alloc)?;
+    let first = BlockKey::new(&KEY_ONE);
+    push_event(
+        alloc,
+        &mut log,
+        164,
+        &second_start(),
+        first.as_ref(),
+        &NONCE,
+    )?;
+    let second = BlockKey::new(&KEY_TWO);
+    push_event(alloc, &mut log, 2, b"query", second.as_ref(), &SECOND_NONCE)?;
+    if let Some(byte) = log.get_mut(21) {
+        *byte = 1;
+    }
+    Ok(log)
+}
+
+// What the view of an event shows.
+#[derive(Drop)]
+struct Row {
+    kind: u8,
+    flags: u16,
+    place: u64,
+    key: Option<u32>,
+    body: Vec<u8>,
+}
+
+// The events of a file, and how it ends.
 fn read_log(
     alloc: Global,
     file: &[u8],
     ring: &Ring,
-) -> Result<(usize, Result<(), BinlogFault>), AllocError> {
+) -> Result<(Vec<Row>, Result<(), BinlogFault>), AllocError> {
+    let mut rows = Vec::new(alloc);
     let mut files = Vec::new(alloc);
     let name = String::from_str(alloc, "log")?;
     let bytes = Vec::from_slice(alloc, file)?;
     files.push((name, bytes)).map_err(AllocError::from)?;
     let mut shelf = Shelf::new(files, Vec::new(alloc));
     let mut reader = LogReader::new(alloc);
-    'events: for count in 0..20 {
+    'events: for _ in 0..20 {
         match reader.next(&mut shelf, "log", ring) {
-            Ok(Some(_)) => {}
-            Ok(None) => return Ok((count, Ok(()))),
-            Err(fault) => return Ok((count, Err(fault))),
+            Ok(Some(view)) => {
+                let row = Row {
+                    kind: view.kind(),
+                    flags: view.flags(),
+                    place: view.place(),
+                    key: view.key(),
+                    body: Vec::from_slice(alloc, view.body())?,
+                };
+                rows.push(row).map_err(AllocError::from)?;
+            }
+            Ok(None) => return Ok((rows, Ok(()))),
+            Err(fault) => return Ok((rows, Err(fault))),
         }
     }
-    Ok((20, Ok(())))
+    Ok((rows, Ok(())))
 }
 
-// The ring with key 1 in version 1.
+// How many events a file has, and how it ends.
+fn count_events(
+    alloc: Global,
+    file: &[u8],
+    ring: &Ring,
+) -> Result<(usize, Result<(), BinlogFault>), AllocError> {
+    let (rows, end) = read_log(alloc, file, ring)?;
+    Ok((rows.len(), end))
+}
+
+// The ring with key 1 in versions 1 and 2.
 fn small_ring(alloc: Global) -> Result<Ring, RingFault> {
     let mut ring = Ring::new(alloc);
     ring.add(1, 1, &KEY_ONE)?;
+    ring.add(1, 2, &KEY_TWO)?;
     Ok(ring)
 }
 
@@ -142,6 +207,37 @@ fn can_give(place: usize, fault: BinlogFault) -> bool {
     }
 }
 
+// Whether the checksum of the event at a place was refused.
+fn is_sum_fault(end: Result<(), BinlogFault>, place: u64) -> bool {
+    match end {
+        Err(BinlogFault::Checksum { at, .. }) => at == place,
+        _ => false,
+    }
+}
+
+#[test]
+fn each_event_shows_its_fields(rt: HostRuntime) -> Result<(), Fail> {
+    let alloc = rt.alloc();
+    let log = rotated_log(alloc)?;
+    let ring = small_ring(alloc)?;
+    let (rows, end) = read_log(alloc, &log, &ring)?;
+    let (format, first, second) = (description(), first_start(), second_start());
+    let table: [(u8, u16, u64, Option<u32>, &[u8]); 5] = [
+        (15, 1, 4, None, &format),
+        (164, 0, 249, None, &first),
+        (3, 0, 289, Some(1), &[]),
+        (164, 0, 312, Some(1), &second),
+        (2, 0, 352, Some(2), b"query"),
+    ];
+    assert!(rt; end.is_ok());
+    assert!(rt; rows.len() == 5);
+    for (row, (kind, flags, place, key, body)) in rows.iter().zip(table) {
+        assert!(rt; row.kind == kind && row.flags == flags && row.place == place);
+        assert!(rt; row.key == key && *row.body == *body);
+    }
+    Ok(())
+}
+
 #[test]
 fn each_front_of_a_log_reads_to_its_end(rt: HostRuntime) -> Result<(), Fail> {
     let alloc = rt.alloc();
@@ -149,11 +245,11 @@ fn each_front_of_a_log_reads_to_its_end(rt: HostRuntime) -> Result<(), Fail> {
     let ring = small_ring(alloc)?;
     for n in 0..313 {
         let front = log.get(..n).ok_or("a front")?;
-        assert!(rt; read_log(alloc, front, &ring)? == end_of_front(n));
+        assert!(rt; count_events(alloc, front, &ring)? == end_of_front(n));
     }
     let empty = Ring::new(alloc);
     let missing = BinlogFault::MissingKey { version: 1 };
-    assert!(rt; read_log(alloc, &log, &empty)? == (2, Err(missing)));
+    assert!(rt; count_events(alloc, &log, &empty)? == (2, Err(missing)));
     Ok(())
 }
 
@@ -167,7 +263,8 @@ fn each_damaged_byte_is_found(rt: HostRuntime) -> Result<(), Fail> {
         if let Some(byte) = damaged.get_mut(place) {
             *byte = !*byte;
         }
-        let (_, end) = read_log(alloc, &damaged, &ring)?;
+        let (count, end) = count_events(alloc, &damaged, &ring)?;
+        assert!(rt; place < 311 || count == 2 && is_sum_fault(end, 289));
         assert!(rt; end.is_err_and(|fault| can_give(place, fault)));
     }
     Ok(())
