@@ -1,5 +1,5 @@
 -- What a reader answers at a stage, and what it rests on at the next.
-use Rattle.std.proofs.Common.{◌≡◌, ℕ, ◌+◌, ◌-◌, ◌≤◌, Bool, true, false, rules, List, [], length, drop, refl, sym, ap, ◌∙◌, subst, arith, length-drop, Option, Some, None, Result, Ok, Err, IfOk, IfSome, unwrap_or}
+use Rattle.std.proofs.Common.{◌≡◌, ℕ, ◌-◌, false, rules, List, [], length, drop, refl, sym, ap, ◌∙◌, subst, arith, length-drop, Option, Some, None, Result, Ok, Err, IfOk, IfSome, unwrap_or}
 use Rattle.std.proofs.lemmas.List.{drop-drop}
 use Rattle.io_core.specs.Files.{Files, bytes_from}
 use Rattle.io_core.specs.Told.{Told}

@@ -1,5 +1,5 @@
 -- What the first bytes of the rest of a file say of it: its header, and its event.
-use Rattle.std.proofs.Common.{◌≡◌, ℕ, ◌+◌, ◌-◌, ◌<◌, ◌≤◌, ◌==◌, min, Bool, true, false, List, length, take, drop, get_or, slice_index, nat_lt, nat_le, zero-add, refl, sym, ap, ◌∙◌, arith, if◌then◌else◌, length-take, length-drop, ⊎_elim, Option, Some, None, Result, Ok, Err}
+use Rattle.std.proofs.Common.{◌≡◌, ℕ, ◌+◌, ◌<◌, ◌≤◌, ◌==◌, min, Bool, false, List, length, take, slice_index, zero-add, refl, sym, ap, ◌∙◌, arith, if◌then◌else◌, ⊎_elim, Option, Some, None, Result, Ok, Err}
 use Rattle.std.proofs.lemmas.Bool.{cases_lt, le-ltb, le-leb, ne_eqb}
 use Rattle.std.proofs.lemmas.List.{take-take, take_all, get_or-take}
 use Rattle.byte_list.specs.Bytes.{range}
@@ -9,7 +9,7 @@ use Rattle.byte_list.proofs.RangeLaws.{range-range}
 use Rattle.key_ring.specs.Ring.{RingEntry}
 use Rattle.binlog_text.specs.Header.{framed, is_bad_length, kind_of, least_stored, length_of, whole, whole_of}
 use Rattle.binlog_text.specs.Held.{IsFront}
-use Rattle.binlog_text.specs.Events.{Found, event_in, is_log, opened, opened_event, taken_event}
+use Rattle.binlog_text.specs.Events.{event_in, is_log, opened, opened_event, taken_event}
 use Rattle.binlog_text.specs.Reading.{Reaches}
 use Rattle.binlog_text.specs.declared.fault.BinlogFault.{BinlogFault}
 use Rattle.binlog_text.specs.declared.fault.BinlogFault.TheVariants.{BadLength, ShortEvent}

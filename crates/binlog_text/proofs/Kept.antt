@@ -1,5 +1,5 @@
 -- The first bytes of the rest of a file, kept and read anew.
-use Rattle.std.proofs.Common.{◌≡◌, ℕ, ◌+◌, ◌<◌, ◌≤◌, ⊎_elim, min, List, [], ◌++◌, length, take, drop, refl, sym, ap, ◌∙◌, arith, length-take, length-drop}
+use Rattle.std.proofs.Common.{◌≡◌, ℕ, ◌+◌, ◌<◌, ◌≤◌, ⊎_elim, min, List, [], length, take, drop, sym, ap, ◌∙◌, arith, length-take, length-drop}
 use Rattle.std.proofs.lemmas.List.{take-take, take_min, drop-take, drop_all}
 use Rattle.std.proofs.lemmas.Bool.{cases_lt}
 use Rattle.io_core.specs.Files.{IsFilled}

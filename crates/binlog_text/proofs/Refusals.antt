@@ -1,6 +1,5 @@
 -- What a refusal of an event that is there isn't, and what is known of a step.
-use Rattle.std.proofs.Common.{◌≡◌, ℕ, Bool, true, false, rules, refl, sym, ◌∙◌, subst, arith, Option, Some, None, Result, Ok, Err, IfOk, IfErr, IfSome}
-use Rattle.cause_core.specs.Counts.{Rose}
+use Rattle.std.proofs.Common.{◌≡◌, ℕ, false, rules, refl, subst, Option, Some, None, Result, Ok, Err, IfOk, IfErr, IfSome}
 use Rattle.binlog_text.specs.Faults.{HasCauses, IsRefusal, is_outside}
 use Rattle.binlog_text.specs.Reading.{is_out}
 use Rattle.binlog_text.specs.declared.fault.BinlogFault.{BinlogFault}

@@ -1,5 +1,5 @@
 -- The first position of a file.
-use Rattle.std.proofs.Common.{◌≡◌, ℕ, ◌≤◌, min, Bool, true, false, rules, List, [], length, drop, refl, sym, ap, ◌∙◌, subst, arith, if◌then◌else◌, Option, Some, None, Result, Ok, Err, unwrap_or}
+use Rattle.std.proofs.Common.{◌≡◌, ℕ, ◌≤◌, min, Bool, true, false, rules, List, [], length, drop, sym, ap, ◌∙◌, subst, arith, if◌then◌else◌, Option, Some, Result, Ok, Err, unwrap_or}
 use Rattle.binlog_text.specs.Held.{IsFront}
 use Rattle.binlog_text.specs.Events.{first_position, is_log, placed}
 use Rattle.binlog_text.specs.Reading.{Holds, Keeps, Starts}

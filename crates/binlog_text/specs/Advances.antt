@@ -1,5 +1,5 @@
 -- What a call of a reader does.
-use Rattle.std.specs.Prelude.{◌≡◌, ◌≤◌, ◌⊎◌, ℕ, max, Bool, false, List, Option, Result, Err, IfOk, IfSome}
+use Rattle.std.specs.Prelude.{◌≡◌, ◌≤◌, ◌⊎◌, ℕ, max, false, List, Option, Result, Err, IfOk, IfSome}
 use Rattle.cause_core.specs.Counts.{Rose}
 use Rattle.io_core.specs.Files.{Files}
 use Rattle.io_core.specs.Told.{Told}

@@ -1,5 +1,5 @@
 -- What a reader holds of the file, and what it answers.
-use Rattle.std.specs.Prelude.{◌≡◌, ◌≤◌, ◌<◌, ℕ, ◌+◌, ◌-◌, ◌^◌, min, Bool, true, false, List, [], length, drop, unwrap_or, if◌then◌else◌, IfOk}
+use Rattle.std.specs.Prelude.{◌≡◌, ◌≤◌, ◌<◌, ℕ, ◌+◌, ◌-◌, ◌^◌, min, Bool, false, List, [], length, drop, unwrap_or, if◌then◌else◌, IfOk}
 use Rattle.std.specs.Prelude.{Option, Some, None, Result, Ok, Err}
 use Rattle.std.specs.Option.{option_map}
 use Rattle.binlog_text.specs.Events.{Event, Found, placed}

@@ -1,4 +1,4 @@
-use Rattle.std.proofs.Common.{◌≡◌, ℕ, ◌≤◌, List, ◌++◌, length, take, drop, sym, ap, ◌∙◌, subst, arith, length-take, length-drop}
+use Rattle.std.proofs.Common.{◌≡◌, ℕ, ◌≤◌, List, length, drop, sym, ap, ◌∙◌, arith, length-drop}
 use Rattle.aes_core.specs.Modes.{cbc_tail, uncbc_tail}
 use Rattle.byte_list.specs.Bytes.{range}
 use Rattle.byte_list.proofs.RangeLaws.{length-range}

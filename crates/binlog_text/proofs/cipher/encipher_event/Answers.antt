@@ -1,6 +1,6 @@
-use Rattle.std.proofs.Common.{◌≡◌, ℕ, List, ◌++◌, length, take, drop, sym, ap, ◌∙◌, arith, length-take}
+use Rattle.std.proofs.Common.{ℕ, List, ◌∙◌, arith}
 use Rattle.aes_core.specs.Modes.{cbc_tail}
-use Rattle.binlog_text.specs.Cipher.{enciphered_event, event_iv, with_length, without_length}
+use Rattle.binlog_text.specs.Cipher.{enciphered_event, with_length}
 use Rattle.binlog_text.proofs.CipherLaws.{behind}
 use Rattle.binlog_text.proofs.cipher.encipher_event.Goals as goal
 

@@ -1,4 +1,4 @@
-use Rattle.std.proofs.Common.{◌≡◌, ℕ, List, ap, ◌∙◌, arith}
+use Rattle.std.proofs.Common.{ℕ, List, ap, ◌∙◌, arith}
 use Rattle.byte_list.specs.Bytes.{put}
 use Rattle.binlog_text.proofs.CipherLaws.{hidden}
 use Rattle.binlog_text.proofs.cipher.hide_length.Goals as goal

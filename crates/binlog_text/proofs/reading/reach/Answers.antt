@@ -1,4 +1,4 @@
-use Rattle.std.proofs.Common.{◌≡◌, ℕ, ◌-◌, ◌≤◌, min, max, List, length, Some, None, Ok, Err, Result, Option, sym, ap, ◌∙◌, arith}
+use Rattle.std.proofs.Common.{◌≡◌, ℕ, ◌≤◌, min, max, List, length, Some, None, Ok, Err, Result, Option, sym, ap, ◌∙◌, arith}
 use Rattle.std.proofs.lemmas.Result.{on_ok_weaker}
 use Rattle.io_core.specs.Files.{bytes_from}
 use Rattle.binlog_text.specs.Header.{framed}

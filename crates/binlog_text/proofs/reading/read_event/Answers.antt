@@ -1,6 +1,6 @@
-use Rattle.std.proofs.Common.{◌≡◌, ℕ, ◌≤◌, max, List, length, IfErr, drop, Ok, true, false, sym, ap, ◌∙◌, subst, arith, inl, inr, ⊎_elim}
+use Rattle.std.proofs.Common.{◌≡◌, ℕ, ◌≤◌, max, List, length, IfErr, drop, Ok, true, false, sym, ap, ◌∙◌, subst, ⊎_elim}
 use Rattle.io_core.specs.Files.{bytes_from}
-use Rattle.binlog_text.specs.Held.{Held, IsFront}
+use Rattle.binlog_text.specs.Held.{Held}
 use Rattle.binlog_text.specs.Faults.{IsRefusal}
 use Rattle.binlog_text.specs.Reading.{due_in}
 use Rattle.binlog_text.proofs.FrontLaws.{event_in-front}

@@ -1,4 +1,4 @@
-use Rattle.std.proofs.Common.{◌-◌, length, arith}
+use Rattle.std.proofs.Common.{◌-◌, arith}
 use Rattle.std.proofs.lemmas.Slice.{drop-put_mid}
 use Rattle.binlog_text.proofs.reading.read_within.Goals as goal
 

@@ -1,6 +1,5 @@
 use Rattle.std.proofs.Common.{◌≡◌, ℕ, ◌+◌, ◌≤◌, List, length, refl, sym, ap, ◌∙◌, subst, arith, length-take}
 use Rattle.binlog_text.specs.Header.{sum_length}
-use Rattle.binlog_text.specs.Events.{step_of}
 use Rattle.binlog_text.specs.Reading.{Moves}
 use Rattle.binlog_text.specs.declared.stage.Step.{Step}
 use Rattle.binlog_text.proofs.reading.take_event.Goals as goal

@@ -1,4 +1,4 @@
-use Rattle.std.proofs.Common.{◌≡◌, ℕ, ◌≤◌, min, List, [], length, drop, false, true, refl, sym, ap, ◌∙◌, arith, unwrap_or, Option, Some}
+use Rattle.std.proofs.Common.{◌≡◌, ℕ, ◌≤◌, List, [], length, drop, refl, sym, ap, ◌∙◌, arith, unwrap_or, Option}
 use Rattle.io_core.specs.Files.{bytes_from}
 use Rattle.io_core.proofs.WholeFiles.{present_file}
 use Rattle.binlog_text.specs.Events.{is_log}

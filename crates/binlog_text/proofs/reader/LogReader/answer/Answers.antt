@@ -1,4 +1,4 @@
-use Rattle.std.proofs.Common.{◌≡◌, ◌∙◌, refl, sym}
+use Rattle.std.proofs.Common.{◌∙◌, refl, sym}
 use Rattle.io_core.proofs.Causes.{told_same}
 use Rattle.binlog_text.proofs.Answered.{answered_event, keeps_next, kept_stage}
 use Rattle.binlog_text.specs.Reading.{due_at}
