@@ -35,6 +35,10 @@ IsLogRefusal log needed (Spent next) = (next ≡ log.next) × (LAST_BLOCK < log.
 IsLogRefusal log needed (LogFull n free) = (log.next + needed ≤ LAST_BLOCK) × (n ≡ needed) × (free ≡ free_of log) × (free_of log < needed)
 IsLogRefusal log needed OutOfMemory = (log.next + needed ≤ LAST_BLOCK) × (needed ≤ free_of log)
 
+-- so many blocks more are within the numbers of blocks and within the ring
+abbrev pub HasRoomFor : LogState → ℕ → Type 0
+HasRoomFor log needed = (log.next + needed ≤ LAST_BLOCK) × (needed ≤ free_of log)
+
 -- these are the bytes of the pending blocks
 abbrev pub HasPending : (ℕ → List ℕ) → LogState → Type 0
 HasPending block log = (j : ℕ) → j < pending_count log → block (durable log + j) ≡ pending_at log j

@@ -5,7 +5,7 @@ ghost use Rattle.redo_text.specs.Block.{block_count};
 ghost use Rattle.redo_text.specs.Reading.{flags_of, is_first};
 ghost use Rattle.redo_text.specs.Text.{text_of, AreAllowed};
 ghost use Rattle.redo_log.specs.Log.{IsOpen, pending_at, pending_count};
-ghost use Rattle.redo_log.specs.Append.{appended, taken_back, IsRedoKey, IsLogRefusal, IsEntry, HasLast};
+ghost use Rattle.redo_log.specs.Append.{appended, taken_back, IsRedoKey, IsLogRefusal, IsEntry, HasLast, HasRoomFor};
 
 use crate::{Log, LogFault};
 use byte_list::fields::be16_at;
@@ -28,6 +28,7 @@ impl Log {
         requires most { block_count (text_of mtr.now) ≤ 16 }
         requires version { 1 ≤ key.now.version }
         ensures lsn { IfOk result (λ lsn. lsn ≡ (self.old.next + block_count (text_of mtr.now)) * 4096) }
+        ensures room { OnOk result (HasRoomFor self.old (block_count (text_of mtr.now))) }
         ensures added { OnOk result (self.new ≡ appended self.old mtr.now key.now) }
         ensures entry { OnOk result (IsEntry self.old self.new mtr.now key.now) }
         ensures last { OnOk result (HasLast self.new (block_count (text_of mtr.now))) }

@@ -42,6 +42,11 @@ invariant_of-self-2 c =
     let b = behind c in
     subst IsOpen b.new_is (appended_open c.args.self.now c.args.mtr.now c.args.key.now b.is (text_some c.args.mtr.now c.requires.some) c.requires.most c.in-Ok.ensures.bytes (c.known_key.ensures) b.each b.spent b.free)
 
+pub returns-clause-room : goal.returns-clause-room
+returns-clause-room c =
+    let b = behind c in
+    (b.spent, b.free)
+
 pub returns-clause-open : goal.returns-clause-open
 returns-clause-open c = invariant_of-self-2 c
 
