@@ -1,5 +1,5 @@
 // The pending blocks are written out: device calls, one to a function.
-ghost use Rattle.std.specs.Prelude.{◌≡◌, ℕ, ◌+◌, ◌*◌, ◌%◌, ◌<◌, ◌≤◌, List, length, OnOk, OnErr};
+ghost use Rattle.std.specs.Prelude.{◌≡◌, ℕ, ◌+◌, ◌*◌, ◌%◌, ◌<◌, ◌≤◌, List, length, OnOk, OnErr, Ok};
 ghost use Rattle.disk_model.specs.Does.{Does};
 ghost use Rattle.disk_model.specs.Event.{Write};
 ghost use Rattle.disk_model.specs.Past.{Past, At, Throughout, MayGrow, IsWrite, grow, HasDiskCause, HasDiskMemoryCause};
@@ -55,6 +55,7 @@ impl Log {
         requires places { At (HasPlaces LogFile (file_layout self.now.blocks)) (D.past disk.old) }
         ensures does { (keys : Keys) (r : RingState) → Fits r self.now → At (RingReady self.now.blocks (redo_form keys) r) (D.past disk.old) → Does (Ringed self.now.blocks (redo_form keys) (more r (pending_count self.now))) (IsBlockEvent self.now) (RingReady self.now.blocks (redo_form keys) (settle r (pending_count self.now))) (D.past disk.old) (D.past disk.new) result }
         ensures places { At (HasPlaces LogFile (file_layout self.now.blocks)) (D.past disk.new) }
+        ensures nothing { pending_count self.now ≡ 0 → (result ≡ Ok tt) × (disk.new ≡ disk.old) }
         ensures exact { OnOk result (D.past disk.new ≡ grows (out_events (pending_count self.now) self.now) (D.past disk.old)) }
         ensures part { OnErr result (IsPart (block_batch self.now) (pending_count self.now) (D.past disk.old) (D.past disk.new)) }
         ensures later { D.is_later disk.old disk.new }
@@ -79,6 +80,7 @@ impl Log {
         ensures stands { (keys : Keys) (r : RingState) (start : ℕ) (journal : List (Logged (List Change))) → Fits r self.old → At (RingReady self.old.blocks (redo_form keys) r) (D.past disk.old) → IsRingJournal self.old.blocks (redo_form keys) r start journal self.old.next → Throughout (AllRingStand self.old.blocks (redo_form keys) (more r (pending_count self.old)) start journal self.old.next) (D.past disk.old) (D.past disk.new) }
         ensures does { (keys : Keys) (r : RingState) → Fits r self.old → At (RingReady self.old.blocks (redo_form keys) r) (D.past disk.old) → Does (Ringed self.old.blocks (redo_form keys) (more r (pending_count self.old))) (IsBlockEvent self.old) (RingReady self.old.blocks (redo_form keys) (settle r (pending_count self.old))) (D.past disk.old) (D.past disk.new) result }
         ensures fits { OnOk result ((r : RingState) → Fits r self.old → Fits (settle r (pending_count self.old)) self.new) }
+        ensures nothing { pending_count self.old ≡ 0 → (result ≡ Ok tt) × (disk.new ≡ disk.old) }
         ensures exact { OnOk result (D.past disk.new ≡ grows (out_events (pending_count self.old) self.old) (D.past disk.old)) }
         ensures part { OnErr result (IsPart (block_batch self.old) (pending_count self.old) (D.past disk.old) (D.past disk.new)) }
         ensures given_up { OnOk result (self.new ≡ written_out self.old) }
