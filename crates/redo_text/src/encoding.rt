@@ -3,7 +3,6 @@ ghost use Rattle.std.specs.Prelude.{◌≡◌, ◌+◌, ◌*◌, ◌∷◌, ◌+
 ghost use Rattle.std.specs.Int.{to_be_bytes, w32};
 ghost use Rattle.byte_list.specs.Bytes.{AreBytes};
 ghost use Rattle.redo_text.specs.declared.change.Change.{Change};
-ghost use Rattle.redo_text.specs.declared.key.TheConstants.{LAST_BLOCK};
 ghost use Rattle.redo_text.specs.Block.{AreOf, block_count, blocks, nth_block};
 ghost use Rattle.redo_text.specs.Text.{change_text, text_of, IsAllowed, AreAllowed};
 
@@ -112,7 +111,7 @@ pub fn mtr_blocks(mtr: &Mtr) -> usize
 
 // The blocks of a text, the first of them of this number.
 fn blocks_of(alloc: Global, text: &[u8], first: u64, key: &RedoKey) -> Result<Vec<u8>, AllocError>
-    requires { first + block_count text.now ≤ LAST_BLOCK }
+    requires { first + block_count text.now ≤ 2 ^ 50 }
     ensures value { IfOk result (λ v. v.items ≡ blocks key.now first text.now) }
     ensures each { IfOk result (λ v. AreOf 4096 (nth_block key.now first text.now) (block_count text.now)) }
 {
@@ -124,7 +123,8 @@ fn blocks_of(alloc: Global, text: &[u8], first: u64, key: &RedoKey) -> Result<Ve
 
 /// The blocks of a mini-transaction, the first of them of this number: 4096 bytes each, the bodies
 /// ciphered under the key. The mini-transaction must not be empty, its changes must be ones that the
-/// format allows, and the blocks must stay below [`LAST_BLOCK`](crate::LAST_BLOCK).
+/// format allows, and the number behind its last block must be at most 2^50. Where a log ends, at
+/// [`LAST_BLOCK`](crate::LAST_BLOCK), is the log's to say.
 ///
 /// # Errors
 /// Want of memory alone.
@@ -133,7 +133,7 @@ pub fn encode(alloc: Global, mtr: &Mtr, first: u64, key: &RedoKey) -> Result<Vec
     requires allowed { AreAllowed mtr.now }
     requires version { 1 ≤ key.now.version }
     requires first { 2 ≤ first }
-    requires last { first + block_count (text_of mtr.now) ≤ LAST_BLOCK }
+    requires last { first + block_count (text_of mtr.now) ≤ 2 ^ 50 }
     ensures blocks { IfOk result (λ v. v.items ≡ blocks key.now first (text_of mtr.now)) }
     // Each of them has 4096 bytes.
     ensures each { IfOk result (λ v. AreOf 4096 (nth_block key.now first (text_of mtr.now)) (block_count (text_of mtr.now))) }
