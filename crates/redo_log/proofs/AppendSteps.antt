@@ -5,6 +5,7 @@ use Rattle.std.proofs.lemmas.Bool.{cases_lt}
 use Rattle.std.proofs.lemmas.Bool.Decides.{nat_tests}
 use Rattle.std.proofs.lemmas.List.{drop_all, drop-append-le, take-append-le, take-append-drop, length-take-le}
 use Rattle.std.proofs.Math.Seq.{drop-append-add}
+use Rattle.aes_core.specs.declared.algorithm.Algorithm.{Algorithm}
 use Rattle.byte_list.specs.Bytes.{AreBytes, range}
 use Rattle.byte_list.proofs.RangeLaws.{split_off}
 use Rattle.places.specs.Places.{place}
@@ -17,7 +18,10 @@ use Rattle.redo_text.proofs.BlockLoop.{length-joined, range-joined}
 use Rattle.redo_text.specs.Reading.{reading, version_of, used_of, flags_of, is_first, is_last, clear_body}
 use Rattle.redo_text.specs.Text.{text_of, AreAllowed}
 use Rattle.redo_log.specs.State.{LogState}
-use Rattle.redo_log.specs.Blocks.{Keys, HoldText, is_block, redo_form}
+use Rattle.crash_image.specs.LogForm.{AreTexts}
+use Rattle.key_ring.specs.Local.{local_key}
+use Rattle.store_files.specs.RingBlock.{is_ring_block, block_text}
+use Rattle.redo_log.specs.Blocks.{Keys, IsStoreKey, redo_form}
 use Rattle.redo_log.specs.Log.{IsOpen, durable, free_of, pending_at, pending_count}
 use Rattle.redo_log.specs.Append.{appended, logged_entry, taken_back, IsEntry, HasLast, HasPending}
 use Rattle.redo_log.specs.Append.{IsRedoKey}
@@ -28,10 +32,6 @@ eq_true a b is = grind (arith, nat_tests)
 
 eq_false : (a b : ℕ) → a ≢ b → nat_eq a b ≡ false
 eq_false a b is = grind (arith, nat_tests)
-
-pub valid_nth : (n : ℕ) (b : List ℕ) → reading n b ≡ Ok tt → is_block n b ≡ true
-unfolding is_block
-valid_nth n b is = ap is_ok is
 
 -- places of a list, with other bytes before or behind them
 pub place_front : (j : ℕ) (a b : List ℕ) → j * 4096 + 4096 ≤ length a → place 4096 j (a ++ b) ≡ place 4096 j a
@@ -46,7 +46,7 @@ module _ (key : RedoKey) (number : ℕ) (text : List ℕ) (some : 0 < length tex
   abbrev count : ℕ
   count = block_count text
 
-  module _ (N : ℕ) (keys : Keys) (has : keys key.version ≡ Some key) (block : ℕ → List ℕ) (reads : (j : ℕ) → j < count → block (number + j) ≡ at j) where
+  module _ (N : ℕ) (keys : Keys) (has : IsStoreKey keys key) (block : ℕ → List ℕ) (reads : (j : ℕ) → j < count → block (number + j) ≡ at j) where
     read_back : (m : ℕ) → number ≤ m → m < number + count → (j : ℕ) × (j < count) × (number + j ≡ m) × (block m ≡ at j)
     read_back m low high =
         let e : number + (m - number) ≡ m = omega (arith, low) in
@@ -63,7 +63,7 @@ module _ (key : RedoKey) (number : ℕ) (text : List ℕ) (some : 0 < length tex
     whole = record {
       some = omega (arith, some);
       most = omega (arith, few);
-      valid = λ m low high. let r = read_back m low high in subst (λ (n : ℕ). is_block n (block m) ≡ true) r.2 (ap (is_block (number + r.0)) r.3 ∙ valid_nth (number + r.0) (at r.0) (nth r.0 r.1).valid);
+      valid = λ m low high. let r = read_back m low high in subst (λ (n : ℕ). is_ring_block n (block m) ≡ true) r.2 (ap (is_ring_block (number + r.0)) r.3 ∙ (nth r.0 r.1).valid);
       first = let r = read_back number (omega arith) (omega (arith, some)) in ap (λ (b : List ℕ). is_first (flags_of b)) r.3 ∙ first_at r.0 r.1 ∙ eq_true r.0 0 (omega (arith, r.2));
       others = λ m gt high. let r = read_back m (omega (arith, gt)) high in ap (λ (b : List ℕ). is_first (flags_of b)) r.3 ∙ first_at r.0 r.1 ∙ eq_false r.0 0 (λ e. omega (arith, e, r.2, gt));
       before = λ m low high. let r = read_back m low (omega (arith, high)) in ap (λ (b : List ℕ). is_last (flags_of b)) r.3 ∙ last_at r.0 r.1 ∙ eq_false (r.0 + 1) count (λ e. omega (arith, e, r.2, high));
@@ -72,7 +72,7 @@ module _ (key : RedoKey) (number : ℕ) (text : List ℕ) (some : 0 < length tex
           ap (λ (b : List ℕ). is_last (flags_of b)) r.3 ∙ last_at r.0 r.1 ∙ eq_true (r.0 + 1) count (omega (arith, r.2, is));
     }
 
-    texts_from : (r j : ℕ) → j + r ≡ count → HoldText keys (listed_blocks N (redo_form keys) block (number + j) r) (drop (4076 * j) text)
+    texts_from : (r j : ℕ) → j + r ≡ count → AreTexts keys.header keys.ring (listed_blocks N (redo_form keys) block (number + j) r) (drop (4076 * j) text)
     texts_from zero j is = drop_all (4076 * j) text (omega (arith, is))
     texts_from (suc r) j is =
         let lt : j < count = omega (arith, is) in
@@ -80,17 +80,19 @@ module _ (key : RedoKey) (number : ℕ) (text : List ℕ) (some : 0 < length tex
         let here = reads j lt in
         let on : number + j + 1 ≡ number + (j + 1) = omega arith in
         let e : 4076 * j + 4076 ≡ 4076 * (j + 1) = omega arith in (
-          key,
+          key.local,
           drop (4076 * (j + 1)) text,
-          ap (λ (b : List ℕ). keys (version_of b)) here ∙ ap keys n.version ∙ has,
-          split_off (4076 * j) 4076 text ∙ ap (λ (l : List ℕ). l ++ drop (4076 * j + 4076) text) (sym n.text_is ∙ ap (λ (b : List ℕ). take (used_of b) (clear_body key b)) (sym here)) ∙ ap (λ (k : ℕ). take (used_of (block (number + j))) (clear_body key (block (number + j))) ++ drop k text) e,
-          subst (λ (i : ℕ). HoldText keys (listed_blocks N (redo_form keys) block i r) (drop (4076 * (j + 1)) text)) (sym on) (texts_from r (j + 1) (omega (arith, is))),
+          ap (λ (b : List ℕ). local_key keys.ring 1 (version_of b) keys.header.salt) here ∙ ap (λ (v : ℕ). local_key keys.ring 1 v keys.header.salt) n.version ∙ has.local,
+          subst (λ (i : ℕ). AreTexts keys.header keys.ring (listed_blocks N (redo_form keys) block i r) (drop (4076 * (j + 1)) text)) (sym on) (texts_from r (j + 1) (omega (arith, is))),
+          split_off (4076 * j) 4076 text
+              ∙ ap (λ (l : List ℕ). l ++ drop (4076 * j + 4076) text) (sym n.text_is ∙ ap (λ (a : Algorithm). block_text a key.local (at j)) has.algorithm ∙ ap (λ (b : List ℕ). block_text keys.header.algorithm key.local b) (sym here))
+              ∙ ap (λ (k : ℕ). block_text keys.header.algorithm key.local (block (number + j)) ++ drop k text) e,
         )
 
-    pub texts : HoldText keys (listed_blocks N (redo_form keys) block number count) text
+    pub texts : AreTexts keys.header keys.ring (listed_blocks N (redo_form keys) block number count) text
     texts =
         let e : number + 0 ≡ number = omega arith in
-        subst (λ (i : ℕ). HoldText keys (listed_blocks N (redo_form keys) block i count) text) e (texts_from count 0 (omega arith))
+        subst (λ (i : ℕ). AreTexts keys.header keys.ring (listed_blocks N (redo_form keys) block i count) text) e (texts_from count 0 (omega arith))
 
 -- A log to which a mini-transaction was appended.
 module _ (old : LogState) (mtr : List Change) (key : RedoKey) (is : IsOpen old) (some : 0 < length (text_of mtr)) (few : block_count (text_of mtr) ≤ 16) (bytes : AreBytes (text_of mtr)) (keyed : IsRedoKey key) (each : AreOf 4096 (nth_block key old.next (text_of mtr)) (block_count (text_of mtr)))
@@ -144,22 +146,22 @@ module _ (old : LogState) (mtr : List Change) (key : RedoKey) (is : IsOpen old) 
     order = let a = is.order in omega (arith, total);
     room = let a = is.order in let b = is.room in omega (arith, free);
     whole = let w = is.whole in let l = length-append old.pending more in omega (arith, long, w, l, total);
-    valid = λ j lt. ⊎_elim (λ (b : j < pending_count old). ap (is_block (durable new + j)) (front_at j b) ∙ ap (λ (d : ℕ). is_block (d + j) (pending_at old j)) same_durable ∙ is.valid j b)
+    valid = λ j lt. ⊎_elim (λ (b : j < pending_count old). ap (is_ring_block (durable new + j)) (front_at j b) ∙ ap (λ (d : ℕ). is_ring_block (d + j) (pending_at old j)) same_durable ∙ is.valid j b)
         (λ (ge : pending_count old ≤ j). behind j (j - pending_count old) (omega (arith, ge)) (omega (arith, ge, lt, total))) (cases_lt j (pending_count old));
   }
     where
-      behind : (j i : ℕ) → j ≡ pending_count old + i → i < needed → is_block (durable new + j) (pending_at new j) ≡ true
+      behind : (j i : ℕ) → j ≡ pending_count old + i → i < needed → is_ring_block (durable new + j) (pending_at new j) ≡ true
       behind j i e lt =
           let a = is.order in
           let number : durable new + (pending_count old + i) ≡ old.next + i = omega (arith, same_durable) in
-          subst (λ (k : ℕ). is_block (durable new + k) (pending_at new k) ≡ true) (sym e)
-          (ap (is_block (durable new + (pending_count old + i))) (back_at i) ∙ ap (λ (n : ℕ). is_block n (at i)) number ∙ valid_nth (old.next + i) (at i) (nth i lt).valid)
+          subst (λ (k : ℕ). is_ring_block (durable new + k) (pending_at new k) ≡ true) (sym e)
+          (ap (is_ring_block (durable new + (pending_count old + i))) (back_at i) ∙ ap (λ (n : ℕ). is_ring_block n (at i)) number ∙ (nth i lt).valid)
 
   pub appended_entry : AreAllowed mtr → IsEntry old new mtr key
   appended_entry allowed keys has block pending = (
     needed,
     whole key old.next (text_of mtr) some few at nth old.blocks keys has block reads,
-    (allowed, texts key old.next (text_of mtr) some few at nth old.blocks keys has block reads),
+    (text_of mtr, texts key old.next (text_of mtr) some few at nth old.blocks keys has block reads, record { is = refl; allowed = allowed }),
     refl,
     refl,
     refl,
@@ -213,7 +215,7 @@ module _ (old : LogState) (k : ℕ) (is : IsOpen old) (few : k ≤ pending_count
     room = let a = is.room in omega arith;
     whole = omega (arith, kept_long);
     valid = λ j lt. let b : j < left = omega (arith, lt, kept_count) in
-        ap (is_block (durable (taken_back old k) + j)) (kept_at j b) ∙ ap (λ (d : ℕ). is_block (d + j) (pending_at old j)) kept_durable ∙ is.valid j (omega (arith, b));
+        ap (is_ring_block (durable (taken_back old k) + j)) (kept_at j b) ∙ ap (λ (d : ℕ). is_ring_block (d + j) (pending_at old j)) kept_durable ∙ is.valid j (omega (arith, b));
   }
 
 -- a mini-transaction has a text

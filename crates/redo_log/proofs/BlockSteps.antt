@@ -18,7 +18,8 @@ use Rattle.ring_log.proofs.Numbers.{one_remainder}
 use Rattle.ring_log.proofs.Events.{ready_writing, ready_settled}
 use Rattle.byte_list.proofs.RangeLaws.{length-range}
 use Rattle.redo_log.specs.State.{LogState}
-use Rattle.redo_log.specs.Blocks.{Keys, is_block, redo_form, file_layout}
+use Rattle.store_files.specs.RingBlock.{is_ring_block}
+use Rattle.redo_log.specs.Blocks.{Keys, redo_form, file_layout}
 use Rattle.redo_log.specs.Log.{IsOpen, durable, pending_at, pending_count, Fits}
 use Rattle.redo_log.specs.Events.{block_batch, BlocksWriting, BlocksWrote, BlocksSettled, IsBlockEvent}
 use Rattle.redo_log.proofs.FormLaws.{form_laws, torn_block}
@@ -61,7 +62,7 @@ module _ (log : LogState) where
   block_next i more is = record {
     within = let least = is.least in omega arith;
     long = long_at is i more;
-    refused = torn_block (durable log + i) (pending_at log i) (long_at is i more) (is.valid i more);
+    refused = torn_block (durable log + i) (pending_at log i) (is.valid i more);
     differ = λ j lt same. apart j lt same;
   }
     where
@@ -115,8 +116,8 @@ module _ (log : LogState) where
       valid = λ n fn lt. ⊎_elim (λ (b : n < r.written). a.valid n fn b) (λ (ge : r.written ≤ n). here n (n - r.written) (omega (arith, ge)) (omega (arith, ge, lt))) (cases_lt n r.written);
     }
       where
-        here : (n j : ℕ) → n ≡ r.written + j → j < total → is_block n (r.block n) ≡ true
-        here n j e lt = subst (λ (i : ℕ). is_block i (r.block i) ≡ true) (sym e) (ap (is_block (r.written + j)) (fits.blocks j lt) ∙ ap (λ (d : ℕ). is_block (d + j) (pending_at log j)) fits.written ∙ is.valid j lt)
+        here : (n j : ℕ) → n ≡ r.written + j → j < total → is_ring_block n (r.block n) ≡ true
+        here n j e lt = subst (λ (i : ℕ). is_ring_block i (r.block i) ≡ true) (sym e) (ap (is_ring_block (r.written + j)) (fits.blocks j lt) ∙ ap (λ (d : ℕ). is_ring_block (d + j) (pending_at log j)) fits.written ∙ is.valid j lt)
 
     pub ring_settle : r.written ≡ r.settled → IsRingState log.blocks F r → IsRingState log.blocks F (settle r total)
     ring_settle all a =

@@ -2,11 +2,28 @@
 use Rattle.std.proofs.Common.{◌≡◌, ℕ, ◌+◌, List, [], ◌++◌, length, take, drop, refl, sym, ap, ◌∙◌, arith, length-append, length-drop, append_assoc}
 use Rattle.std.proofs.lemmas.List.{take_at, drop_all, append-nil, length-replicate}
 use Rattle.std.proofs.Math.Seq.{drop-append-add}
-use Rattle.std.specs.Int.{to_be_bytes, w32}
+use Rattle.std.specs.Int.{to_be_bytes, w32, w64}
+use Rattle.std.specs.Prelude.{codes}
 use Rattle.bytes_core.specs.Crc.{crc32c}
 use Rattle.byte_list.specs.Bytes.{put, zeros}
 use Rattle.byte_list.proofs.RangeLaws.{length-zeros}
-use Rattle.redo_log.specs.Check.{check_words, check_front, check_bytes}
+use Rattle.store_files.specs.Checkpoint.{checkpoint_front, checkpoint_bytes}
+use Rattle.store_image.specs.Checkpoint.{Checkpoint}
+use Rattle.redo_log.specs.Check.{check_words, check_bytes}
+
+-- the bytes before the checksum, as they are written
+unfoldable pub check_front : ℕ → ℕ → List ℕ
+check_front sequence from = check_words sequence from ++ zeros 4068
+
+front_is : (sequence from : ℕ) → check_front sequence from ≡ checkpoint_front (record { sequence = sequence; from = from })
+unfolding check_front check_words checkpoint_front
+front_is sequence from =
+    append_assoc (codes "KEYCHK01") (to_be_bytes w64 sequence ++ to_be_bytes w64 from) (zeros 4068)
+    ∙ ap (λ (l : List ℕ). codes "KEYCHK01" ++ l) (append_assoc (to_be_bytes w64 sequence) (to_be_bytes w64 from) (zeros 4068))
+
+pub check_sealed : (sequence from : ℕ) → check_bytes sequence from ≡ check_front sequence from ++ to_be_bytes w32 (crc32c (check_front sequence from))
+unfolding checkpoint_bytes
+check_sealed sequence from = ap (λ (l : List ℕ). l ++ to_be_bytes w32 (crc32c l)) (sym (front_is sequence from))
 
 -- a part behind what is there
 put_next : (at : ℕ) (a b y : List ℕ) → length a ≡ at → put at b (a ++ y) ≡ a ++ (b ++ drop (length b) y)
@@ -20,7 +37,7 @@ length-words : (sequence from : ℕ) → length (check_words sequence from) ≡ 
 unfolding check_words
 length-words sequence from = refl
 
-length-check_front : (sequence from : ℕ) → length (check_front sequence from) ≡ 4092
+pub length-check_front : (sequence from : ℕ) → length (check_front sequence from) ≡ 4092
 unfolding check_front
 length-check_front sequence from = omega (arith, length-append (check_words sequence from) (zeros 4068), length-words sequence from, length-zeros 4068)
 
@@ -41,7 +58,6 @@ check_read sequence from x =
 
 -- and the checksum behind them
 pub check_built : (sequence from : ℕ) (x : List ℕ) → length x ≡ 4096 → put 4092 (to_be_bytes w32 (crc32c (check_front sequence from))) (put 24 (zeros 4068) (put 0 (check_words sequence from) x)) ≡ check_bytes sequence from
-unfolding check_bytes
 check_built sequence from x size =
     let front = check_front sequence from in
     let sum = to_be_bytes w32 (crc32c front) in
@@ -52,3 +68,4 @@ check_built sequence from x size =
     ∙ put_next 4092 front sum rest (length-check_front sequence from)
     ∙ ap (λ (l : List ℕ). front ++ (sum ++ l)) none
     ∙ ap (λ (l : List ℕ). front ++ l) (append-nil sum)
+    ∙ sym (check_sealed sequence from)

@@ -18,7 +18,8 @@ use Rattle.ring_log.proofs.Events.{ready_checking, ready_checked}
 use Rattle.redo_text.specs.declared.change.Change.{Change}
 use Rattle.redo_log.specs.State.{LogState}
 use Rattle.redo_log.specs.Blocks.{Keys, redo_form, file_layout}
-use Rattle.redo_log.specs.Check.{check_bytes, checkpoint_read}
+use Rattle.store_files.specs.Checkpoint.{checkpoint_in}
+use Rattle.redo_log.specs.Check.{check_bytes}
 use Rattle.redo_log.specs.Log.{IsOpen, durable, checked, Fits}
 use Rattle.redo_log.specs.Events.{side_batch, CheckWriting, CheckWrote, CheckSettled, IsCheckEvent, check_event}
 use Rattle.redo_log.proofs.CheckLaws.{length-check, made_check, torn_check}
@@ -93,11 +94,11 @@ module _ (keys : Keys) (log : LogState) (r : RingState) (is : IsOpen log) (fits 
     place_same : (j : ℕ) → j < 1 → (side_batch (log.sequence + 1) f).place j ≡ (check_batch r (check_bytes (log.sequence + 1) f)).place j
     place_same j lt = ap (λ (s : ℕ). 1 + (s + 1) % 2) (sym fits.sequence)
 
-    check_is : checkpoint_read (side_of (r.sequence + 1)) (check_bytes (log.sequence + 1) f) ≡ Some (record { sequence = r.sequence + 1; from = f })
+    check_is : checkpoint_in (side_of (r.sequence + 1)) (check_bytes (log.sequence + 1) f) ≡ Some (record { sequence = r.sequence + 1; from = f })
     check_is =
         let below = is.below in
         let next = is.high in
-        ap (λ (s : ℕ). checkpoint_read (side_of (r.sequence + 1)) (check_bytes (s + 1) f)) (sym fits.sequence)
+        ap (λ (s : ℕ). checkpoint_in (side_of (r.sequence + 1)) (check_bytes (s + 1) f)) (sym fits.sequence)
         ∙ made_check (r.sequence + 1) f (omega arith) (let sequence = fits.sequence in omega arith) (omega arith)
 
     pub to_checking : (s m : List Event) → RingReady N F r s → CheckWriting N (log.sequence + 1) f s m → Ringed N F (checking r f) m

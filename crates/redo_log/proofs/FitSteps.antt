@@ -4,7 +4,6 @@ use Rattle.std.proofs.lemmas.Bool.Decides.{nat_tests}
 use Rattle.ring_log.specs.Ring.{RingState}
 use Rattle.ring_log.specs.Batches.{settle, checkpointed}
 use Rattle.redo_log.specs.State.{LogState}
-use Rattle.redo_log.specs.Blocks.{is_block}
 use Rattle.redo_log.specs.Log.{IsOpen, durable, pending_at, pending_count, empty_log, written_out, with_checkpoint, checked, Fits}
 use Rattle.redo_log.proofs.CheckSteps.{checked_same, checked_other}
 

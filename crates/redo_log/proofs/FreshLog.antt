@@ -12,11 +12,11 @@ use Rattle.places.proofs.Steps.{places_make}
 use Rattle.ring_log.specs.Ring.{Form, place_in_ring, HasNoBlockFrom, IsBehind, IsSynced, IsOther, RingReady}
 use Rattle.ring_log.proofs.RingSteps.{none_some}
 use Rattle.redo_text.specs.declared.change.Change.{Change}
+use Rattle.store_files.proofs.RingBlocks.{block_number}
 use Rattle.redo_log.specs.Blocks.{Keys, redo_form, file_layout}
 use Rattle.redo_log.specs.Events.{CheckSettled}
 use Rattle.redo_log.specs.Fresh.{IsFresh, fresh_ring}
 use Rattle.redo_log.proofs.CheckLaws.{check_is, checkpoint_is, made_check}
-use Rattle.redo_log.proofs.FormLaws.{block_is}
 
 length-zeros : (n : ℕ) → length (zeros n) ≡ n
 unfolding zeros
@@ -56,7 +56,7 @@ module _ (keys : Keys) (blocks : ℕ) (least : 32 ≤ blocks) (s m : List Event)
   others i ne x may = t.settled i x may ∙ ap (λ (l : List ℕ). Some l) (t.wrote.old i (λ j lt. ne) ∙ made.shows i)
 
   none_there : (n i : ℕ) → 2 ≤ n → i < 3 + blocks → HasNoBlockFrom blocks (redo_form keys) n (zero_place i)
-  none_there n i low lt m le is = let p = (block_is m (zero_place i) is).number in omega (arith, p, first_zero i lt, le, low)
+  none_there n i low lt m le is = let p = block_number m (zero_place i) is in omega (arith, p, first_zero i lt, le, low)
 
   pub fresh_ready : RingReady blocks (redo_form keys) (fresh_ring blocks) m
   fresh_ready = record {

@@ -18,47 +18,18 @@ use Rattle.redo_text.specs.Block.{block_count, filled, log_iv, nth_block, ring_b
 use Rattle.redo_text.specs.Reading.{reading, version_of, used_of, flags_of, body_of, is_first, is_last, clear_body}
 use Rattle.redo_text.proofs.BlockFields.{body_is, number_is, filled_bytes}
 use Rattle.redo_text.proofs.BlockTaken.{taken}
+use Rattle.store_files.specs.RingBlock.{is_ring_block, block_text}
+use Rattle.store_files.proofs.RingBlocks.{ring_block_back, ring_block_text}
 use Rattle.redo_log.specs.Append.{IsRedoKey}
 use Rattle.redo_log.proofs.SumLaws.{of_eq}
 
--- what was enciphered comes back
-deciphered-ciphered : (a : Algorithm) (key iv p : List ℕ) → IsCipherKey key → IsSixteen iv → AreBytes p → deciphered a key iv (ciphered a key iv p) ≡ p
-deciphered-ciphered Cbc key iv p k v bytes = cbc_undone key iv k v p bytes
-deciphered-ciphered Ctr key iv p k v bytes = ctr_twice key iv p (stream_blocks key iv k (whole_blocks p + 1))
-
-iv_sixteen : (number : ℕ) → IsSixteen (log_iv number)
-unfolding log_iv
-iv_sixteen number = record {
-  long = refl;
-  bytes = bytes_append (to_le_bytes w32 0xFFFFFFF0) (to_le_bytes w32 0 ++ to_le_bytes w64 number) (four 0xFFFFFFF0) (bytes_append (to_le_bytes w32 0) (to_le_bytes w64 number) (four 0) eight);
-}
-  where
-    four : (n : ℕ) → AreBytes (to_le_bytes w32 n)
-    four n = bytes_made (λ k. byte_at k n) (λ k. byte_at-lt k n) (0 ∷ 1 ∷ 2 ∷ 3 ∷ [])
-
-    eight : AreBytes (to_le_bytes w64 number)
-    eight = bytes_made (λ k. byte_at k number) (λ k. byte_at-lt k number) (0 ∷ 1 ∷ 2 ∷ 3 ∷ 4 ∷ 5 ∷ 6 ∷ 7 ∷ [])
-
 -- block k of a text
 pub record IsNth (key : RedoKey) (first : ℕ) (text : List ℕ) (k : ℕ) (b : List ℕ) : Type 0 where
-  pub valid : reading (first + k) b ≡ Ok tt
+  pub valid : is_ring_block (first + k) b ≡ true
   pub version : version_of b ≡ key.version
   pub first_is : is_first (flags_of b) ≡ nat_eq k 0
   pub last_is : is_last (flags_of b) ≡ nat_eq (k + 1) (block_count text)
-  pub text_is : take (used_of b) (clear_body key b) ≡ text_part text k
-
--- the text of a block, once it is deciphered
-clear_text : (key : RedoKey) → IsRedoKey key → (number : ℕ) (first last : Bool) (text : List ℕ) → AreBytes text → number < 2 ^ 64 → length (ring_block key number first last text) ≡ 4096
-    → used_of (ring_block key number first last text) ≡ length text → take (used_of (ring_block key number first last text)) (clear_body key (ring_block key number first last text)) ≡ text
-clear_text key keyed number first last text bytes small long used =
-    let block : List ℕ = ring_block key number first last text in
-    let alg = key.algorithm in
-    let k = key.local in
-    ap (λ (n : ℕ). take n (clear_body key block)) used
-    ∙ ap (λ (n : ℕ). take (length text) (deciphered alg k (log_iv n) (body_of block))) (number_is key number first last text block long refl small)
-    ∙ ap (λ (l : List ℕ). take (length text) (deciphered alg k (log_iv number) l)) (body_is key number first last text block long refl)
-    ∙ ap (λ (l : List ℕ). take (length text) l) (deciphered-ciphered alg k (log_iv number) (filled text) keyed.cipher (iv_sixteen number) (filled_bytes text bytes))
-    ∙ take_at text (zeros (4076 - length text)) (length text) refl
+  pub text_is : block_text key.algorithm key.local b ≡ text_part text k
 
 part_long : (text : List ℕ) (k : ℕ) → k < block_count text → (1 ≤ length (text_part text k)) × (length (text_part text k) ≤ 4076) × (nat_eq (k + 1) (block_count text) ≡ false → length (text_part text k) ≡ 4076)
 part_long text k lt = ⊎_elim
@@ -90,11 +61,12 @@ nth_is key keyed first text bytes small k lt long =
     let part : List ℕ = text_part text k in
     let p = part_long text k lt in
     let inner : AreBytes (text_part text k) = bytes_take 4076 (drop (4076 * k) text) (bytes_drop (4076 * k) text bytes) in
-    let t = taken key (first + k) (nat_eq k 0) (nat_eq (k + 1) (block_count text)) part (nth_block key first text k) long refl (omega (arith, small, lt)) keyed.some keyed.small p.0 p.1 p.2 in
+    let q = λ (e : nat_eq (k + 1) (block_count text) ≡ false). p.2 e in
+    let t = ring_block_back key (first + k) (nat_eq k 0) (nat_eq (k + 1) (block_count text)) part long (omega (arith, small, lt)) keyed.some keyed.small p.0 p.1 q in
     record {
       valid = t.0;
       version = t.1;
-      first_is = t.3;
-      last_is = t.4;
-      text_is = clear_text key keyed (first + k) (nat_eq k 0) (nat_eq (k + 1) (block_count text)) part inner (omega (arith, small, lt)) long t.2;
+      first_is = t.2;
+      last_is = t.3;
+      text_is = ring_block_text key (first + k) (nat_eq k 0) (nat_eq (k + 1) (block_count text)) part long (omega (arith, small, lt)) keyed.some keyed.small p.0 p.1 q keyed.cipher inner;
     }

@@ -1,5 +1,5 @@
 -- A mini-transaction is added to the pending blocks, or isn't taken, or is taken back.
-use Rattle.std.specs.Prelude.{◌≡◌, ℕ, ◌+◌, ◌-◌, ◌*◌, ◌^◌, ◌<◌, ◌≤◌, true, false, List, [], ◌∷◌, ◌++◌, length, take, Some}
+use Rattle.std.specs.Prelude.{◌≡◌, ℕ, ◌+◌, ◌-◌, ◌*◌, ◌^◌, ◌<◌, ◌≤◌, true, false, List, [], ◌∷◌, ◌++◌, length, take}
 use Rattle.aes_core.specs.Cipher.{IsKey as IsCipherKey}
 use Rattle.store_image.specs.View.{Logged}
 use Rattle.ring_log.specs.Ring.{AreWholeEntries}
@@ -10,7 +10,7 @@ use Rattle.redo_text.specs.Block.{block_count, blocks}
 use Rattle.redo_text.specs.Reading.{flags_of, is_first}
 use Rattle.redo_text.specs.Text.{text_of}
 use Rattle.redo_log.specs.State.{LogState}
-use Rattle.redo_log.specs.Blocks.{Keys, redo_form}
+use Rattle.redo_log.specs.Blocks.{Keys, IsStoreKey, redo_form}
 use Rattle.redo_log.specs.Log.{durable, free_of, pending_at, pending_count}
 use Rattle.redo_log.specs.declared.log.LogFault.{LogFault}
 use Rattle.redo_log.specs.declared.log.LogFault.TheVariants.{Spent, LogFull, OutOfMemory}
@@ -47,10 +47,10 @@ HasPending block log = (j : ℕ) → j < pending_count log → block (durable lo
 abbrev pub logged_entry : LogState → List Change → Logged (List Change)
 logged_entry log mtr = record { first = log.next; lsn = (log.next + block_count (text_of mtr)) * 4096; mtr = mtr }
 
--- The pending blocks of the new log end with those of the mini-transaction: it is the journal's next entry, under all keys that have its own.
+-- The pending blocks of the new log end with those of the mini-transaction: it is the journal's next entry, under the keys of each store whose key this is.
 abbrev pub IsEntry : LogState → LogState → List Change → RedoKey → Type 0
 IsEntry old new mtr key =
-    (keys : Keys) → keys key.version ≡ Some key → (block : ℕ → List ℕ) → HasPending block new → AreWholeEntries old.blocks (redo_form keys) block old.next (logged_entry old mtr ∷ []) new.next
+    (keys : Keys) → IsStoreKey keys key → (block : ℕ → List ℕ) → HasPending block new → AreWholeEntries old.blocks (redo_form keys) block old.next (logged_entry old mtr ∷ []) new.next
 
 -- the last k pending blocks are those of one mini-transaction, by their flags
 pub record HasLast (log : LogState) (k : ℕ) : Type 0 where

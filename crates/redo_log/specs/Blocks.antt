@@ -1,47 +1,32 @@
--- The blocks of redo_text as blocks of a ring, under the keys that the store ever used, by version.
-use Rattle.std.specs.Prelude.{◌≡◌, ℕ, ◌+◌, ◌%◌, ◌==◌, Bool, List, [], ◌∷◌, ◌++◌, take, Option, Some}
-use Rattle.std.specs.Result.{is_ok}
+-- The store's ring blocks and checkpoints as the form of a ring, its file, and the keys.
+use Rattle.std.specs.Prelude.{◌≡◌, ℕ, ◌+◌, ◌%◌, List, Some}
+use Rattle.crash_image.specs.LogForm.{log_form}
+use Rattle.key_ring.specs.Local.{local_key}
+use Rattle.key_ring.specs.Ring.{RingEntry}
+use Rattle.page_places.specs.Texts.{ends_in_sum}
 use Rattle.places.specs.Places.{Layout, place}
 use Rattle.ring_log.specs.Ring.{Form}
 use Rattle.redo_text.specs.declared.change.Change.{Change}
 use Rattle.redo_text.specs.declared.key.RedoKey.{RedoKey}
-use Rattle.redo_text.specs.Reading.{reading, stored_sum, computed_sum, version_of, used_of, flags_of, is_first, is_last, clear_body}
-use Rattle.redo_text.specs.Text.{text_of, AreAllowed}
-use Rattle.redo_log.specs.Check.{checkpoint_read}
-use Rattle.redo_log.specs.Sums.{sum_fits}
+use Rattle.store_files.specs.Header.{Header}
 
--- a valid ring block of this number
-unfoldable pub is_block : ℕ → List ℕ → Bool
-is_block number block = is_ok (reading number block)
+-- what tells the log's key of each version: the store's header, which has the salt and the algorithm, and the keys of its ring
+pub record Keys : Type 0 where
+  pub header : Header
+  pub ring : List RingEntry
 
--- the key of each version
-abbrev pub Keys : Type 0
-Keys = ℕ → Option RedoKey
-
--- the text that blocks hold, each under the key of its version
-abbrev pub HoldText : Keys → List (List ℕ) → List ℕ → Type 0
-HoldText keys [] text = text ≡ []
-HoldText keys (b ∷ bs) text =
-    (key : RedoKey) × (rest : List ℕ) × (keys (version_of b) ≡ Some key) × (text ≡ take (used_of b) (clear_body key b) ++ rest) × HoldText keys bs rest
-
--- they hold the text of this mini-transaction
-abbrev pub HoldMtr : Keys → List (List ℕ) → List Change → Type 0
-HoldMtr keys blocks mtr = AreAllowed mtr × HoldText keys blocks (text_of mtr)
-
--- the form
+-- the form of the store's log under these keys
 abbrev pub redo_form : Keys → Form (List Change)
-redo_form keys = record {
-  is_block = is_block;
-  starts = λ b. is_first (flags_of b);
-  ends = λ b. is_last (flags_of b);
-  IsMtr = λ n blocks mtr. HoldMtr keys blocks mtr;
-  checkpoint = checkpoint_read;
-  passes = sum_fits;
-}
+redo_form keys = log_form keys.header keys.ring
+
+-- a key of the store: of its algorithm, and the local key of id 1 at its version
+pub record IsStoreKey (keys : Keys) (key : RedoKey) : Type 0 where
+  pub algorithm : key.algorithm ≡ keys.header.algorithm
+  pub local : local_key keys.ring 1 key.version keys.header.salt ≡ Some key.local
 
 -- the log's file with N ring blocks
 abbrev pub file_layout : ℕ → Layout
-file_layout N = record { size = 4096; count = 3 + N; passes = sum_fits }
+file_layout N = record { size = 4096; count = 3 + N; passes = ends_in_sum }
 
 -- the bytes at the place of a ring block
 abbrev pub read_at : ℕ → List ℕ → ℕ → List ℕ

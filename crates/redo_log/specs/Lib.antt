@@ -1,5 +1,4 @@
 pub mod State
-pub mod Sums
 pub mod Blocks
 pub mod Check
 pub mod Log

@@ -4,7 +4,7 @@ use Rattle.places.specs.Places.{place}
 use Rattle.ring_log.specs.Ring.{RingState}
 use Rattle.ring_log.specs.Batches.{checkpointed}
 use Rattle.redo_log.specs.State.{LogState}
-use Rattle.redo_log.specs.Blocks.{is_block}
+use Rattle.store_files.specs.RingBlock.{is_ring_block}
 
 -- how many blocks are pending
 abbrev pub pending_count : LogState → ℕ
@@ -29,7 +29,7 @@ pub record IsOpen (log : LogState) : Type 0 where
   pub order : log.from + pending_count log ≤ log.next
   pub room : log.next ≤ log.from + log.blocks
   pub whole : length log.pending ≡ pending_count log * 4096
-  pub valid : (j : ℕ) → j < pending_count log → is_block (durable log + j) (pending_at log j) ≡ true
+  pub valid : (j : ℕ) → j < pending_count log → is_ring_block (durable log + j) (pending_at log j) ≡ true
 
 -- a log with nothing pending
 abbrev pub empty_log : ℕ → ℕ → ℕ → LogState

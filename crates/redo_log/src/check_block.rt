@@ -40,7 +40,7 @@ fn words(sequence: u64, from: u64) -> [u8; 24]
 }
 
 /// Makes of 4096 bytes the checkpoint of this sequence, from which the run begins at this block.
-pub fn fill_check(block: &mut [u8], sequence: u64, from: u64)
+pub(crate) fn fill_check(block: &mut [u8], sequence: u64, from: u64)
     requires size { length block.old ≡ 4096 }
     ensures { block.new ≡ check_bytes sequence from }
 {

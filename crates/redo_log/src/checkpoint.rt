@@ -37,6 +37,8 @@ fn write_check<D: Disk>(
     ensures later { D.is_later disk.old disk.new }
     ensures cause { HasDiskCause (D.faults disk.old) (D.faults disk.new) result }
     ensures memory { HasDiskMemoryCause (D.memory_refusals disk.old) (D.memory_refusals disk.new) result }
+    ensures no_fault { OnOk result (D.faults disk.new ≡ D.faults disk.old) }
+    ensures no_refusal { OnOk result (D.memory_refusals disk.new ≡ D.memory_refusals disk.old) }
 {
     let _ = blocks;
     let mut block = [0; 4096];
@@ -61,6 +63,8 @@ fn settle_check<D: Disk>(
     ensures later { D.is_later disk.old disk.new }
     ensures cause { HasDiskCause (D.faults disk.old) (D.faults disk.new) result }
     ensures memory { HasDiskMemoryCause (D.memory_refusals disk.old) (D.memory_refusals disk.new) result }
+    ensures no_fault { OnOk result (D.faults disk.new ≡ D.faults disk.old) }
+    ensures no_refusal { OnOk result (D.memory_refusals disk.new ≡ D.memory_refusals disk.old) }
 {
     write_check(disk, blocks, sequence, from)?;
     disk.sync(FileName::Log)
@@ -81,6 +85,8 @@ pub fn write_first_checkpoint<D: Disk>(disk: &mut D, blocks: u64) -> Result<(), 
     ensures later { D.is_later disk.old disk.new }
     ensures cause { HasDiskCause (D.faults disk.old) (D.faults disk.new) result }
     ensures memory { HasDiskMemoryCause (D.memory_refusals disk.old) (D.memory_refusals disk.new) result }
+    ensures no_fault { OnOk result (D.faults disk.new ≡ D.faults disk.old) }
+    ensures no_refusal { OnOk result (D.memory_refusals disk.new ≡ D.memory_refusals disk.old) }
 {
     settle_check(disk, blocks, 1, 2)
 }
@@ -99,6 +105,8 @@ impl Log {
         ensures later { D.is_later disk.old disk.new }
         ensures cause { HasDiskCause (D.faults disk.old) (D.faults disk.new) result }
         ensures memory { HasDiskMemoryCause (D.memory_refusals disk.old) (D.memory_refusals disk.new) result }
+        ensures no_fault { OnOk result (D.faults disk.new ≡ D.faults disk.old) }
+        ensures no_refusal { OnOk result (D.memory_refusals disk.new ≡ D.memory_refusals disk.old) }
     {
         if from == self.from() {
             return Ok(());
@@ -131,6 +139,8 @@ impl Log {
         ensures later { D.is_later disk.old disk.new }
         ensures cause { HasDiskCause (D.faults disk.old) (D.faults disk.new) result }
         ensures memory { HasDiskMemoryCause (D.memory_refusals disk.old) (D.memory_refusals disk.new) result }
+        ensures no_fault { OnOk result (D.faults disk.new ≡ D.faults disk.old) }
+        ensures no_refusal { OnOk result (D.memory_refusals disk.new ≡ D.memory_refusals disk.old) }
     {
         self.move_from(disk, from)?;
         if from != self.from {

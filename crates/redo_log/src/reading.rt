@@ -1,7 +1,7 @@
 // Checkpoints are read.
 ghost use Rattle.std.specs.Prelude.{◌≡◌, ◌≤◌, IfSome, IfNone, Some, None, length, take, codes, true};
-ghost use Rattle.redo_log.specs.Sums.{sum_fits};
-ghost use Rattle.redo_log.specs.Check.{checkpoint_read};
+ghost use Rattle.page_places.specs.Texts.{ends_in_sum};
+ghost use Rattle.store_files.specs.Checkpoint.{checkpoint_in};
 
 use byte_list::fields::{be32_at, be64_at};
 use bytes_core::crc32c;
@@ -21,10 +21,9 @@ fn front(bytes: &[u8], n: usize) -> &[u8]
 }
 
 // Whether the checksum of a file block is right.
-#[tactic(auto, unfolding(crate::specs::Sums::sum_fits))]
-fn sum_fits(block: &[u8]) -> bool
+fn ends_in_sum(block: &[u8]) -> bool
     requires { length block.now ≡ 4096 }
-    ensures { result ≡ sum_fits block.now }
+    ensures { result ≡ ends_in_sum block.now }
 {
     be32_at(block, 4092) == crc32c(front(block, 4092))
 }
@@ -43,10 +42,10 @@ fn has_magic(block: &[u8]) -> bool
 /// block isn't valid there. It takes no memory.
 pub fn read_checkpoint(block: &[u8], place: u64) -> Option<Checkpoint>
     requires { length block.now ≡ 4096 }
-    ensures some { IfSome result (λ c. checkpoint_read place block.now ≡ Some (record { sequence = c.sequence; from = c.from })) }
-    ensures none { IfNone result (checkpoint_read place block.now ≡ None) }
+    ensures some { IfSome result (λ c. checkpoint_in place block.now ≡ Some (record { sequence = c.sequence; from = c.from })) }
+    ensures none { IfNone result (checkpoint_in place block.now ≡ None) }
 {
-    if !sum_fits(block) {
+    if !ends_in_sum(block) {
         return None;
     }
     if !has_magic(block) {

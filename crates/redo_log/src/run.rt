@@ -1,5 +1,5 @@
 // The run is read block by block. Reading adds no event.
-ghost use Rattle.std.specs.Prelude.{◌≡◌, ℕ, ◌+◌, ◌-◌, ◌*◌, ◌<◌, ◌≤◌, ◌^◌, ◌++◌, ◌∷◌, [], length, IfOk, OnOk, IfSome, IfNone, take};
+ghost use Rattle.std.specs.Prelude.{◌≡◌, ℕ, ◌+◌, ◌-◌, ◌*◌, ◌<◌, ◌≤◌, ◌^◌, ◌++◌, ◌∷◌, [], length, IfOk, OnOk, IfSome, IfNone, Some, slice_get, take};
 ghost use Rattle.std.specs.List.{Contains};
 ghost use Rattle.std.specs.List.Sorted.{IsStrictlyIncreasing};
 ghost use Rattle.disk_model.specs.Event.{reads};
@@ -43,6 +43,21 @@ impl Versions {
         items.sort_unstable();
         items.dedup();
         Versions { items }
+    }
+
+    /// How many they are.
+    pub fn len(&self) -> usize
+        ensures { result ≡ length self.now }
+    {
+        self.items.len()
+    }
+
+    /// The one at this place, from 0.
+    pub fn get(&self, i: usize) -> &u32
+        requires { i < length self.now }
+        ensures { slice_get self.now i ≡ Some result.now }
+    {
+        &self.items[i]
     }
 
     /// All of them.
@@ -114,6 +129,8 @@ fn read_number<D: Disk>(
     ensures later { D.is_later disk.old disk.new }
     ensures cause { HasDiskCause (D.faults disk.old) (D.faults disk.new) result }
     ensures memory_refusals { D.memory_refusals disk.old ≤ D.memory_refusals disk.new }
+    ensures no_fault { OnOk result (D.faults disk.new ≡ D.faults disk.old) }
+    ensures no_refusal { OnOk result (D.memory_refusals disk.new ≡ D.memory_refusals disk.old) }
 {
     disk.read(FileName::Log, (3 + number % blocks) * 4096, buffer)
 }
@@ -140,6 +157,8 @@ fn scan_into<D: Disk>(
     ensures later { D.is_later disk.old disk.new }
     ensures cause { HasDiskCause (D.faults disk.old) (D.faults disk.new) result }
     ensures memory_refusals { D.memory_refusals disk.old ≤ D.memory_refusals disk.new }
+    ensures no_fault { OnOk result (D.faults disk.new ≡ D.faults disk.old) }
+    ensures no_refusal { OnOk result (D.memory_refusals disk.new ≡ D.memory_refusals disk.old) }
 {
     let mut end = from;
     for i in 0..blocks {
@@ -174,6 +193,8 @@ pub fn scan<D: Disk>(alloc: Global, disk: &mut D, blocks: u64, from: u64) -> Res
     ensures later { D.is_later disk.old disk.new }
     ensures cause { HasDiskCause (D.faults disk.old) (D.faults disk.new) result }
     ensures memory_refusals { D.memory_refusals disk.old ≤ D.memory_refusals disk.new }
+    ensures no_fault { OnOk result (D.faults disk.new ≡ D.faults disk.old) }
+    ensures no_refusal { OnOk result (D.memory_refusals disk.new ≡ D.memory_refusals disk.old) }
 {
     let mut buffer = [0; 4096];
     let mut versions = Vec::new(alloc);

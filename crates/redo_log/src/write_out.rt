@@ -28,6 +28,8 @@ impl Log {
         ensures later { D.is_later disk.old disk.new }
         ensures cause { HasDiskCause (D.faults disk.old) (D.faults disk.new) result }
         ensures memory { HasDiskMemoryCause (D.memory_refusals disk.old) (D.memory_refusals disk.new) result }
+        ensures no_fault { OnOk result (D.faults disk.new ≡ D.faults disk.old) }
+        ensures no_refusal { OnOk result (D.memory_refusals disk.new ≡ D.memory_refusals disk.old) }
     {
         let number = self.durable() + i as u64;
         let place = 3 + number % self.blocks();
@@ -43,6 +45,8 @@ impl Log {
         ensures later { D.is_later disk.old disk.new }
         ensures cause { HasDiskCause (D.faults disk.old) (D.faults disk.new) result }
         ensures memory { HasDiskMemoryCause (D.memory_refusals disk.old) (D.memory_refusals disk.new) result }
+        ensures no_fault { OnOk result (D.faults disk.new ≡ D.faults disk.old) }
+        ensures no_refusal { OnOk result (D.memory_refusals disk.new ≡ D.memory_refusals disk.old) }
     {
         for i in 0..self.pending_count() {
             self.write_block(disk, i)?;
@@ -61,6 +65,8 @@ impl Log {
         ensures later { D.is_later disk.old disk.new }
         ensures cause { HasDiskCause (D.faults disk.old) (D.faults disk.new) result }
         ensures memory { HasDiskMemoryCause (D.memory_refusals disk.old) (D.memory_refusals disk.new) result }
+        ensures no_fault { OnOk result (D.faults disk.new ≡ D.faults disk.old) }
+        ensures no_refusal { OnOk result (D.memory_refusals disk.new ≡ D.memory_refusals disk.old) }
     {
         if self.pending_count() == 0 {
             return Ok(());
@@ -90,6 +96,8 @@ impl Log {
         ensures later { D.is_later disk.old disk.new }
         ensures cause { HasDiskCause (D.faults disk.old) (D.faults disk.new) result }
         ensures memory { HasDiskMemoryCause (D.memory_refusals disk.old) (D.memory_refusals disk.new) result }
+        ensures no_fault { OnOk result (D.faults disk.new ≡ D.faults disk.old) }
+        ensures no_refusal { OnOk result (D.memory_refusals disk.new ≡ D.memory_refusals disk.old) }
     {
         self.settle_blocks(disk)?;
         self.pending.clear();

@@ -188,7 +188,7 @@ module _ {M : Type 0} (N : ℕ) (F : Form M) where
     pub run : IsRunOf r start journal next log
     pub clear : IsRingClear file log.end
 
-  -- Each image in which no torn place of the log passes its checksum stands for a part of the journal.
+  -- Each image in which no torn place of the log passes a test that whole blocks pass stands for a part of the journal.
   abbrev pub AllRingStand : RingState → ℕ → List (Logged M) → ℕ → List Event → Type 0
   AllRingStand r start journal next es =
-      (test : FileName → List ℕ → Bool) → ((bytes : List ℕ) → test Log bytes ≡ passes bytes) → (image : Image) → IsImage es image → IsLucky test image → RingStands r start journal next (image.bytes Log)
+      (test : FileName → List ℕ → Bool) → ((bytes : List ℕ) → passes bytes ≡ true → test Log bytes ≡ true) → (image : Image) → IsImage es image → IsLucky test image → RingStands r start journal next (image.bytes Log)

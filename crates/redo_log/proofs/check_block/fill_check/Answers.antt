@@ -2,8 +2,8 @@ use Rattle.std.proofs.Common.{◌≡◌, List, ℕ, ap, ◌∙◌, take, drop}
 use Rattle.std.specs.Int.{to_be_bytes, w32}
 use Rattle.bytes_core.specs.Crc.{crc32c}
 use Rattle.byte_list.specs.Bytes.{put, zeros}
-use Rattle.redo_log.specs.Check.{check_words, check_front}
-use Rattle.redo_log.proofs.CheckParts.{check_built, check_read}
+use Rattle.redo_log.specs.Check.{check_words}
+use Rattle.redo_log.proofs.CheckParts.{check_built, check_front, check_read}
 use Rattle.redo_log.proofs.check_block.fill_check.Goals as goal
 
 pub returns : goal.returns

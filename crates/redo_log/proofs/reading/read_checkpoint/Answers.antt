@@ -1,15 +1,15 @@
 use Rattle.std.proofs.Common.{◌≡◌, ℕ, List, Some, None, true≢false, sym, ap, ◌∙◌, arith}
 use Rattle.store_image.specs.Checkpoint.{Checkpoint}
-use Rattle.redo_log.specs.Check.{is_check, checkpoint_read}
-use Rattle.redo_log.proofs.SumLaws.{not_true}
+use Rattle.store_files.specs.Checkpoint.{is_checkpoint, checkpoint_in}
+use Rattle.page_places.proofs.Sums.{not_true}
 use Rattle.redo_log.proofs.CheckLaws.{IsCheck, check_is, is_check_of, checkpoint_some, checkpoint_none}
 use Rattle.redo_log.proofs.reading.read_checkpoint.Goals as goal
 
-isnt : (i : ℕ) (b : List ℕ) → (IsCheck i b → ⊥) → checkpoint_read i b ≡ None
-isnt i b none = checkpoint_none i b (not_true (is_check i b) (λ is. none (check_is i b is)))
+isnt : (i : ℕ) (b : List ℕ) → (IsCheck i b → ⊥) → checkpoint_in i b ≡ None
+isnt i b none = checkpoint_none i b (not_true (is_checkpoint i b) (λ is. none (check_is i b is)))
 
-pub returns-then-not-sum_fits-clause-none : goal.returns-then-not-sum_fits-clause-none
-returns-then-not-sum_fits-clause-none c = isnt c.args.place c.args.block.now (λ is. true≢false (sym is.sums ∙ sym c.sum_fits.ensures ∙ c.if-not-sum_fits.true))
+pub returns-then-not-ends_in_sum-clause-none : goal.returns-then-not-ends_in_sum-clause-none
+returns-then-not-ends_in_sum-clause-none c = isnt c.args.place c.args.block.now (λ is. true≢false (sym is.sums ∙ sym c.ends_in_sum.ensures ∙ c.if-not-ends_in_sum.true))
 
 pub returns-then-not-has_magic-clause-none : goal.returns-then-not-has_magic-clause-none
 returns-then-not-has_magic-clause-none c = isnt c.args.place c.args.block.now (λ is. true≢false (sym (c.has_magic.ensures.no is.magic) ∙ c.if-not-has_magic.true))
@@ -32,7 +32,7 @@ returns-clause-some c =
     let s = c.be64_at-sequence.ensures in
     let f = c.be64_at-from.ensures in
     checkpoint_some c.args.place b (is_check_of c.args.place b (record {
-      sums = sym c.sum_fits.ensures ∙ c.if-not-sum_fits.false;
+      sums = sym c.ends_in_sum.ensures ∙ c.if-not-ends_in_sum.false;
       magic = c.has_magic.ensures.yes c.if-not-has_magic.false;
       at = omega (arith, s, c.if-place-sequence.false);
       some = omega (arith, s, c.if-sequence-lt1.false);

@@ -2,7 +2,7 @@ use Rattle.std.proofs.Common.{◌≡◌, ℕ, List, ◌+◌, Bool, true, false, 
 use mathlib.Core.Bool.{beq}
 use Rattle.std.specs.Result.{is_ok}
 use Rattle.redo_text.specs.Reading.{reading, flags_of, is_first, is_last}
-use Rattle.redo_log.specs.Blocks.{is_block}
+use Rattle.store_files.proofs.RingBlocks.{block_read, read_is_block}
 use Rattle.redo_log.proofs.run.next_of.Goals as goal
 use Rattle.redo_log.proofs.run.next_of.Goals.{then-last, else-last}
 
@@ -15,8 +15,7 @@ if_false true x y is = absurd (true≢false is)
 if_false false x y is = refl
 
 pub returns-in_default-clause-none : goal.returns-in_default-clause-none
-unfolding is_block
-returns-in_default-clause-none c = λ keys n few valid starts. true≢false (sym valid ∙ ap is_ok c.in_default.ensures.fault)
+returns-in_default-clause-none c = λ keys n few valid starts. true≢false (ap is_ok (sym (block_read c.args.number c.args.block.now valid) ∙ c.in_default.ensures.fault))
 
 same_bool : (a b : Bool) → not (beq a b) ≡ false → a ≡ b
 same_bool true true is = refl
@@ -25,13 +24,12 @@ same_bool false true is = absurd (true≢false is)
 same_bool false false is = refl
 
 pub returns-clause-some : goal.returns-clause-some
-unfolding is_block
 returns-clause-some c = λ keys n.
     let same = c.in-Ok.ensures.view.0 in
     let last : is_last (flags_of c.args.block.now) ≡ c.last.result = sym (c.last.ensures ∙ ap (λ (b : List ℕ). is_last (flags_of b)) same) in
     let first : c.first.result ≡ is_first (flags_of c.args.block.now) = c.first.ensures ∙ ap (λ (b : List ℕ). is_first (flags_of b)) same in (
       omega (arith, c.if-number-end-ge16.false, c.requires.order),
-      ap is_ok c.in-Ok.ensures.view.1,
+      read_is_block c.args.number c.args.block.now c.requires.size (λ i. omega (arith, c.type_inv.block i)) c.in-Ok.ensures.view.1,
       sym first ∙ same_bool _ _ c.if-first-begins.false,
       elim c.if-last.branch [ then-last w ↦ w.end-is ∙ if_true _ _ _ (last ∙ w.if-last.true) | else-last w ↦ w.end-is ∙ if_false _ _ _ (last ∙ w.if-last.false) ],
     )

@@ -22,8 +22,8 @@ loop-i-init g c =
       count = ap length c.requires.none;
       read = record { here = λ es is keys. subst (λ (n : ℕ). IsScanned c.args.blocks (redo_form keys) (read_at c.args.blocks (reads LogFile es)) c.args.from c.args.from n) e (read_none c.args.blocks (redo_form keys) (read_at c.args.blocks (reads LogFile es)) c.args.from) };
       named = record { here = λ es is. c.requires.none };
-      faults = omega arith;
-      memory_refusals = omega arith;
+      faults = refl;
+      memory_refusals = refl;
       later = g.met.D.Disk.is_later_reflexive c.args.disk.now;
     }
 
@@ -54,8 +54,8 @@ loop-i-preserved g c =
           ∙ ap (λ (v : ℕ). versions_up (read_at c.args.blocks (reads LogFile es)) c.args.from c.loop-i.i ++ v ∷ []) (c.in-Some.ensures.version ∙ ap version_of is)
           ∙ sym (versions_more (read_at c.args.blocks (reads LogFile es)) c.args.from c.loop-i.i))
           c.loop-i.invariant.named block;
-      faults = omega (arith, c.loop-i.invariant.faults, c.in_ok-read_number.ensures.cause.later);
-      memory_refusals = omega (arith, c.loop-i.invariant.memory_refusals, c.in_ok-read_number.ensures.memory_refusals);
+      faults = c.in_ok-read_number.ensures.no_fault ∙ c.loop-i.invariant.faults;
+      memory_refusals = c.in_ok-read_number.ensures.no_refusal ∙ c.loop-i.invariant.memory_refusals;
       later = g.met.D.Disk.is_later_transitive _ _ _ c.loop-i.invariant.later c.in_ok-read_number.ensures.later;
     }
 

@@ -16,7 +16,7 @@ invariant-loop-i g l = record {
   count : length l.versions.items ≡ l.i;
   read : At (λ es. (keys : Keys) → IsScanned l.blocks (redo_form keys) (read_at l.blocks (reads LogFile es)) l.from l.end (l.from + l.i)) (g.D.Disk.past l.fn.disk);
   named : At (λ es. l.versions.items ≡ versions_up (read_at l.blocks (reads LogFile es)) l.from l.i) (g.D.Disk.past l.fn.disk);
-  faults : g.D.Disk.faults l.fn.disk ≤ g.D.Disk.faults l.disk;
-  memory_refusals : g.D.Disk.memory_refusals l.fn.disk ≤ g.D.Disk.memory_refusals l.disk;
+  faults : g.D.Disk.faults l.disk ≡ g.D.Disk.faults l.fn.disk;
+  memory_refusals : g.D.Disk.memory_refusals l.disk ≡ g.D.Disk.memory_refusals l.fn.disk;
   later : g.D.Disk.is_later l.fn.disk l.disk;
 }

@@ -1,4 +1,4 @@
-use Rattle.std.proofs.Common.{◌≡◌, length, subst, sym, ap, ◌∙◌, arith}
+use Rattle.std.proofs.Common.{◌≡◌, length, refl, subst, sym, ap, ◌∙◌, arith}
 use Rattle.disk_model.proofs.Layers.{does_err, so_far_none, so_far_more, so_far_then, so_far_done}
 use Rattle.places.proofs.Batches.{at_end}
 use Rattle.places.specs.Batches.{From}
@@ -15,8 +15,8 @@ loop-i-init g c =
     record {
       so_far = so_far_none (blocks_now log 0 (omega arith) first) (blocks_begin log first c.requires.places);
       exact = sym (grows_none first);
-      faults = omega arith;
-      memory_refusals = omega arith;
+      faults = refl;
+      memory_refusals = refl;
       later = g.met.D.Disk.is_later_reflexive c.args.disk.now;
     }
 
@@ -41,8 +41,8 @@ loop-i-preserved g c =
     record {
       so_far = so_far_more c.loop-i.invariant.so_far (c.in_ok-write_block.ensures.does first c.loop-i.invariant.so_far.at);
       exact = write_more (block_batch log) c.loop-i.i first (g.D.Disk.past c.loop-i.disk) (g.D.Disk.past c.write_block.new.disk) c.loop-i.invariant.exact c.in_ok-write_block.ensures.ok;
-      faults = omega (arith, c.loop-i.invariant.faults, c.in_ok-write_block.ensures.cause.later);
-      memory_refusals = omega (arith, c.loop-i.invariant.memory_refusals, c.in_ok-write_block.ensures.memory.later);
+      faults = c.in_ok-write_block.ensures.no_fault ∙ c.loop-i.invariant.faults;
+      memory_refusals = c.in_ok-write_block.ensures.no_refusal ∙ c.loop-i.invariant.memory_refusals;
       later = g.met.D.Disk.is_later_transitive _ _ _ c.loop-i.invariant.later c.in_ok-write_block.ensures.later;
     }
 
