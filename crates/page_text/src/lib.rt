@@ -22,6 +22,7 @@
 
 mod fault;
 mod key;
+mod layout;
 mod opening;
 mod parts;
 mod sealing;

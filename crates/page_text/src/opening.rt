@@ -9,6 +9,9 @@ ghost use Rattle.page_text.specs.Parts.{cipher_part};
 ghost use Rattle.page_text.specs.State.{computed_sum};
 ghost use Rattle.page_text.specs.Text.{IsText, Plain, enciphered, key_lent, page_key, page_iv, plain_of};
 
+use crate::layout::{
+    CHECKSUM, CIPHERED, LSN, NEXT, PAGE_NUMBER, PREVIOUS, SPACE, TRAILER, TYPE, VERSION,
+};
 use crate::sealing::{known_page, page_iv};
 use crate::{OpenFault, PageKey, PageMut};
 use aes_core::BlockKey;
@@ -33,21 +36,21 @@ fn check_clear(page: &[u8], number: u32) -> Result<(), OpenFault>
     ensures value { result ≡ clear_check page.now number }
     ensures sum_fits { computed_sum page.now < 2 ^ 32 }
 {
-    let end = page.len() - 4;
+    let end = page.len() - CHECKSUM;
     let stored = be32_at(page, end);
     let computed = crc32c(&page[..end]);
     if stored != computed {
         return Err(OpenFault::Checksum { stored, computed });
     }
-    let found = be32_at(page, 4);
+    let found = be32_at(page, PAGE_NUMBER);
     if found != number {
         return Err(OpenFault::WrongPage {
             wanted: number,
             found,
         });
     }
-    let kind = be16_at(page, 24);
-    let version = be32_at(page, 0);
+    let kind = be16_at(page, TYPE);
+    let version = be32_at(page, VERSION);
     if !fits_page(number, kind, version) {
         return Err(OpenFault::WrongKind {
             found: kind,
@@ -63,36 +66,36 @@ fn check_inner(page: &[u8], space: u32) -> Result<(), OpenFault>
     requires { 46 ≤ length page.now }
     ensures { result ≡ inner_check page.now space }
 {
-    let found = be32_at(page, 34);
+    let found = be32_at(page, SPACE);
     if found != space {
         return Err(OpenFault::WrongSpace {
             wanted: space,
             found,
         });
     }
-    let wanted = (be64_at(page, 16) % 0x1_0000_0000) as u32;
-    let end = be32_at(page, page.len() - 8);
+    let wanted = (be64_at(page, LSN) % 0x1_0000_0000) as u32;
+    let end = be32_at(page, page.len() - TRAILER);
     if end != wanted {
         return Err(OpenFault::WrongEnd { wanted, found: end });
     }
-    let prev = be32_at(page, 8);
+    let prev = be32_at(page, PREVIOUS);
     if prev != 0xffff_ffff {
         return Err(OpenFault::WrongFill {
-            at: 8,
+            at: PREVIOUS,
             found: u64::from(prev),
         });
     }
-    let next = be32_at(page, 12);
+    let next = be32_at(page, NEXT);
     if next != 0xffff_ffff {
         return Err(OpenFault::WrongFill {
-            at: 12,
+            at: NEXT,
             found: u64::from(next),
         });
     }
-    let flush = be64_at(page, 26);
+    let flush = be64_at(page, CIPHERED);
     if flush != 0 {
         return Err(OpenFault::WrongFill {
-            at: 26,
+            at: CIPHERED,
             found: flush,
         });
     }
@@ -128,9 +131,9 @@ pub(crate) fn known_fields(page: &[u8])
     ensures lsn { be64_at page.now 16 < 2 ^ 64 }
     ensures kind { be16_at page.now 24 < 2 ^ 16 }
 {
-    let _version = be32_at(page, 0);
-    let _lsn = be64_at(page, 16);
-    let _kind = be16_at(page, 24);
+    let _version = be32_at(page, VERSION);
+    let _lsn = be64_at(page, LSN);
+    let _kind = be16_at(page, TYPE);
 }
 
 // Deciphers what stands from byte 26 to the checksum, where the page's version isn't 0.
@@ -139,10 +142,10 @@ fn decipher_part(page: &mut [u8], space: u32, number: u32, key: Option<&PageKey>
     ensures value { page.new ≡ in_clear space number (key_lent key.entry) page.old }
     ensures undoes { Undoes (page_key (be32_at page.old 0) (key_lent key.entry)) (page_iv space number (be64_at page.old 16)) (cipher_part page.old) }
 {
-    let version = be32_at(page, 0);
-    let iv = page_iv(space, number, be64_at(page, 16));
-    let end = page.len() - 4;
-    decipher(page_key(version, key), &iv, &mut page[26..end]);
+    let version = be32_at(page, VERSION);
+    let iv = page_iv(space, number, be64_at(page, LSN));
+    let end = page.len() - CHECKSUM;
+    decipher(page_key(version, key), &iv, &mut page[CIPHERED..end]);
 }
 
 fn open_text(

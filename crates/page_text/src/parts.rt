@@ -4,6 +4,8 @@ ghost use Rattle.std.specs.Prelude.{◌≡◌, ℕ, ◌+◌, ◌-◌, ◌≤◌,
 ghost use Rattle.std.specs.Borrow.{sem, Lends, Array, u8};
 ghost use Rattle.page_text.specs.Parts.{IsPageSize, body, cipher_part, header, part_of, trailer, with_part};
 
+use crate::layout::{CHECKSUM, CIPHERED, HEADER, TRAILER};
+
 /// Whether a page can have `length` bytes: 4096, 8192, 16384, 32768 or 65536.
 pub fn is_page_size(length: usize) -> bool
     ensures yes { result ≡ true → IsPageSize length }
@@ -100,7 +102,7 @@ impl<B: PageBytes> WritablePage<B> {
         ensures value { result.now ≡ header (B.bytes self.old.bytes) }
         ensures long { length result.now ≡ 38 }
     {
-        self.bytes.part_mut(0, 38)
+        self.bytes.part_mut(0, HEADER)
     }
 
     /// The bytes from 38 up to the last eight, to be written.
@@ -110,8 +112,8 @@ impl<B: PageBytes> WritablePage<B> {
         ensures value { result.now ≡ body (B.bytes self.old.bytes) }
         ensures long { length result.now + 46 ≡ length (B.bytes self.old.bytes) }
     {
-        let end = self.bytes.count() - 8;
-        self.bytes.part_mut(38, end)
+        let end = self.bytes.count() - TRAILER;
+        self.bytes.part_mut(HEADER, end)
     }
 
     /// The part that is ciphered, to be written: the bytes from 26 up to the last four.
@@ -121,8 +123,8 @@ impl<B: PageBytes> WritablePage<B> {
         ensures value { result.now ≡ cipher_part (B.bytes self.old.bytes) }
         ensures long { length result.now + 30 ≡ length (B.bytes self.old.bytes) }
     {
-        let end = self.bytes.count() - 4;
-        self.bytes.part_mut(26, end)
+        let end = self.bytes.count() - CHECKSUM;
+        self.bytes.part_mut(CIPHERED, end)
     }
 
     /// The last eight bytes, to be written.
@@ -133,6 +135,6 @@ impl<B: PageBytes> WritablePage<B> {
         ensures long { length result.now ≡ 8 }
     {
         let end = self.bytes.count();
-        self.bytes.part_mut(end - 8, end)
+        self.bytes.part_mut(end - TRAILER, end)
     }
 }

@@ -9,6 +9,7 @@ ghost use Rattle.space_head.specs.Sizes.{IsPageSize};
 ghost use Rattle.page_text.specs.Parts.{cipher_part};
 ghost use Rattle.page_text.specs.Text.{FitsPage, IsText, enciphered, inner_start, page_iv, plain_of, start, text};
 
+use crate::layout::{CHECKSUM, CIPHERED, TRAILER, VERSION};
 use crate::opening::known_fields;
 use crate::{PageKey, PageMut, Seal};
 use aes_core::BlockKey;
@@ -67,8 +68,8 @@ fn encipher_part(page: &mut [u8], key: &Option<PageKey>, iv: &[u8; 16])
     ensures value { page.new ≡ put 26 (enciphered key.now iv.now (cipher_part page.old)) page.old }
     ensures long { length (enciphered key.now iv.now (cipher_part page.old)) + 30 ≡ length page.old }
 {
-    let end = page.len() - 4;
-    encipher(key, iv, &mut page[26..end]);
+    let end = page.len() - CHECKSUM;
+    encipher(key, iv, &mut page[CIPHERED..end]);
 }
 
 // Writes the checksum of all bytes before the last four into these.
@@ -76,7 +77,7 @@ fn write_sum(page: &mut [u8])
     requires { 46 ≤ length page.old }
     ensures { page.new ≡ put (length page.old - 4) (to_be_bytes w32 (crc32c (take (length page.old - 4) page.old))) page.old }
 {
-    let end = page.len() - 4;
+    let end = page.len() - CHECKSUM;
     let sum = crc32c(&page[..end]);
     put(page, end, &sum.to_be_bytes());
 }
@@ -98,10 +99,10 @@ fn write_text(page: &mut [u8], seal: &Seal)
     ensures { page.new ≡ text seal.now.space seal.now.page seal.now.lsn seal.now.version seal.now.local (plain_of page.old) }
 {
     known_page(page);
-    put(page, 0, &start(seal));
-    put(page, 26, &inner_start(seal.space));
+    put(page, VERSION, &start(seal));
+    put(page, CIPHERED, &inner_start(seal.space));
     let low = (seal.lsn % 0x1_0000_0000) as u32;
-    let end = page.len() - 8;
+    let end = page.len() - TRAILER;
     put(page, end, &low.to_be_bytes());
     let iv = page_iv(seal.space, seal.page, seal.lsn);
     encipher_part(page, &seal.local, &iv);

@@ -4,6 +4,7 @@ ghost use Rattle.std.specs.Prelude.{length};
 ghost use Rattle.space_head.specs.Sizes.{IsPageSize};
 ghost use Rattle.page_text.specs.State.{IsState};
 
+use crate::layout::CHECKSUM;
 use byte_list::fields::be32_at;
 use bytes_core::crc32c;
 
@@ -26,7 +27,7 @@ pub fn check(bytes: &[u8]) -> PageState
     if bytes.iter().all(|byte| *byte == 0) {
         return PageState::Zero;
     }
-    let end = bytes.len() - 4;
+    let end = bytes.len() - CHECKSUM;
     let stored = be32_at(bytes, end);
     let computed = crc32c(&bytes[..end]);
     if stored == computed {

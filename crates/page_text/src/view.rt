@@ -5,6 +5,7 @@ ghost use Rattle.byte_list.specs.Fields.{be16_at, be32_at, be64_at};
 ghost use Rattle.page_text.specs.Parts.{IsPageSize, body, header, trailer};
 
 use crate::is_page_size;
+use crate::layout::{HEADER, LSN, PAGE_NUMBER, TRAILER, TYPE, VERSION};
 use byte_list::fields::{be16_at, be32_at, be64_at};
 use std::marker::Model;
 
@@ -39,7 +40,7 @@ impl<'a> PageView<'a> {
     pub fn header(&self) -> &'a [u8]
         ensures { result.now ≡ header self.now }
     {
-        &self.bytes[0..38]
+        &self.bytes[0..HEADER]
     }
 
     /// The bytes from 38 up to the last eight.
@@ -48,41 +49,41 @@ impl<'a> PageView<'a> {
         ensures value { result.now ≡ body self.now }
         ensures joined { header self.now ++ (result.now ++ trailer self.now) ≡ self.now }
     {
-        &self.bytes[38..self.bytes.len() - 8]
+        &self.bytes[HEADER..self.bytes.len() - TRAILER]
     }
 
     /// The last eight bytes.
     pub fn trailer(&self) -> &'a [u8]
         ensures { result.now ≡ trailer self.now }
     {
-        &self.bytes[self.bytes.len() - 8..]
+        &self.bytes[self.bytes.len() - TRAILER..]
     }
 
     /// The key version, in the four bytes from 0, the highest first.
     pub fn version(&self) -> u32
         ensures { result ≡ be32_at self.now 0 }
     {
-        be32_at(self.bytes, 0)
+        be32_at(self.bytes, VERSION)
     }
 
     /// The page's number, in the four bytes from 4, the highest first.
     pub fn page(&self) -> u32
         ensures { result ≡ be32_at self.now 4 }
     {
-        be32_at(self.bytes, 4)
+        be32_at(self.bytes, PAGE_NUMBER)
     }
 
     /// The LSN of the last change, in the eight bytes from 16, the highest first.
     pub fn lsn(&self) -> u64
         ensures { result ≡ be64_at self.now 16 }
     {
-        be64_at(self.bytes, 16)
+        be64_at(self.bytes, LSN)
     }
 
     /// The page's type, in the two bytes from 24, the highest first.
     pub fn kind(&self) -> u16
         ensures { result ≡ be16_at self.now 24 }
     {
-        be16_at(self.bytes, 24)
+        be16_at(self.bytes, TYPE)
     }
 }
