@@ -1,12 +1,12 @@
 #!/usr/bin/env python3
-"""Lists the names that have a meaning in two crates, and fails where there is a new one.
+"""Lists the names that have a meaning in two crates, and fails where there is one.
 
     tests/one_meaning.py [FOLDER]
 
-Looked at are the words that the crates' specs/ define for others (`pub`, at the margin of a file or in a module with
-parameters, but no fields of records), and the types and traits that a crate's src/ shows. A word that is handed on by `pub use` is defined once. A type in src/ may have the name
-of no other crate's type or word. FOLDER is the repository, by default the one that this script is in. The names in
-tests/one_meaning.known, a line each, stand in two crates as yet; the list is only ever to get shorter.
+Looked at are the words that the crates' specs/ define for others (`pub`, at the margin of a file or in modules, but no
+fields of records), and the types and traits that a crate's src/ shows. A word that is handed on by `pub use` is defined
+once. A type in src/ may have the name of no other crate's type or word. FOLDER is the repository, by default the one
+that this script is in.
 """
 import collections
 import glob
@@ -21,14 +21,18 @@ TYPE = re.compile(r"\s*pub\s+(?:unsafe\s+)?(?:struct|enum|trait|type|union)\s+(\
 
 def words(lines):
     """The words that the lines of a file of specs/ define for other crates, with the numbers of their lines."""
-    margin = ""
+    fields = None
     for number, line in enumerate(lines, 1):
-        if line[:1].strip() and not line.startswith("--"):
-            margin = line
-        indent = len(line) - len(line.lstrip(" "))
-        if indent and not (indent == 2 and margin.startswith("module")):
+        text = line.strip()
+        if not text or text.startswith("--"):
             continue
-        found = WORD.match(line.strip())
+        indent = len(line) - len(line.lstrip(" "))
+        if fields is not None and indent > fields:
+            continue
+        fields = None
+        found = WORD.match(text)
+        if text.split()[0] in ("record", "data") or (found and found.group(1) in ("record", "data")):
+            fields = indent
         if found and found.group(1) not in ("use", "mod"):
             yield number, found.group(2) if found.group(1) in ("record", "data", "module") else found.group(1)
 
@@ -59,17 +63,12 @@ def main():
         print(f"no crates in {top}")
         return 1
     twice = {name: places for name, places in sorted(found.items()) if len({crate for crate, _ in places}) > 1}
-    with open(os.path.join(top, "tests", "one_meaning.known"), encoding="utf-8") as file:
-        known = set(file.read().split())
-    new = {name: places for name, places in twice.items() if name not in known}
-    for name, places in new.items():
+    for name, places in twice.items():
         print(name)
         for _, place in places:
             print("   ", place)
-    print(f"{len(found)} names, {len(twice)} of them in two crates, {len(new)} of these new")
-    if known - set(twice):
-        print("no longer in two crates:", *sorted(known - set(twice)))
-    return 1 if new else 0
+    print(f"{len(found)} names, {len(twice)} of them in two crates")
+    return 1 if twice else 0
 
 
 if __name__ == "__main__":

@@ -6,16 +6,16 @@ use Rattle.io_core.specs.Told.{Told}
 use Rattle.key_ring.specs.Ring.{RingEntry}
 use Rattle.binlog_text.specs.Held.{IsFront}
 use Rattle.binlog_text.specs.Events.{Found, answered, event_in, placed, placed_event}
-use Rattle.binlog_text.specs.Reading.{Holds, Keeps, Moves, Starts, is_out}
+use Rattle.binlog_text.specs.Reading.{Holds, Keeps, Moves, Starts, is_outside_fault}
 use Rattle.binlog_text.specs.declared.fault.BinlogFault.{BinlogFault}
 use Rattle.binlog_text.specs.declared.stage.Position.{Position}
 use Rattle.binlog_text.specs.declared.stage.Stage.{Stage}
 use Rattle.binlog_text.specs.declared.stage.Stage.TheVariants.{Events, Refused, Start}
-use Rattle.binlog_text.specs.declared.stage.Step.{Step}
+use Rattle.binlog_text.specs.declared.stage.StageStep.{StageStep}
 
 -- a start that was answered Ok
 pub starts_keeps : (held : Option Files) (name rest : List ℕ) (r : Result Position BinlogFault)
-    → Told (λ fs. is_out r ≡ false → Starts (fs name) rest r) held → IfOk r (λ position. Told (λ fs. Keeps (fs name) (Events position) rest) held)
+    → Told (λ fs. is_outside_fault r ≡ false → Starts (fs name) rest r) held → IfOk r (λ position. Told (λ fs. Keeps (fs name) (Events position) rest) held)
 starts_keeps held name rest (Ok position) told = record { here = λ fs is. (told.here fs is refl).keeps }
 starts_keeps held name rest (Err fault) told = search rules
 
@@ -29,7 +29,7 @@ answered_event ring (Some file) stage position rest answer at keeps event =
     ap (placed_event ring (Some file)) at ∙ event keeps.front (length-drop position.place file ∙ ap (λ (n : ℕ). n - position.place) (sym keeps.size))
 
 -- what holds behind an event
-next_holds : (found : Option (List ℕ)) (position : Position) (before rest event : List ℕ) (step : Step) → Keeps found (Events position) before
+next_holds : (found : Option (List ℕ)) (position : Position) (before rest event : List ℕ) (step : StageStep) → Keeps found (Events position) before
     → (IsFront before (drop position.place (unwrap_or found [])) → length (drop position.place (unwrap_or found [])) ≡ position.size - position.place
     → IsFront rest (drop (length event) (drop position.place (unwrap_or found []))))
     → Moves position event step → Keeps found (Events step.next) rest
@@ -44,7 +44,7 @@ next_holds (Some file) position before rest event step keeps front moves =
       front = subst (IsFront rest) behind (front keeps.front (length-drop position.place file ∙ ap (λ (n : ℕ). n - position.place) (sym keeps.size)));
     }
 
-pub keeps_next : (held : Option Files) (name : List ℕ) (position : Position) (before rest event : List ℕ) (r : Result (Option Step) BinlogFault)
+pub keeps_next : (held : Option Files) (name : List ℕ) (position : Position) (before rest event : List ℕ) (r : Result (Option StageStep) BinlogFault)
     → Told (λ fs. Keeps (fs name) (Events position) before) held
     → Told (λ fs. IsFront before (bytes_from position.place name fs) → length (bytes_from position.place name fs) ≡ position.size - position.place
     → IfOk r (λ found. IfSome found (λ step. IsFront rest (drop (length event) (bytes_from position.place name fs))))) held

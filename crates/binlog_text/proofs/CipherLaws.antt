@@ -83,8 +83,8 @@ pub behind : (e h : List ℕ) → 13 ≤ length e → h ≡ take 4 e ++ without_
 behind e h long is = ap (drop 4) is ∙ drop_at (take 4 e) (without_length e) 4 (omega (arith, length-take 4 e))
 
 -- what stands in the length's place moved to the front, and the length put there
-pub shown : (e bytes : List ℕ) → 13 ≤ length e → length bytes ≡ 4 → put 9 bytes (put 0 (range 9 4 e) e) ≡ with_length (drop 4 e) bytes
-shown e bytes long four =
+pub shown_step : (e bytes : List ℕ) → 13 ≤ length e → length bytes ≡ 4 → put 9 bytes (put 0 (range 9 4 e) e) ≡ with_length (drop 4 e) bytes
+shown_step e bytes long four =
     let m = range 9 4 e in
     let d = drop 4 e in
     let em : length m ≡ 4 = length-range 9 4 e (omega arith) in

@@ -8,7 +8,7 @@ use Rattle.binlog_text.specs.declared.fault.BinlogFault.{BinlogFault}
 use Rattle.binlog_text.specs.declared.stage.Position.{Position}
 use Rattle.binlog_text.specs.declared.stage.Stage.{Stage}
 use Rattle.binlog_text.specs.declared.stage.Stage.TheVariants.{Events, Start}
-use Rattle.binlog_text.specs.declared.stage.Step.{Step}
+use Rattle.binlog_text.specs.declared.stage.StageStep.{StageStep}
 use Rattle.binlog_text.proofs.FrontLaws.{framed-header}
 
 -- a header needs no more than a piece
@@ -53,7 +53,7 @@ pub start_stands : (stage : Stage) (r : Result Position BinlogFault) → stage �
 start_stands stage r is first = subst (λ (s : Stage). IfOk r (λ position. StandsAt s position.place)) (sym is) (at_start r first)
 
 -- an event that was read at a position
-pub passes : (stage : Stage) (position : Position) (event : List ℕ) (step : Step) → StandsAt stage position.place → Moves position event step
+pub passes : (stage : Stage) (position : Position) (event : List ℕ) (step : StageStep) → StandsAt stage position.place → Moves position event step
     → PassesEvent stage (record { mark = step.mark; bytes = event }) step.next
 passes stage position event step at moves = record {
   begins = subst (StandsAt stage) (sym moves.place) at;

@@ -14,13 +14,13 @@ use Rattle.binlog_text.specs.declared.format.ChecksumAlgorithm.TheVariants.{Crc3
 use Rattle.binlog_text.specs.declared.format.EventCipher.{EventCipher}
 use Rattle.binlog_text.specs.declared.format.LogFormat.{LogFormat}
 use Rattle.binlog_text.specs.declared.stage.Position.{Position}
-use Rattle.binlog_text.specs.declared.stage.Step.{Step}
+use Rattle.binlog_text.specs.declared.stage.StageStep.{StageStep}
 use Rattle.binlog_text.specs.declared.stage.Stage.{Stage}
 use Rattle.binlog_text.specs.declared.stage.Stage.TheVariants.{Events, Refused, Start}
 use Rattle.binlog_text.specs.declared.view.EventMark.{EventMark}
 
 -- a plain event: where it begins, the version under which it was ciphered, whether it ends with a checksum, and its bytes
-pub record Event : Type 0 where
+pub record BinlogEvent : Type 0 where
   pub mark : EventMark
   pub bytes : List ℕ
 
@@ -64,14 +64,14 @@ abbrev pub event_sum : List ℕ → ℕ
 event_sum event = crc32 (take (length event - 4) (with_flag_clear event))
 
 -- the last four bytes
-abbrev pub stored_sum : List ℕ → ℕ
-stored_sum event = le32_at event (length event - 4)
+abbrev pub stored_event_sum : List ℕ → ℕ
+stored_event_sum event = le32_at event (length event - 4)
 
 -- the checksum is the event's, where there is one
 abbrev pub sum_checked : ChecksumAlgorithm → ℕ → List ℕ → Result (Unit {0}) BinlogFault
 sum_checked Off place event = Ok tt
 sum_checked Crc32 place event =
-    if stored_sum event == event_sum event then Ok tt else Err (Checksum place (stored_sum event) (event_sum event))
+    if stored_event_sum event == event_sum event then Ok tt else Err (Checksum place (stored_event_sum event) (event_sum event))
 
 -- what counts after an event: a start encryption of scheme 1 names a key version and a nonce
 abbrev pub format_after : LogFormat → ChecksumAlgorithm → List ℕ → Result LogFormat BinlogFault
@@ -98,18 +98,18 @@ judged format place event = named (algorithm_for format.checksum event) format p
 
 -- an event that was read, and where the next one begins
 pub record Found : Type 0 where
-  pub event : Event
+  pub event : BinlogEvent
   pub next : Position
 
 -- the version of the cipher
-abbrev pub version_of : Option EventCipher → Option ℕ
-version_of None = None
-version_of (Some cipher) = Some cipher.version
+abbrev pub cipher_version : Option EventCipher → Option ℕ
+cipher_version None = None
+cipher_version (Some cipher) = Some cipher.version
 
 -- what stands at a position, the format after it being known
-abbrev pub step_of : Position → ℕ → LogFormat → Step
+abbrev pub step_of : Position → ℕ → LogFormat → StageStep
 step_of position long format = record {
-  mark = record { place = position.place; key = version_of position.format.cipher; has_sum = has_sum format.checksum };
+  mark = record { place = position.place; key = cipher_version position.format.cipher; has_sum = has_sum format.checksum };
   next = record { place = position.place + long; size = position.size; format = format };
 }
 
@@ -167,7 +167,7 @@ abbrev pub answered : List RingEntry → Option (List ℕ) → Stage → Result 
 answered ring file stage = placed_event ring file (placed file stage)
 
 -- The events of the file from a stage on are these, and then this is answered: None at the end, or a refusal.
-abbrev pub Lists : List RingEntry → Option (List ℕ) → Stage → List Event → Result (Unit {0}) BinlogFault → Type 0
+abbrev pub Lists : List RingEntry → Option (List ℕ) → Stage → List BinlogEvent → Result (Unit {0}) BinlogFault → Type 0
 Lists ring file stage [] (Ok u) = answered ring file stage ≡ Ok None
 Lists ring file stage [] (Err fault) = answered ring file stage ≡ Err fault
 Lists ring file stage (event ∷ events) end =

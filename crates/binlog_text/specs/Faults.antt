@@ -19,21 +19,21 @@ is_outside (MissingKey version) = false
 is_outside (Checksum at stored computed) = false
 
 -- a refusal of an event that is there
-abbrev pub IsRefusal : BinlogFault → Type 0
-IsRefusal Missing = ⊥
-IsRefusal BadMagic = ⊥
-IsRefusal FileFault = ⊥
-IsRefusal OutOfMemory = ⊥
-IsRefusal (ShortEvent at wanted found) = Unit {0}
-IsRefusal (BadLength at length) = Unit {0}
-IsRefusal (NoFormat kind) = Unit {0}
-IsRefusal (Algorithm n) = Unit {0}
-IsRefusal (Scheme n) = Unit {0}
-IsRefusal (MissingKey version) = Unit {0}
-IsRefusal (Checksum at stored computed) = Unit {0}
+abbrev pub IsBinlogRefusal : BinlogFault → Type 0
+IsBinlogRefusal Missing = ⊥
+IsBinlogRefusal BadMagic = ⊥
+IsBinlogRefusal FileFault = ⊥
+IsBinlogRefusal OutOfMemory = ⊥
+IsBinlogRefusal (ShortEvent at wanted found) = Unit {0}
+IsBinlogRefusal (BadLength at length) = Unit {0}
+IsBinlogRefusal (NoFormat kind) = Unit {0}
+IsBinlogRefusal (Algorithm n) = Unit {0}
+IsBinlogRefusal (Scheme n) = Unit {0}
+IsBinlogRefusal (MissingKey version) = Unit {0}
+IsBinlogRefusal (Checksum at stored computed) = Unit {0}
 
 -- The counts of a library never fall, and a fault of the file and a missing one are answered only where theirs rose.
-pub record HasCauses {T : Type 0} (faults faults' absences absences' : ℕ) (result : Result T BinlogFault) : Type 0 where
+pub record HasBinlogCauses {T : Type 0} (faults faults' absences absences' : ℕ) (result : Result T BinlogFault) : Type 0 where
   pub faults_later : faults ≤ faults'
   pub absences_later : absences ≤ absences'
   pub failed : result ≡ Err FileFault → Rose faults faults'

@@ -26,12 +26,12 @@ length_of event = le32_at event 9
 abbrev pub next_of : List ℕ → ℕ
 next_of event = le32_at event 13
 
-abbrev pub flags_of : List ℕ → ℕ
-flags_of event = le16_at event 17
+abbrev pub event_flags : List ℕ → ℕ
+event_flags event = le16_at event 17
 
 -- the bytes after the header, without the checksum where there is one
-abbrev pub body_of : Bool → List ℕ → List ℕ
-body_of has_sum bytes = take (length bytes - (if has_sum then 4 else 0) - 19) (drop 19 bytes)
+abbrev pub event_body : Bool → List ℕ → List ℕ
+event_body has_sum bytes = take (length bytes - (if has_sum then 4 else 0) - 19) (drop 19 bytes)
 
 -- events end with a checksum; before the first format description there is none
 abbrev pub has_sum : Option ChecksumAlgorithm → Bool

@@ -2,7 +2,7 @@
 use Rattle.std.specs.Prelude.{◌≡◌, ℕ, List, length, take}
 
 -- the event that was read last, the bytes of the file after it, and the length of the buffer
-pub record Held : Type 0 where
+pub record HeldEvent : Type 0 where
   pub event : List ℕ
   pub rest : List ℕ
   pub room : ℕ

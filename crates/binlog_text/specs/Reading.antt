@@ -2,7 +2,7 @@
 use Rattle.std.specs.Prelude.{◌≡◌, ◌≤◌, ◌<◌, ℕ, ◌+◌, ◌-◌, ◌^◌, min, Bool, false, List, [], length, drop, unwrap_or, if◌then◌else◌, IfOk}
 use Rattle.std.specs.Prelude.{Option, Some, None, Result, Ok, Err}
 use Rattle.std.specs.Option.{option_map}
-use Rattle.binlog_text.specs.Events.{Event, Found, placed}
+use Rattle.binlog_text.specs.Events.{BinlogEvent, Found, placed}
 use Rattle.binlog_text.specs.Faults.{is_outside}
 use Rattle.binlog_text.specs.Header.{framed}
 use Rattle.binlog_text.specs.Held.{IsFront}
@@ -10,7 +10,7 @@ use Rattle.binlog_text.specs.Views.{event_of}
 use Rattle.binlog_text.specs.declared.fault.BinlogFault.{BinlogFault}
 use Rattle.binlog_text.specs.declared.fault.BinlogFault.TheVariants.{Missing}
 use Rattle.binlog_text.specs.declared.stage.Position.{Position}
-use Rattle.binlog_text.specs.declared.stage.Step.{Step}
+use Rattle.binlog_text.specs.declared.stage.StageStep.{StageStep}
 use Rattle.binlog_text.specs.declared.stage.Stage.{Stage}
 use Rattle.binlog_text.specs.declared.stage.Stage.TheVariants.{Events, Refused, Start}
 use Rattle.binlog_text.specs.declared.view.EventMark.{EventMark}
@@ -30,15 +30,15 @@ Keeps (Some file) (Events position) rest = Holds file position rest
 Keeps file (Refused fault) rest = Unit {0}
 
 -- an answer that comes from outside
-abbrev pub is_out : {T : Type 0} → Result T BinlogFault → Bool
-is_out (Ok x) = false
-is_out (Err fault) = is_outside fault
+abbrev pub is_outside_fault : {T : Type 0} → Result T BinlogFault → Bool
+is_outside_fault (Ok x) = false
+is_outside_fault (Err fault) = is_outside fault
 
 -- the event and the position that a step and the event's bytes are
-abbrev pub shown : List ℕ → Result (Option Step) BinlogFault → Result (Option Found) BinlogFault
-shown event (Err fault) = Err fault
-shown event (Ok None) = Ok None
-shown event (Ok (Some step)) = Ok (Some (record { event = record { mark = step.mark; bytes = event }; next = step.next }))
+abbrev pub shown_step : List ℕ → Result (Option StageStep) BinlogFault → Result (Option Found) BinlogFault
+shown_step event (Err fault) = Err fault
+shown_step event (Ok None) = Ok None
+shown_step event (Ok (Some step)) = Ok (Some (record { event = record { mark = step.mark; bytes = event }; next = step.next }))
 
 -- enough of the bytes that are left is here: the header, and the event that the header speaks of
 pub record Reaches (position : Position) (rest left : List ℕ) : Type 0 where
@@ -84,7 +84,7 @@ pub record Starts (file : Option (List ℕ)) (rest : List ℕ) (result : Result 
   pub keeps : IfOk result (λ position. Keeps file (Events position) rest)
 
 -- an event that was read at a position: it has a header, a checksum where it ends with one, and lies within the file
-pub record Moves (position : Position) (event : List ℕ) (step : Step) : Type 0 where
+pub record Moves (position : Position) (event : List ℕ) (step : StageStep) : Type 0 where
   pub place : step.mark.place ≡ position.place
   pub next : step.next.place ≡ position.place + length event
   pub size : step.next.size ≡ position.size
@@ -92,26 +92,26 @@ pub record Moves (position : Position) (event : List ℕ) (step : Step) : Type 0
   pub long : 19 + (if step.mark.has_sum then 4 else 0) ≤ length event
 
 -- the event that is answered, from its mark and its bytes
-abbrev pub marked : List ℕ → Result (Option EventMark) BinlogFault → Result (Option Event) BinlogFault
+abbrev pub marked : List ℕ → Result (Option EventMark) BinlogFault → Result (Option BinlogEvent) BinlogFault
 marked bytes (Err fault) = Err fault
 marked bytes (Ok None) = Ok None
 marked bytes (Ok (Some mark)) = Ok (Some (record { mark = mark; bytes = bytes }))
 
 -- the event that is answered, from its view
-abbrev pub viewed : Result (Option EventView) BinlogFault → Result (Option Event) BinlogFault
+abbrev pub viewed : Result (Option EventView) BinlogFault → Result (Option BinlogEvent) BinlogFault
 viewed (Err fault) = Err fault
 viewed (Ok None) = Ok None
 viewed (Ok (Some view)) = Ok (Some (event_of view))
 
 -- An answer is the definition's, and the stage after an event is the position behind it.
-abbrev pub IsAnswer : Result (Option Found) BinlogFault → Stage → Result (Option Event) BinlogFault → Type 0
+abbrev pub IsAnswer : Result (Option Found) BinlogFault → Stage → Result (Option BinlogEvent) BinlogFault → Type 0
 IsAnswer answer stage (Err fault) = answer ≡ Err fault
 IsAnswer answer stage (Ok None) = answer ≡ Ok None
 IsAnswer answer stage (Ok (Some event)) = (next : Position) × (stage ≡ Events next) × (answer ≡ Ok (Some (record { event = event; next = next })))
 
 -- The stage stays after a fault from outside and at the file's end, and is the refusal after one; after an event fewer
 -- bytes are to come.
-abbrev pub IsStage : Stage → Stage → Result (Option Event) BinlogFault → Type 0
+abbrev pub IsStage : Stage → Stage → Result (Option BinlogEvent) BinlogFault → Type 0
 IsStage old new (Err fault) = new ≡ (if is_outside fault then old else Refused fault)
 IsStage old new (Ok None) = new ≡ old
 IsStage old new (Ok (Some event)) = left_at new < left_at old
@@ -123,18 +123,18 @@ StandsAt (Events position) place = place ≡ position.place
 StandsAt (Refused fault) place = ⊥
 
 -- an event from where a stage stands up to a position of the file
-pub record PassesEvent (stage : Stage) (event : Event) (next : Position) : Type 0 where
+pub record PassesEvent (stage : Stage) (event : BinlogEvent) (next : Position) : Type 0 where
   pub begins : StandsAt stage event.mark.place
   pub ends : next.place ≡ event.mark.place + length event.bytes
   pub inside : next.place ≤ next.size
 
 -- the stage behind an event
-abbrev pub IsBehindEvent : Stage → Event → Stage → Type 0
+abbrev pub IsBehindEvent : Stage → BinlogEvent → Stage → Type 0
 IsBehindEvent old event Start = ⊥
 IsBehindEvent old event (Events next) = PassesEvent old event next
 IsBehindEvent old event (Refused fault) = ⊥
 
 -- an event can be viewed: it has its header and its checksum, and its end is a place
-pub record Fits (mark : EventMark) (event : List ℕ) : Type 0 where
+pub record FitsMark (mark : EventMark) (event : List ℕ) : Type 0 where
   pub long : 19 + (if mark.has_sum then 4 else 0) ≤ length event
   pub fits : mark.place + length event < 2 ^ 64

@@ -3,7 +3,7 @@
 ghost use Rattle.std.specs.Prelude.{◌≡◌, ◌+◌, ◌≤◌, [], length, take, drop, min, max, true, IfOk, IfErr, IsErrOf, OnOk};
 ghost use Rattle.io_core.specs.Told.{Told};
 ghost use Rattle.io_core.specs.Files.{bytes_from};
-ghost use Rattle.binlog_text.specs.Faults.{HasCauses, IsRefusal, is_outside};
+ghost use Rattle.binlog_text.specs.Faults.{HasBinlogCauses, IsBinlogRefusal, is_outside};
 ghost use Rattle.binlog_text.specs.Header.{kind_of, least_stored, sum_length};
 ghost use Rattle.binlog_text.specs.Events.{judged_event, opened, opened_event};
 
@@ -32,9 +32,9 @@ pub struct EventBuffer {
 impl Model for EventBuffer {
     ghost use Rattle.std.specs.Prelude.{ℕ, ◌≤◌, vec_len};
     ghost use Rattle.byte_list.specs.Bytes.{part_of};
-    ghost use Rattle.binlog_text.specs.Held.{Held};
+    ghost use Rattle.binlog_text.specs.Held.{HeldEvent};
 
-    ghost Value = { Held };
+    ghost Value = { HeldEvent };
 
     ghost view = { λ b. record { event = part_of b.bytes.items b.event b.rest; rest = part_of b.bytes.items b.rest b.end; room = vec_len b.bytes } };
 
@@ -42,7 +42,7 @@ impl Model for EventBuffer {
 }
 
 impl EventBuffer {
-    ghost use Rattle.binlog_text.specs.Held.{Held, IsFront};
+    ghost use Rattle.binlog_text.specs.Held.{HeldEvent, IsFront};
 
     /// No bytes.
     pub(crate) fn new(alloc: Global) -> EventBuffer
@@ -94,7 +94,7 @@ impl EventBuffer {
     ) -> Result<LogFormat, BinlogFault>
         requires long { 19 ≤ length self.old.event }
         requires least { least_stored position.now.format (kind_of self.old.event) ≤ length self.old.event }
-        ensures refusal { IfErr result IsRefusal }
+        ensures refusal { IfErr result IsBinlogRefusal }
         ensures sum { IfOk result (λ after. 19 + sum_length after.checksum ≤ length self.old.event) }
         ensures value { opened_event position.now (opened ring.now position.now.format position.now.place self.old.event) ≡ judged_event position.now self.new.event result }
         ensures long { length self.new.event ≡ length self.old.event }
@@ -138,7 +138,7 @@ impl EventBuffer {
         ensures bounded { length self.new.rest ≤ want }
         ensures room { self.new.room ≤ max self.old.room want }
         ensures same { L.files files.new ≡ L.files files.old }
-        ensures causes { HasCauses (L.faults files.old) (L.faults files.new) (L.absences files.old) (L.absences files.new) result }
+        ensures causes { HasBinlogCauses (L.faults files.old) (L.faults files.new) (L.absences files.old) (L.absences files.new) result }
         ensures failed { IsErrOf result BinlogFault.FileFault → L.failed_last files.new name.now }
         ensures outside { IfErr result (λ fault. is_outside fault ≡ true) }
     {
@@ -169,7 +169,7 @@ impl EventBuffer {
         ensures bounded { length self.new.rest ≤ left }
         ensures room { self.new.room ≤ max self.old.room (max need PIECE) }
         ensures same { L.files files.new ≡ L.files files.old }
-        ensures causes { HasCauses (L.faults files.old) (L.faults files.new) (L.absences files.old) (L.absences files.new) result }
+        ensures causes { HasBinlogCauses (L.faults files.old) (L.faults files.new) (L.absences files.old) (L.absences files.new) result }
         ensures failed { IsErrOf result BinlogFault.FileFault → L.failed_last files.new name.now }
         ensures outside { IfErr result (λ fault. is_outside fault ≡ true) }
     {

@@ -2,7 +2,7 @@
 
 ghost use Rattle.std.specs.Prelude.{◌≡◌, ◌+◌, ◌<◌, ◌≤◌, ℕ, List, Ok, Some, None, length, slice_index, IfOk, IfErr, IfSome};
 ghost use Rattle.byte_list.specs.Fields.{le32_at};
-ghost use Rattle.binlog_text.specs.Faults.{IsRefusal};
+ghost use Rattle.binlog_text.specs.Faults.{IsBinlogRefusal};
 ghost use Rattle.binlog_text.specs.Header.{framed, has_sum, whole, kind_of, least_of, least_stored, length_of, sum_length};
 
 use crate::BinlogFault;
@@ -98,7 +98,7 @@ pub(crate) fn framed(
     place: u64,
     bytes: &[u8],
 ) -> Result<Option<usize>, BinlogFault>
-    ensures refusal { IfErr result IsRefusal }
+    ensures refusal { IfErr result IsBinlogRefusal }
     ensures most { IfOk result (λ found. IfSome found (λ long. long ≤ 16777216)) }
     ensures value { result ≡ framed format.now place bytes.now }
     ensures header { IfOk result (λ found. IfSome found (λ long. 19 ≤ long)) }
@@ -131,7 +131,7 @@ pub(crate) fn whole(
     place: u64,
     bytes: &[u8],
 ) -> Result<Option<usize>, BinlogFault>
-    ensures refusal { IfErr result IsRefusal }
+    ensures refusal { IfErr result IsBinlogRefusal }
     ensures value { result ≡ whole format.now place bytes.now }
     ensures within { IfOk result (λ found. IfSome found (λ long. long ≤ length bytes.now)) }
     ensures header { IfOk result (λ found. IfSome found (λ long. 19 ≤ long)) }

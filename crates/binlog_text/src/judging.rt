@@ -2,9 +2,9 @@
 
 ghost use Rattle.std.specs.Prelude.{◌≡◌, ◌+◌, ◌-◌, ◌<◌, ◌≤◌, ℕ, List, Ok, Err, Some, length, take, drop, IfOk, IfErr};
 ghost use Rattle.byte_list.specs.Bytes.{range};
-ghost use Rattle.binlog_text.specs.Faults.{IsRefusal};
+ghost use Rattle.binlog_text.specs.Faults.{IsBinlogRefusal};
 ghost use Rattle.binlog_text.specs.Header.{kind_of, least_of, sum_length};
-ghost use Rattle.binlog_text.specs.Events.{algorithm_for, algorithm_of, event_sum, format_after, judged, stored_sum, sum_checked};
+ghost use Rattle.binlog_text.specs.Events.{algorithm_for, algorithm_of, event_sum, format_after, judged, stored_event_sum, sum_checked};
 
 use crate::BinlogFault;
 use crate::format::{
@@ -15,7 +15,7 @@ use bytes_core::crc32;
 
 fn algorithm_of(number: u8) -> Result<ChecksumAlgorithm, BinlogFault>
     ensures value { result ≡ algorithm_of number }
-    ensures refusal { IfErr result IsRefusal }
+    ensures refusal { IfErr result IsBinlogRefusal }
 {
     match number {
         0 => Ok(ChecksumAlgorithm::Off),
@@ -32,7 +32,7 @@ fn algorithm_for(
     requires { 19 ≤ length event.now }
     ensures value { result ≡ algorithm_for checksum event.now }
     ensures room { least_of checksum (kind_of event.now) ≤ length event.now → IfOk result (λ algorithm. 19 + sum_length (Some algorithm) ≤ length event.now) }
-    ensures refusal { IfErr result IsRefusal }
+    ensures refusal { IfErr result IsBinlogRefusal }
 {
     match checksum {
         Some(algorithm) => Ok(algorithm),
@@ -62,7 +62,7 @@ fn event_sum(event: &mut [u8]) -> u32
 // The checksum is the event's, where there is one.
 fn check_sum(algorithm: ChecksumAlgorithm, place: u64, event: &mut [u8]) -> Result<(), BinlogFault>
     requires { algorithm ≡ ChecksumAlgorithm.Crc32 → 23 ≤ length event.old }
-    ensures refusal { IfErr result IsRefusal }
+    ensures refusal { IfErr result IsBinlogRefusal }
     ensures value { result ≡ sum_checked algorithm place event.old }
     ensures same { event.new ≡ event.old }
 {
@@ -75,7 +75,7 @@ fn check_sum(algorithm: ChecksumAlgorithm, place: u64, event: &mut [u8]) -> Resu
 // The last four bytes are the checksum of all bytes before them.
 fn compare_sums(place: u64, event: &mut [u8]) -> Result<(), BinlogFault>
     requires { 23 ≤ length event.old }
-    ensures refusal { IfErr result IsRefusal }
+    ensures refusal { IfErr result IsBinlogRefusal }
     ensures value { result ≡ sum_checked ChecksumAlgorithm.Crc32 place event.old }
     ensures same { event.new ≡ event.old }
 {
@@ -109,7 +109,7 @@ fn format_after(
 ) -> Result<LogFormat, BinlogFault>
     requires { least_of format.now.checksum (kind_of event.now) ≤ length event.now }
     ensures value { result ≡ format_after format.now algorithm event.now }
-    ensures refusal { IfErr result IsRefusal }
+    ensures refusal { IfErr result IsBinlogRefusal }
     ensures checksum { IfOk result (λ after. after.checksum ≡ Some algorithm) }
 {
     let checksum = Some(algorithm);
@@ -141,7 +141,7 @@ pub(crate) fn judge(
 ) -> Result<LogFormat, BinlogFault>
     requires { least_of format.now.checksum (kind_of event.old) ≤ length event.old }
     ensures value { result ≡ judged format.now place event.old }
-    ensures refusal { IfErr result IsRefusal }
+    ensures refusal { IfErr result IsBinlogRefusal }
     ensures long { IfOk result (λ after. 19 + sum_length after.checksum ≤ length event.old) }
     ensures same { event.new ≡ event.old }
 {

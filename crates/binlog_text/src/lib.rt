@@ -35,7 +35,7 @@ pub use cipher::{decipher_event, encipher_event};
 pub use fault::BinlogFault;
 pub use format::{ChecksumAlgorithm, EventCipher, LogFormat};
 pub use reader::LogReader;
-pub use stage::{Position, Stage, Step};
+pub use stage::{Position, Stage, StageStep};
 pub use view::{EventMark, EventView};
 
 #[cfg(test)]

@@ -1,7 +1,7 @@
 // The plain event of one that is ciphered or in clear.
 
 ghost use Rattle.std.specs.Prelude.{◌≡◌, ◌+◌, ◌%◌, ◌^◌, ◌<◌, ◌≤◌, ℕ, List, Ok, Err, length, IfErr, OnOk, MatchResult};
-ghost use Rattle.binlog_text.specs.Faults.{IsRefusal};
+ghost use Rattle.binlog_text.specs.Faults.{IsBinlogRefusal};
 ghost use Rattle.binlog_text.specs.Header.{kind_of, least_of, least_stored, length_of};
 ghost use Rattle.binlog_text.specs.Cipher.{deciphered_event};
 ghost use Rattle.binlog_text.specs.Events.{opened, plain_checked};
@@ -16,7 +16,7 @@ use key_ring::Ring;
 // The length is one that the plain event's type may have.
 fn check_plain(format: &LogFormat, place: u64, plain: &[u8]) -> Result<(), BinlogFault>
     requires { 19 ≤ length plain.now }
-    ensures refusal { IfErr result IsRefusal }
+    ensures refusal { IfErr result IsBinlogRefusal }
     ensures least { OnOk result (least_of format.now.checksum (kind_of plain.now) ≤ length plain.now) }
     ensures value { MatchResult result (λ _. plain_checked format.now place plain.now ≡ Ok plain.now) (λ fault. plain_checked format.now place plain.now ≡ Err fault) }
 {
@@ -44,7 +44,7 @@ pub(crate) fn open(
     requires long { 19 ≤ length event.old }
     requires least { least_stored format.now (kind_of event.old) ≤ length event.old }
     ensures value { MatchResult result (λ _. opened ring.now format.now place event.old ≡ Ok event.new) (λ fault. opened ring.now format.now place event.old ≡ Err fault) }
-    ensures refusal { IfErr result IsRefusal }
+    ensures refusal { IfErr result IsBinlogRefusal }
     ensures least { OnOk result (least_of format.now.checksum (kind_of event.new) ≤ length event.new) }
 {
     let Some(cipher) = format.cipher else {

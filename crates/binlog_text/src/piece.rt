@@ -3,7 +3,7 @@
 ghost use Rattle.std.specs.Prelude.{◌≡◌, ◌≤◌, length, take, min, max, true, IfOk, IfErr, IsErrOf, OnOk, vec_len};
 ghost use Rattle.io_core.specs.Told.{Told};
 ghost use Rattle.io_core.specs.Files.{IsFilled, bytes_from};
-ghost use Rattle.binlog_text.specs.Faults.{HasCauses, is_outside};
+ghost use Rattle.binlog_text.specs.Faults.{HasBinlogCauses, is_outside};
 ghost use Rattle.binlog_text.specs.Held.{IsFront};
 
 use crate::BinlogFault;
@@ -19,7 +19,7 @@ fn read_piece<L: Library>(
     ensures within { IfOk result (λ n. n ≤ length into.old) }
     ensures bytes { IfOk result (λ n. Told (λ fs. IsFilled (bytes_from place name.now fs) into.old n into.new) (L.files files.old)) }
     ensures same { L.files files.new ≡ L.files files.old }
-    ensures causes { HasCauses (L.faults files.old) (L.faults files.new) (L.absences files.old) (L.absences files.new) result }
+    ensures causes { HasBinlogCauses (L.faults files.old) (L.faults files.new) (L.absences files.old) (L.absences files.new) result }
     ensures failed { IsErrOf result BinlogFault.FileFault → L.failed_last files.new name.now }
     ensures outside { IfErr result (λ fault. is_outside fault ≡ true) }
 {
@@ -46,7 +46,7 @@ pub(crate) fn read_front<L: Library>(
     ensures front { IfOk result (λ n. Told (λ fs. IsFront (take n bytes.new) (bytes_from place name.now fs)) (L.files files.old)) }
     ensures enough { IfOk result (λ n. Told (λ fs. min want (length (bytes_from place name.now fs)) ≤ n) (L.files files.old)) }
     ensures same { L.files files.new ≡ L.files files.old }
-    ensures causes { HasCauses (L.faults files.old) (L.faults files.new) (L.absences files.old) (L.absences files.new) result }
+    ensures causes { HasBinlogCauses (L.faults files.old) (L.faults files.new) (L.absences files.old) (L.absences files.new) result }
     ensures failed { IsErrOf result BinlogFault.FileFault → L.failed_last files.new name.now }
     ensures outside { IfErr result (λ fault. is_outside fault ≡ true) }
 {

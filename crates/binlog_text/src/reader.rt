@@ -6,7 +6,7 @@ ghost use Rattle.binlog_text.specs.Stages.{is_settled};
 use crate::buffer::EventBuffer;
 use crate::fault::is_outside;
 use crate::reading::read_event;
-use crate::stage::{Position, Stage, Step};
+use crate::stage::{Position, Stage, StageStep};
 use crate::start::start;
 use crate::{BinlogFault, EventMark, EventView};
 use io_core::Library;
@@ -26,9 +26,9 @@ impl LogReader {
     ghost use Rattle.std.specs.Borrow.{sem, follows_so};
     ghost use mathlib.Core.Option.{none};
     ghost use Rattle.io_core.specs.Told.{Told};
-    ghost use Rattle.binlog_text.specs.Faults.{HasCauses};
+    ghost use Rattle.binlog_text.specs.Faults.{HasBinlogCauses};
     ghost use Rattle.binlog_text.specs.Events.{answered, placed};
-    ghost use Rattle.binlog_text.specs.Reading.{Fits, IsBehindEvent, Keeps, StandsAt, due_at, is_out, left_at, marked, shown, viewed};
+    ghost use Rattle.binlog_text.specs.Reading.{FitsMark, IsBehindEvent, Keeps, StandsAt, due_at, is_outside_fault, left_at, marked, shown_step, viewed};
     ghost use Rattle.binlog_text.specs.Advances.{Advances, ReaderCauses};
     ghost use Rattle.binlog_text.specs.contracts.reader.LogReader.{the_row};
 
@@ -46,7 +46,7 @@ impl LogReader {
     // Where the next event begins.
     fn position<L: Library>(&mut self, files: &mut L, name: &str) -> Result<Position, BinlogFault>
         requires { Told (λ fs. Keeps (fs name.now) self.old.stage self.old.buffer.rest) (L.files files.old) }
-        ensures position { Told (λ fs. is_out result ≡ false → placed (fs name.now) self.old.stage ≡ result) (L.files files.old) }
+        ensures position { Told (λ fs. is_outside_fault result ≡ false → placed (fs name.now) self.old.stage ≡ result) (L.files files.old) }
         ensures keeps { IfOk result (λ position. Told (λ fs. Keeps (fs name.now) (Stage.Events position) self.new.buffer.rest) (L.files files.old)) }
         ensures kept { OnErr result (Told (λ fs. Keeps (fs name.now) self.old.stage self.new.buffer.rest) (L.files files.old)) }
         ensures stage { self.new.stage ≡ self.old.stage }
@@ -71,14 +71,14 @@ impl LogReader {
         files: &mut L,
         name: &str,
         ring: &Ring,
-    ) -> Result<Option<Step>, BinlogFault>
+    ) -> Result<Option<StageStep>, BinlogFault>
         requires { Told (λ fs. Keeps (fs name.now) self.old.stage self.old.buffer.rest) (L.files files.old) }
-        ensures answer { Told (λ fs. is_out result ≡ false → answered ring.now (fs name.now) self.old.stage ≡ shown self.new.buffer.event result) (L.files files.old) }
+        ensures answer { Told (λ fs. is_outside_fault result ≡ false → answered ring.now (fs name.now) self.old.stage ≡ shown_step self.new.buffer.event result) (L.files files.old) }
         ensures keeps { IfOk result (λ found. IfSome found (λ step. Told (λ fs. Keeps (fs name.now) (Stage.Events step.next) self.new.buffer.rest) (L.files files.old))) }
-        ensures kept { (is_out result ≡ true) ⊎ (result ≡ Ok None) → Told (λ fs. Keeps (fs name.now) self.old.stage self.new.buffer.rest) (L.files files.old) }
+        ensures kept { (is_outside_fault result ≡ true) ⊎ (result ≡ Ok None) → Told (λ fs. Keeps (fs name.now) self.old.stage self.new.buffer.rest) (L.files files.old) }
         ensures stage { self.new.stage ≡ self.old.stage }
         ensures left { IfOk result (λ found. IfSome found (λ step. left_at (Stage.Events step.next) < left_at self.old.stage)) }
-        ensures fits { IfOk result (λ found. IfSome found (λ step. Fits step.mark self.new.buffer.event)) }
+        ensures fits { IfOk result (λ found. IfSome found (λ step. FitsMark step.mark self.new.buffer.event)) }
         ensures behind { IfOk result (λ found. IfSome found (λ step. IsBehindEvent self.old.stage (record { mark = step.mark; bytes = self.new.buffer.event }) (Stage.Events step.next))) }
         ensures room { self.new.buffer.room ≤ max self.old.buffer.room 16777216 }
         ensures grown { Told (λ fs. self.new.buffer.room ≤ max self.old.buffer.room (max 65536 (due_at (fs name.now) self.old.stage))) (L.files files.old) }
@@ -100,7 +100,7 @@ impl LogReader {
     ) -> Result<Option<EventMark>, BinlogFault>
         requires { Told (λ fs. Keeps (fs name.now) self.old.stage self.old.buffer.rest) (L.files files.old) }
         ensures advances { Advances ring.now (L.files files.old) name.now self.old self.new (marked self.new.buffer.event result) }
-        ensures fits { IfOk result (λ found. IfSome found (λ mark. Fits mark self.new.buffer.event)) }
+        ensures fits { IfOk result (λ found. IfSome found (λ mark. FitsMark mark self.new.buffer.event)) }
         ensures again { (fault : BinlogFault) → self.old.stage ≡ Stage.Refused fault → result ≡ Err fault }
         ensures same { L.files files.new ≡ L.files files.old }
         ensures causes { ReaderCauses self.old.stage (L.faults files.old) (L.faults files.new) (L.absences files.old) (L.absences files.new) result }

@@ -4,17 +4,17 @@ ghost use Rattle.std.specs.Prelude.{◌≡◌, ◌+◌, ◌-◌, ◌<◌, ◌≤
 ghost use Rattle.io_core.specs.Told.{Told};
 ghost use Rattle.io_core.specs.Files.{bytes_from};
 ghost use Rattle.byte_list.specs.Bytes.{part_of};
-ghost use Rattle.binlog_text.specs.Faults.{HasCauses, IsRefusal, is_outside};
+ghost use Rattle.binlog_text.specs.Faults.{HasBinlogCauses, IsBinlogRefusal, is_outside};
 ghost use Rattle.binlog_text.specs.Header.{kind_of, least_stored, sum_length};
 ghost use Rattle.binlog_text.specs.Held.{IsFront};
 ghost use Rattle.binlog_text.specs.Events.{event_in, judged_event, opened, opened_event, step_of};
-ghost use Rattle.binlog_text.specs.Reading.{Moves, Reaches, due_in, is_out, shown};
+ghost use Rattle.binlog_text.specs.Reading.{Moves, Reaches, due_in, is_outside_fault, shown_step};
 
 use crate::buffer::EventBuffer;
 use crate::format::{HEADER_LEN, LogFormat, framed, has_sum, whole};
 use crate::judging::judge;
 use crate::opening::open;
-use crate::stage::{Position, Step};
+use crate::stage::{Position, StageStep};
 use crate::{BinlogFault, EventMark};
 use io_core::Library;
 use key_ring::Ring;
@@ -27,7 +27,7 @@ pub(crate) fn read_plain(
 ) -> Result<LogFormat, BinlogFault>
     requires long { 19 ≤ length event.old }
     requires least { least_stored position.now.format (kind_of event.old) ≤ length event.old }
-    ensures refusal { IfErr result IsRefusal }
+    ensures refusal { IfErr result IsBinlogRefusal }
     ensures long { IfOk result (λ after. 19 + sum_length after.checksum ≤ length event.old) }
     ensures value { opened_event position.now (opened ring.now position.now.format position.now.place event.old) ≡ judged_event position.now event.new result }
 {
@@ -46,7 +46,7 @@ pub(crate) fn read_within(
     requires long { at + 19 ≤ to }
     requires inside { to ≤ length bytes.old }
     requires least { least_stored position.now.format (kind_of (part_of bytes.old at to)) ≤ to - at }
-    ensures refusal { IfErr result IsRefusal }
+    ensures refusal { IfErr result IsBinlogRefusal }
     ensures long { IfOk result (λ after. 19 + sum_length after.checksum ≤ to - at) }
     ensures value { opened_event position.now (opened ring.now position.now.format position.now.place (part_of bytes.old at to)) ≡ judged_event position.now (part_of bytes.new at to) result }
     ensures rest { drop to bytes.new ≡ drop to bytes.old }
@@ -79,7 +79,7 @@ fn reach<L: Library>(
     ensures bounded { OnOk result (length buffer.new.rest ≤ position.now.size - position.now.place) }
     ensures outside { IfErr result (λ fault. is_outside fault ≡ true) }
     ensures same { L.files files.new ≡ L.files files.old }
-    ensures causes { HasCauses (L.faults files.old) (L.faults files.new) (L.absences files.old) (L.absences files.new) result }
+    ensures causes { HasBinlogCauses (L.faults files.old) (L.faults files.new) (L.absences files.old) (L.absences files.new) result }
     ensures failed { IsErrOf result BinlogFault.FileFault → L.failed_last files.new name.now }
 {
     let left = left_of(position);
@@ -101,10 +101,10 @@ fn take_event(
     buffer: &mut EventBuffer,
     position: &Position,
     ring: &Ring,
-) -> Result<Option<Step>, BinlogFault>
+) -> Result<Option<StageStep>, BinlogFault>
     requires { length buffer.old.rest ≤ position.now.size - position.now.place }
-    ensures refusal { IfErr result IsRefusal }
-    ensures value { event_in ring.now buffer.old.rest position.now ≡ shown buffer.new.event result }
+    ensures refusal { IfErr result IsBinlogRefusal }
+    ensures value { event_in ring.now buffer.old.rest position.now ≡ shown_step buffer.new.event result }
     ensures rest { IfOk result (λ step. IfSome step (λ s. buffer.new.rest ≡ drop (length buffer.new.event) buffer.old.rest)) }
     ensures end { result ≡ Ok None → buffer.new ≡ buffer.old }
     ensures moves { IfOk result (λ step. IfSome step (Moves position.now buffer.new.event)) }
@@ -119,7 +119,7 @@ fn take_event(
 }
 
 // What stands at a position, the format after it being known.
-fn step_of(position: &Position, length: usize, format: LogFormat) -> Step
+fn step_of(position: &Position, length: usize, format: LogFormat) -> StageStep
     requires { position.now.place + length ≤ position.now.size }
     ensures { result ≡ step_of position.now length format }
 {
@@ -127,7 +127,7 @@ fn step_of(position: &Position, length: usize, format: LogFormat) -> Step
         Some(cipher) => Some(cipher.version),
         None => None,
     };
-    Step {
+    StageStep {
         mark: EventMark {
             place: position.place,
             key,
@@ -151,22 +151,22 @@ pub(crate) fn read_event<L: Library>(
     files: &mut L,
     name: &str,
     ring: &Ring,
-) -> Result<Option<Step>, BinlogFault>
+) -> Result<Option<StageStep>, BinlogFault>
     ensures event { Told (λ fs. IsFront buffer.old.rest (bytes_from position.now.place name.now fs)
         → length (bytes_from position.now.place name.now fs) ≡ position.now.size - position.now.place
-        → is_out result ≡ false → event_in ring.now (bytes_from position.now.place name.now fs) position.now ≡ shown buffer.new.event result) (L.files files.old) }
+        → is_outside_fault result ≡ false → event_in ring.now (bytes_from position.now.place name.now fs) position.now ≡ shown_step buffer.new.event result) (L.files files.old) }
     ensures rest { Told (λ fs. IsFront buffer.old.rest (bytes_from position.now.place name.now fs)
         → length (bytes_from position.now.place name.now fs) ≡ position.now.size - position.now.place
         → IfOk result (λ step. IfSome step (λ s. IsFront buffer.new.rest (drop (length buffer.new.event) (bytes_from position.now.place name.now fs))))) (L.files files.old) }
     ensures stays { Told (λ fs. IsFront buffer.old.rest (bytes_from position.now.place name.now fs)
-        → (is_out result ≡ true) ⊎ (result ≡ Ok None) → IsFront buffer.new.rest (bytes_from position.now.place name.now fs)) (L.files files.old) }
+        → (is_outside_fault result ≡ true) ⊎ (result ≡ Ok None) → IsFront buffer.new.rest (bytes_from position.now.place name.now fs)) (L.files files.old) }
     ensures moves { IfOk result (λ step. IfSome step (Moves position.now buffer.new.event)) }
     ensures room { buffer.new.room ≤ max buffer.old.room 16777216 }
     ensures grown { Told (λ fs. IsFront buffer.old.rest (bytes_from position.now.place name.now fs)
         → length (bytes_from position.now.place name.now fs) ≡ position.now.size - position.now.place
         → buffer.new.room ≤ max buffer.old.room (max 65536 (due_in position.now (bytes_from position.now.place name.now fs)))) (L.files files.old) }
     ensures same { L.files files.new ≡ L.files files.old }
-    ensures causes { HasCauses (L.faults files.old) (L.faults files.new) (L.absences files.old) (L.absences files.new) result }
+    ensures causes { HasBinlogCauses (L.faults files.old) (L.faults files.new) (L.absences files.old) (L.absences files.new) result }
     ensures failed { IsErrOf result BinlogFault.FileFault → L.failed_last files.new name.now }
 {
     reach(buffer, position, files, name)?;

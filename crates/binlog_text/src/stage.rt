@@ -15,7 +15,7 @@ pub struct Position {
 
 /// An event that was read, and where the next one begins.
 #[derive(Clone, Copy)]
-pub struct Step {
+pub struct StageStep {
     /// The event.
     pub mark: EventMark,
     /// Where the next one begins.

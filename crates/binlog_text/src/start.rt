@@ -3,8 +3,8 @@
 ghost use Rattle.std.specs.Prelude.{◌≡◌, ◌≤◌, max, length, IfOk, IsErrOf, true, false};
 ghost use Rattle.io_core.specs.Told.{Told};
 ghost use Rattle.binlog_text.specs.Events.{first_position, is_log, placed};
-ghost use Rattle.binlog_text.specs.Faults.{HasCauses};
-ghost use Rattle.binlog_text.specs.Reading.{IsSize, Starts, is_out};
+ghost use Rattle.binlog_text.specs.Faults.{HasBinlogCauses};
+ghost use Rattle.binlog_text.specs.Reading.{IsSize, Starts, is_outside_fault};
 
 use crate::BinlogFault;
 use crate::buffer::EventBuffer;
@@ -23,9 +23,9 @@ fn is_log(bytes: &[u8]) -> bool
 
 // The length of the file in bytes.
 fn size_of<L: Library>(files: &mut L, name: &str) -> Result<u64, BinlogFault>
-    ensures size { Told (λ fs. is_out result ≡ false → IsSize (fs name.now) result) (L.files files.old) }
+    ensures size { Told (λ fs. is_outside_fault result ≡ false → IsSize (fs name.now) result) (L.files files.old) }
     ensures same { L.files files.new ≡ L.files files.old }
-    ensures causes { HasCauses (L.faults files.old) (L.faults files.new) (L.absences files.old) (L.absences files.new) result }
+    ensures causes { HasBinlogCauses (L.faults files.old) (L.faults files.new) (L.absences files.old) (L.absences files.new) result }
     ensures failed { IsErrOf result BinlogFault.FileFault → L.failed_last files.new name.now }
 {
     match files.length(name) {
@@ -45,11 +45,11 @@ pub(crate) fn start<L: Library>(
     files: &mut L,
     name: &str,
 ) -> Result<Position, BinlogFault>
-    ensures position { Told (λ fs. is_out result ≡ false → Starts (fs name.now) buffer.new.rest result) (L.files files.old) }
+    ensures position { Told (λ fs. is_outside_fault result ≡ false → Starts (fs name.now) buffer.new.rest result) (L.files files.old) }
     ensures room { buffer.new.room ≤ max buffer.old.room 65536 }
     ensures first { IfOk result (λ position. position ≡ first_position position.size) }
     ensures same { L.files files.new ≡ L.files files.old }
-    ensures causes { HasCauses (L.faults files.old) (L.faults files.new) (L.absences files.old) (L.absences files.new) result }
+    ensures causes { HasBinlogCauses (L.faults files.old) (L.faults files.new) (L.absences files.old) (L.absences files.new) result }
     ensures failed { IsErrOf result BinlogFault.FileFault → L.failed_last files.new name.now }
 {
     let size = size_of(files, name)?;

@@ -1,7 +1,7 @@
 // A plain event, lent from a reader's buffer.
 
 ghost use Rattle.std.specs.Prelude.{◌≡◌, ◌+◌, ◌-◌, ◌^◌, ◌<◌, ◌≤◌, length, take, drop, if◌then◌else◌};
-ghost use Rattle.binlog_text.specs.Header.{body_of, flags_of, kind_of, length_of, next_of, server_of, time_of};
+ghost use Rattle.binlog_text.specs.Header.{event_body, event_flags, kind_of, length_of, next_of, server_of, time_of};
 
 use byte_list::fields::{le16_at, le32_at};
 
@@ -63,7 +63,7 @@ impl<'a> EventView<'a> {
 
     /// The flags.
     pub fn flags(&self) -> u16
-        ensures { result ≡ flags_of self.now.bytes.now }
+        ensures { result ≡ event_flags self.now.bytes.now }
     {
         le16_at(self.bytes, 17)
     }
@@ -98,7 +98,7 @@ impl<'a> EventView<'a> {
 
     /// The event's bytes after the header, without the checksum where it ends with one.
     pub fn body(&self) -> &'a [u8]
-        ensures { result.now ≡ body_of self.now.mark.has_sum self.now.bytes.now }
+        ensures { result.now ≡ event_body self.now.mark.has_sum self.now.bytes.now }
     {
         let end = self.bytes.len() - if self.mark.has_sum { 4 } else { 0 };
         &self.bytes[19..end]

@@ -14,11 +14,11 @@ use Rattle.page_places.specs.Texts.{ends_in_sum}
 use Rattle.page_places.proofs.Sums.{and_left, and_right}
 use Rattle.ring_log.specs.Ring as ring
 use Rattle.ring_log.specs.Ring.{Form, IsForm, listed_blocks}
-use Rattle.store_image.specs.Checkpoint.{Checkpoint, side_of}
+use Rattle.store_image.specs.Checkpoint.{HeldCheckpoint, side_of}
 use Rattle.store_image.specs.Places.{LogView}
 use Rattle.store_image.specs.View.{Logged}
 use Rattle.redo_text.specs.declared.change.Change.{Change}
-use Rattle.redo_text.specs.Reading.{version_of}
+use Rattle.redo_text.specs.Reading.{block_version}
 use Rattle.store_files.specs.Checkpoint.{checkpoint_in, is_checkpoint}
 use Rattle.store_files.specs.Header.{Header}
 use Rattle.store_files.specs.RingBlock.{is_ring_block, begins_mtr, ends_mtr, block_text, IsMtrText}
@@ -29,14 +29,14 @@ use Rattle.crash_image.specs.LogForm.{AreTexts, AreBlocksOf, log_form}
 
 -- ---- what is valid
 
-check_is : (i : ℕ) (b : List ℕ) (c : Checkpoint) → checkpoint_in i b ≡ Some c → (is_checkpoint i b ≡ true) × (be64_at b 8 ≡ c.sequence)
+check_is : (i : ℕ) (b : List ℕ) (c : HeldCheckpoint) → checkpoint_in i b ≡ Some c → (is_checkpoint i b ≡ true) × (be64_at b 8 ≡ c.sequence)
 unfolding checkpoint_in
 check_is i b c is = by (is_checkpoint i b) is
   where
     by : (v : Bool) → (if v then Some (record { sequence = be64_at b 8; from = be64_at b 16 }) else None) ≡ Some c → (v ≡ true) × (be64_at b 8 ≡ c.sequence)
-    by true e = (refl, ap (λ (x : Checkpoint). x.sequence) (one _ e))
+    by true e = (refl, ap (λ (x : HeldCheckpoint). x.sequence) (one _ e))
       where
-        one : (x : Checkpoint) → Some x ≡ Some c → x ≡ c
+        one : (x : HeldCheckpoint) → Some x ≡ Some c → x ≡ c
         one x e = cc
     by false e = absurd (cc)
 
@@ -144,7 +144,7 @@ module _ (header : Header) (keys : List RingEntry) (file : List ℕ) where
   texts_here : (n k : ℕ) (text : List ℕ) → AreTexts header keys (listed_blocks N F read n k) text → HasText header keys file n k text
   texts_here n zero text is = is
   texts_here n (suc k) text (local, rest, key, more, e) =
-      (local, rest, ap (λ (b : List ℕ). local_key keys 1 (version_of b) header.salt) (sym (at n)) ∙ key, texts_here (n + 1) k rest more, e ∙ ap (λ (b : List ℕ). block_text header.algorithm local b ++ rest) (at n))
+      (local, rest, ap (λ (b : List ℕ). local_key keys 1 (block_version b) header.salt) (sym (at n)) ∙ key, texts_here (n + 1) k rest more, e ∙ ap (λ (b : List ℕ). block_text header.algorithm local b ++ rest) (at n))
 
   entries_here : (n : ℕ) (es : List (Logged (List Change))) (end : ℕ) → ring.AreWholeEntries N F read n es end → AreLogEntries header keys file n es end
   entries_here n [] end is = is

@@ -5,7 +5,7 @@ use Rattle.key_ring.specs.Local.{local_key}
 use Rattle.page_places.specs.Texts.{ends_in_sum}
 use Rattle.ring_log.specs.Ring.{Form}
 use Rattle.redo_text.specs.declared.change.Change.{Change}
-use Rattle.redo_text.specs.Reading.{version_of}
+use Rattle.redo_text.specs.Reading.{block_version}
 use Rattle.store_files.specs.Checkpoint.{checkpoint_in}
 use Rattle.store_files.specs.Header.{Header}
 use Rattle.store_files.specs.RingBlock.{is_ring_block, begins_mtr, ends_mtr, block_text, IsMtrText}
@@ -15,7 +15,7 @@ module _ (header : Header) (keys : List RingEntry) where
   abbrev pub AreTexts : List (List ℕ) → List ℕ → Type 0
   AreTexts [] text = text ≡ []
   AreTexts (b ∷ bs) text =
-      (local : List ℕ) × (rest : List ℕ) × (local_key keys 1 (version_of b) header.salt ≡ Some local) × AreTexts bs rest × (text ≡ block_text header.algorithm local b ++ rest)
+      (local : List ℕ) × (rest : List ℕ) × (local_key keys 1 (block_version b) header.salt ≡ Some local) × AreTexts bs rest × (text ≡ block_text header.algorithm local b ++ rest)
 
   -- these blocks are those of a mini-transaction: their text says it
   abbrev pub AreBlocksOf : ℕ → List (List ℕ) → List Change → Type 0

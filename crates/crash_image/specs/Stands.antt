@@ -15,7 +15,7 @@ use Rattle.redo_text.specs.declared.change.Change.{Change}
 use Rattle.store_model.specs.declared.contents.SpaceContents.{SpaceContents}
 use Rattle.store_files.specs.Header.{Header, HeaderSpace}
 use Rattle.store_files.specs.Pages.{has_page, key_id_of, pages_of, salts_of}
-use Rattle.redo_text.specs.Reading.{version_of}
+use Rattle.redo_text.specs.Reading.{block_version}
 use Rattle.store_files.specs.Run.{block_at}
 use Rattle.crash_image.specs.StoreTheory.{store_theory}
 use Rattle.crash_image.specs.Recovers.{Recovers}
@@ -34,7 +34,7 @@ Lucky image = IsLucky place_test image
 pub data Named (image : Image) (header : Header) (log : LogView (List Change)) (active id version : ℕ) : Type 0 where
   OfChosen : (s p : ℕ) (t : Text) → has_page header.spaces s p ≡ true → IsChosen (view log image) s p (Some t) → t.version ≢ 0 → id ≡ key_id_of header.spaces s → version ≡ t.version → Named image header log active id version
   OfSlot : (s p i : ℕ) (t : Text) → has_page header.spaces s p ≡ true → IsLive (view log image) s p i t → t.version ≢ 0 → id ≡ key_id_of header.spaces s → version ≡ t.version → Named image header log active id version
-  OfBlock : (n : ℕ) → log.from ≤ n → n < log.end → id ≡ 1 → version ≡ version_of (block_at header.blocks (image.bytes Log) n) → Named image header log active id version
+  OfBlock : (n : ℕ) → log.from ≤ n → n < log.end → id ≡ 1 → version ≡ block_version (block_at header.blocks (image.bytes Log) n) → Named image header log active id version
   OfLog : id ≡ 1 → version ≡ active → Named image header log active id version
   OfSpace : (s : ℕ) → has_page header.spaces s 0 ≡ true → id ≡ key_id_of header.spaces s → version ≡ active → Named image header log active id version
 

@@ -15,7 +15,7 @@ use Rattle.store_model.specs.declared.contents.SpaceContents.{SpaceContents}
 use Rattle.store_files.specs.Header.{Header}
 use Rattle.store_files.specs.Pages.{pages_of, salts_of}
 use Rattle.store_files.specs.RingBlock.{is_ring_block}
-use Rattle.redo_text.specs.Reading.{number_of, version_of}
+use Rattle.redo_text.specs.Reading.{number_of, block_version}
 use Rattle.crash_image.specs.StoreTheory.{store_theory}
 
 abbrev pub slot_item : Option Slot → List Item
@@ -26,7 +26,7 @@ slot_item (Some x) = PageText x.space x.page x.text ∷ []
 abbrev pub written_item : FileName → ℕ → List ℕ → List Item
 written_item (Space s) at bytes = if is_page_text (at / 16384) bytes then PageText s (at / 16384) (text_in bytes) ∷ [] else []
 written_item Double at bytes = slot_item (slot_held bytes)
-written_item Log at bytes = if nat_le 12288 at && is_ring_block (number_of bytes) bytes then RingBlock (number_of bytes) (version_of bytes) bytes ∷ [] else []
+written_item Log at bytes = if nat_le 12288 at && is_ring_block (number_of bytes) bytes then RingBlock (number_of bytes) (block_version bytes) bytes ∷ [] else []
 
 -- the page texts and ring blocks among the writes
 abbrev pub written_items : List (FileName × ℕ × List ℕ) → List Item

@@ -4,17 +4,17 @@ use Rattle.std.proofs.lemmas.List.{take_at, drop_at, take-append-drop, length-ta
 use Rattle.std.proofs.lemmas.Nat.{from_be_bytes-to_be_bytes_2}
 use Rattle.std.specs.Int.{to_be_bytes, from_be_bytes, w16, w32}
 use Rattle.bytes_core.specs.Crc.{crc32c}
-use Rattle.engine_core.specs.Block.{sealed, block_head, IsLogBlock}
+use Rattle.engine_core.specs.Block.{plain_sealed, block_head, IsLogBlock}
 use Rattle.engine_core.specs.Log.{log_block, ring_place, IsRunFrom}
 use Rattle.engine_core.proofs.Places.{place_again}
-use Rattle.engine_core.proofs.Sums.{length-front, length-block_head, take-sealed, IsLogBlock-number}
+use Rattle.engine_core.proofs.Sums.{length-front, length-block_head, take-plain_sealed, IsLogBlock-number}
 
-sum_behind : (text : List ℕ) → length text ≡ 4092 → drop 4092 (sealed text) ≡ to_be_bytes w32 (crc32c text)
-unfolding sealed
+sum_behind : (text : List ℕ) → length text ≡ 4092 → drop 4092 (plain_sealed text) ≡ to_be_bytes w32 (crc32c text)
+unfolding plain_sealed
 sum_behind text size = drop_at text (to_be_bytes w32 (crc32c text)) 4092 size
 
-sealed_is : (front sum : List ℕ) → sum ≡ to_be_bytes w32 (crc32c front) → front ++ sum ≡ sealed front
-unfolding sealed
+sealed_is : (front sum : List ℕ) → sum ≡ to_be_bytes w32 (crc32c front) → front ++ sum ≡ plain_sealed front
+unfolding plain_sealed
 sealed_is front sum is = ap (λ (l : List ℕ). front ++ l) is
 
 used_bytes : (number used : ℕ) → used < 2 ^ 16 → from_be_bytes w16 (get_or (block_head number used) 12 0 ∷ get_or (block_head number used) 13 0 ∷ []) ≡ used
@@ -32,7 +32,7 @@ module _ {number : ℕ} {text block : List ℕ} (b : IsLogBlock number text bloc
   whole = length-front number text b.rest b.size
 
   pub block-front : take 4092 block ≡ front
-  block-front = ap (λ (l : List ℕ). take 4092 l) b.is ∙ take-sealed 4092 front (omega (arith, whole)) ∙ take_whole front whole
+  block-front = ap (λ (l : List ℕ). take 4092 l) b.is ∙ take-plain_sealed 4092 front (omega (arith, whole)) ∙ take_whole front whole
 
   pub block-sum : drop 4092 block ≡ to_be_bytes w32 (crc32c (take 4092 block))
   block-sum = ap (λ (l : List ℕ). drop 4092 l) b.is ∙ sum_behind front whole ∙ ap (λ (l : List ℕ). to_be_bytes w32 (crc32c l)) (sym block-front)
@@ -66,7 +66,7 @@ block_of_parts number used block size small some most head sum =
       rest = rest;
       size = omega (arith, given, length-drop used body);
       is = sym (take-append-drop 4092 block) ∙ sealed_is front (drop 4092 block) sum
-          ∙ ap sealed (parts ∙ ap (λ (k : ℕ). block_head number k ++ text ++ rest) (sym given));
+          ∙ ap plain_sealed (parts ∙ ap (λ (k : ℕ). block_head number k ++ text ++ rest) (sym given));
     }
 
 -- the blocks from this number on hold these texts

@@ -13,7 +13,7 @@ use Rattle.engine_core.specs.Log.{log_block, ring_place, IsFramed}
 use Rattle.disk_model.specs.Marks.{acked as acked_of}
 use Rattle.disk_model.specs.Crash.{unsynced_writes}
 use Rattle.engine_core.specs.Stands.{passes, IsBlockWrite}
-use Rattle.engine_core.specs.Layer.{entry, entry_at, HasNone, Place, Written, NoBlock, IsTorn, Spaced, IsLogFile, HoldsBlocks, LogReady, Moment, Runs, AllRun, IsCrashSafe, AreNumbered}
+use Rattle.engine_core.specs.Layer.{entry, entry_at, HasNone, PlainPlace, Written, NoBlock, IsTorn, Spaced, IsLogFile, HoldsBlocks, LogReady, PlainMoment, Runs, AllRun, IsCrashSafe, AreNumbered}
 use Rattle.engine_core.proofs.Refusable.{block_write, others_are, all_refusable}
 use Rattle.engine_core.proofs.Places.{place_low, place_high, place_again, ranges_apart}
 use Rattle.engine_core.proofs.Sums.{IsLogBlock-length, IsLogBlock-sums_up, IsLogBlock-number}
@@ -53,7 +53,7 @@ module _ (blocks : List (List ℕ)) (settled written : ℕ) (es : List Event) (h
     acked = omega (arith, told);
   }
 
-  at_place : (i : ℕ) → ((j : ℕ) → j < i → entry_at j file ≡ entry blocks j) → settled ≤ i → Place blocks written i file (image.torn Log) → (i < written → ((j : ℕ) → j < i + 1 → entry_at j file ≡ entry blocks j) → Runs blocks image) → i ≤ written → Runs blocks image
+  at_place : (i : ℕ) → ((j : ℕ) → j < i → entry_at j file ≡ entry blocks j) → settled ≤ i → PlainPlace blocks written i file (image.torn Log) → (i < written → ((j : ℕ) → j < i + 1 → entry_at j file ≡ entry blocks j) → Runs blocks image) → i ≤ written → Runs blocks image
   at_place i front after (Written below same) more within = more below (λ j le. ⊎_elim (λ lt. front j lt) (λ (e : j ≡ i). subst (λ (k : ℕ). entry_at k file ≡ entry blocks k) (sym e) same) (below_or j i le))
     where
       below_or : (j i : ℕ) → j < i + 1 → (j < i) ⊎ (j ≡ i)
@@ -76,7 +76,7 @@ module _ (blocks : List (List ℕ)) (settled written : ℕ) (es : List Event) (h
   pub filled : written ≤ settled → IsLogFile blocks settled file
   filled le = record { size = spaced.size; framed = spaced.framed; whole = spaced.front; fresh = λ i after lt. fresh i (spaced.rest i after lt) (omega (arith, le, after)) }
     where
-      fresh : (i : ℕ) → Place blocks written i file (image.torn Log) → written ≤ i → HasNone i file
+      fresh : (i : ℕ) → PlainPlace blocks written i file (image.torn Log) → written ≤ i → HasNone i file
       fresh i (Written below same) behind = absurd (omega (arith, below, behind))
       fresh i (NoBlock none) behind = none
       fresh i (IsTorn listed) behind = no_torn_block i listed
@@ -126,19 +126,19 @@ module _ (blocks : List (List ℕ)) (settled written : ℕ) (old : List ℕ) (re
   other_block j small other = other_put old s.size written room bytes size j small other
 
   other_place : (torn : List (ℕ × ℕ)) → ((i : ℕ) → i < 256 → i ≢ written → IsListed rest (ring_place (i + 2) * 4096) 4096 → IsListed torn (ring_place (i + 2) * 4096) 4096)
-      → (i : ℕ) → i < 256 → i ≢ written → Place blocks written i old rest → Place blocks (written + 1) i (put place bytes old) torn
+      → (i : ℕ) → i < 256 → i ≢ written → PlainPlace blocks written i old rest → PlainPlace blocks (written + 1) i (put place bytes old) torn
   other_place torn keeps i small other (Written below same) = Written (omega arith) (other_block i small other ∙ same)
   other_place torn keeps i small other (NoBlock none) = NoBlock (λ text block. none text (subst (IsLogBlock (i + 2) text) (other_block i small other) block))
   other_place torn keeps i small other (IsTorn listed) = IsTorn (keeps i small other listed)
 
   spaced_after : (torn : List (ℕ × ℕ)) → ((i : ℕ) → i < 256 → i ≢ written → IsListed rest (ring_place (i + 2) * 4096) 4096 → IsListed torn (ring_place (i + 2) * 4096) 4096)
-      → Place blocks (written + 1) written (put place bytes old) torn → Spaced blocks settled (written + 1) (put place bytes old) torn
+      → PlainPlace blocks (written + 1) written (put place bytes old) torn → Spaced blocks settled (written + 1) (put place bytes old) torn
   spaced_after torn keeps here = record {
     size = size_put old s.size written room bytes size;
     framed = frame_put old s.size written room bytes size s.framed;
     front = λ i below. other_block i (omega arith) (omega arith) ∙ s.front i below;
     rest = λ i after lt. ⊎_elim
-        (λ (e : i ≡ written). subst (λ (k : ℕ). Place blocks (written + 1) k (put place bytes old) torn) (sym e) here)
+        (λ (e : i ≡ written). subst (λ (k : ℕ). PlainPlace blocks (written + 1) k (put place bytes old) torn) (sym e) here)
         (λ (ne : i ≡ written → ⊥). other_place torn keeps i lt ne (s.rest i after lt))
         (cases_eq i written);
   }
@@ -157,7 +157,7 @@ module _ (blocks : List (List ℕ)) (settled written : ℕ) (old : List ℕ) (re
 pub spaced_lost : (blocks : List (List ℕ)) (settled written : ℕ) (file : List ℕ) (torn : List (ℕ × ℕ)) → Spaced blocks settled written file torn → Spaced blocks settled (written + 1) file torn
 spaced_lost blocks settled written file torn s = record { size = s.size; framed = s.framed; front = s.front; rest = λ i after lt. one_more i (s.rest i after lt) }
   where
-    one_more : (i : ℕ) → Place blocks written i file torn → Place blocks (written + 1) i file torn
+    one_more : (i : ℕ) → PlainPlace blocks written i file torn → PlainPlace blocks (written + 1) i file torn
     one_more i (Written below same) = Written (omega arith) same
     one_more i (NoBlock none) = NoBlock none
     one_more i (IsTorn listed) = IsTorn listed
@@ -277,17 +277,17 @@ ready_start blocks settled written es r = record {
 ready_runs : (blocks : List (List ℕ)) (settled written acked : ℕ) (es : List Event) → LogReady blocks settled written acked es → AllRun blocks es
 ready_runs blocks settled written acked es r = all_run blocks settled written es r.holds
 
-pub ready_moment : (blocks : List (List ℕ)) (settled written acked : ℕ) (es : List Event) → LogReady blocks settled written acked es → Moment blocks settled acked es
+pub ready_moment : (blocks : List (List ℕ)) (settled written acked : ℕ) (es : List Event) → LogReady blocks settled written acked es → PlainMoment blocks settled acked es
 ready_moment blocks settled written acked es r = record { runs = ready_runs blocks settled written acked es r; synced = r.holds.synced; pending = r.holds.pending; least = r.least; most = r.holds.acked }
 
-pub moment_safe : (blocks : List (List ℕ)) (settled acked : ℕ) (es : List Event) → Moment blocks settled acked es → IsCrashSafe blocks es
+pub moment_safe : (blocks : List (List ℕ)) (settled acked : ℕ) (es : List Event) → PlainMoment blocks settled acked es → IsCrashSafe blocks es
 moment_safe blocks settled acked es m = record { runs = m.runs; refusable = all_refusable blocks settled acked es m }
 
 pub ready_safe : (blocks : List (List ℕ)) (settled written acked : ℕ) (es : List Event) → LogReady blocks settled written acked es → IsCrashSafe blocks es
 ready_safe blocks settled written acked es r = moment_safe blocks settled acked es (ready_moment blocks settled written acked es r)
 
 -- at least the old length is acknowledged after a new mark
-pub less_told : (blocks : List (List ℕ)) (settled acked n : ℕ) → acked ≤ n → (es : List Event) → Moment blocks settled n es → Moment blocks settled acked es
+pub less_told : (blocks : List (List ℕ)) (settled acked n : ℕ) → acked ≤ n → (es : List Event) → PlainMoment blocks settled n es → PlainMoment blocks settled acked es
 less_told blocks settled acked n le es m = record { runs = m.runs; synced = m.synced; pending = m.pending; least = omega (arith, m.least); most = m.most }
 
 pub entry_fits : (blocks : List (List ℕ)) (settled number acked : ℕ) → number < length blocks → (bytes : List ℕ) → bytes ≡ entry blocks number → (es : List Event) → LogReady blocks settled number acked es
@@ -305,10 +305,10 @@ module _ (blocks : List (List ℕ)) (settled number acked : ℕ) (more : number 
   pub write_next : (es : List Event) → LogReady blocks settled number acked es → LogReady blocks settled (number + 1) acked (Write Log here bytes bytes ∷ es)
   write_next es r = subst (λ (b : List ℕ). LogReady blocks settled (number + 1) acked (Write Log here b b ∷ es)) (sym is) (ready_write blocks settled number acked more es r)
 
-  pub write_each : (d : Event) → IsWrite Log here bytes d → (es : List Event) → LogReady blocks settled number acked es → Moment blocks settled acked (d ∷ es)
+  pub write_each : (d : Event) → IsWrite Log here bytes d → (es : List Event) → LogReady blocks settled number acked es → PlainMoment blocks settled acked (d ∷ es)
   write_each d (shows, size, same) es r =
-      subst (λ (e : Event). Moment blocks settled acked (e ∷ es)) (sym same)
-      (subst (λ (b : List ℕ). Moment blocks settled acked (Write Log here b shows ∷ es)) (sym is)
+      subst (λ (e : Event). PlainMoment blocks settled acked (e ∷ es)) (sym same)
+      (subst (λ (b : List ℕ). PlainMoment blocks settled acked (Write Log here b shows ∷ es)) (sym is)
       (record {
         runs = all_run blocks settled (number + 1) (Write Log here (entry blocks number) shows ∷ es) (holds_write blocks settled number es r.holds more shows);
         synced = r.holds.synced;
@@ -319,7 +319,7 @@ module _ (blocks : List (List ℕ)) (settled number acked : ℕ) (more : number 
 
 -- what is known of each moment, whatever is settled
 pub safe_alone : {T X : Type 0} {Q : List Event → Type 0} {old new : Past} {result : Result T X} (blocks : List (List ℕ)) (settled acked : ℕ)
-    → Step (Moment blocks settled acked) Q old new result → Step (IsCrashSafe blocks) Q old new result
+    → Step (PlainMoment blocks settled acked) Q old new result → Step (IsCrashSafe blocks) Q old new result
 safe_alone blocks settled acked step = record { moments = weaker (moment_safe blocks settled acked) step.moments; next = step.next }
 
 pub on_err_always : {T X P : Type 0} (result : Result T X) → P → OnErr result P

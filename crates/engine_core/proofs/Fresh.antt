@@ -18,7 +18,7 @@ use Rattle.disk_model.specs.Crash.{other_writes}
 use Rattle.engine_core.specs.Stands.{AreBlockWrites}
 use Rattle.engine_core.specs.Made.{IsNow, IsHeaded}
 use Rattle.engine_core.proofs.Places.{place_low, place_high}
-use Rattle.engine_core.proofs.Sums.{length-sealed, take-sealed, IsLogBlock-first}
+use Rattle.engine_core.proofs.Sums.{length-plain_sealed, take-plain_sealed, IsLogBlock-first}
 
 pub length-zeros : (n : ℕ) → length (zeros n) ≡ n
 unfolding zeros
@@ -50,16 +50,16 @@ IsCheckpoint-first {sequence} {from} c =
     let head = checkpoint_head sequence from in
     let long = length-checkpoint_head sequence from in
     ap (λ (l : List ℕ). take 8 l) c.is
-    ∙ take-sealed 8 (head ++ c.rest) (omega (arith, long, length-append head c.rest))
+    ∙ take-plain_sealed 8 (head ++ c.rest) (omega (arith, long, length-append head c.rest))
     ∙ take-append-le 8 head c.rest (omega (arith, long))
     ∙ checkpoint_first sequence from
 
 pub length-checkpoint : {sequence from : ℕ} {block : List ℕ} → IsCheckpoint sequence from block → length block ≡ 4096
 length-checkpoint {sequence} {from} c =
-    omega (arith, ap length c.is, length-sealed (checkpoint_head sequence from ++ c.rest), length-append (checkpoint_head sequence from) c.rest, length-checkpoint_head sequence from, c.size)
+    omega (arith, ap length c.is, length-plain_sealed (checkpoint_head sequence from ++ c.rest), length-append (checkpoint_head sequence from) c.rest, length-checkpoint_head sequence from, c.size)
 
 pub length-header : {spaces : List SpaceInfo} {block : List ℕ} → IsHeader spaces block → length block ≡ 4096
-length-header {spaces} h = omega (arith, ap length h.is, length-sealed (header_head spaces ++ h.rest), length-append (header_head spaces) h.rest, h.size)
+length-header {spaces} h = omega (arith, ap length h.is, length-plain_sealed (header_head spaces ++ h.rest), length-append (header_head spaces) h.rest, h.size)
 
 -- zero bytes are no checkpoint
 no_checkpoint : (block : List ℕ) (sequence from : ℕ) → take 8 block ≡ replicate 8 0 → IsCheckpoint sequence from block → ⊥

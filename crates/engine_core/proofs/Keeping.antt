@@ -14,14 +14,14 @@ use Rattle.engine_core.specs.Text.{mtr_text, IsSmall}
 use Rattle.engine_core.specs.Block.{IsLogBlock}
 use Rattle.engine_core.specs.Log.{LogRecovers}
 use Rattle.engine_core.specs.Stands.{AllStand, AllRecover, AllRefusable}
-use Rattle.engine_core.specs.Layer.{LogReady, Moment, IsCrashSafe}
+use Rattle.engine_core.specs.Layer.{LogReady, PlainMoment, IsCrashSafe}
 use Rattle.engine_core.specs.Kept.{Running, IsSound, IsAckedOrUntold, IsExact, AreEntries, AreBlocks, with_journal}
 use Rattle.engine_core.proofs.Events.{ready_safe, ready_moment, filled}
 use Rattle.engine_core.proofs.Journals.{all_stand, filled_recovers, blocks-push, entries-push, take-mtrs, stands-push}
 use Rattle.engine_core.proofs.Push.{ready_push}
 
 pub exact_of : (journal : List Entry) (blocks : List (List ℕ)) (settled acked : ℕ) → AreBlocks 2 journal blocks → AreEntries 2 journal → settled ≤ length journal → length journal ≤ 256
-    → (es : List Event) → Moment blocks settled acked es → IsExact journal settled acked es
+    → (es : List Event) → PlainMoment blocks settled acked es → IsExact journal settled acked es
 exact_of journal blocks settled acked are entries le room es m = record {
   recovers = filled_recovers journal blocks are entries settled _ le room m.synced;
   least = m.least;
@@ -82,7 +82,7 @@ module _ {D : Type 0} (past : D → Past) (may_fail_to_tell : D → Type 0) wher
 
   -- after a call of the disk
   pub sound_after : (r : Running D) (blocks : List (List ℕ)) (disk : D) (settled acked turns : ℕ) (state : State) → IsSound past may_fail_to_tell blocks r → Throughout (IsCrashSafe blocks) (past r.disk) (past disk)
-      → settled ≤ length r.journal → At (Moment blocks settled acked) (past disk) → (state ≡ Up → At (LogReady blocks settled settled acked) (past disk)) → (state ≡ Up → acked ≡ settled) → IsAckedOrUntold may_fail_to_tell state acked settled → acked ≤ settled
+      → settled ≤ length r.journal → At (PlainMoment blocks settled acked) (past disk) → (state ≡ Up → At (LogReady blocks settled settled acked) (past disk)) → (state ≡ Up → acked ≡ settled) → IsAckedOrUntold may_fail_to_tell state acked settled → acked ≤ settled
       → IsSound past may_fail_to_tell blocks (record { disk = disk; first = r.first; journal = r.journal; settled = settled; acked = acked; turns = turns; state = state })
   sound_after r blocks disk settled acked turns state s moments le now ready all_acked tells told = record {
     since = and_then (AllStand r.journal) (past r.first) (past r.disk) (past disk) s.since (weaker (λ m a. all_stand r.journal blocks s.blocks_are s.entries m a.runs) moments);

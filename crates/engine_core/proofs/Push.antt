@@ -4,7 +4,7 @@ use Rattle.std.proofs.lemmas.List.{get_or_append_left, get_or_push}
 use Rattle.std.proofs.lemmas.Bool.{cases_lt}
 use Rattle.disk_model.specs.Event.{Event}
 use Rattle.engine_core.specs.Block.{IsLogBlock}
-use Rattle.engine_core.specs.Layer.{entry, Place, Written, NoBlock, IsTorn, Spaced, IsLogFile, AreNumbered, LogReady}
+use Rattle.engine_core.specs.Layer.{entry, PlainPlace, Written, NoBlock, IsTorn, Spaced, IsLogFile, AreNumbered, LogReady}
 
 module _ (blocks : List (List ℕ)) (block : List ℕ) where
   abbrev longer : List (List ℕ)
@@ -19,7 +19,7 @@ module _ (blocks : List (List ℕ)) (block : List ℕ) where
   filled_push : (written : ℕ) (file : List ℕ) → written ≤ length blocks → IsLogFile blocks written file → IsLogFile longer written file
   filled_push written file le f = record { size = f.size; framed = f.framed; whole = λ i below. f.whole i below ∙ same_entry i (omega arith); fresh = f.fresh }
 
-  same_place : (written : ℕ) (file : List ℕ) (torn : List (ℕ × ℕ)) (i : ℕ) → written ≤ length blocks → Place blocks written i file torn → Place longer written i file torn
+  same_place : (written : ℕ) (file : List ℕ) (torn : List (ℕ × ℕ)) (i : ℕ) → written ≤ length blocks → PlainPlace blocks written i file torn → PlainPlace longer written i file torn
   same_place written file torn i le (Written below same) = Written below (same ∙ same_entry i (omega arith))
   same_place written file torn i le (NoBlock none) = NoBlock none
   same_place written file torn i le (IsTorn listed) = IsTorn listed

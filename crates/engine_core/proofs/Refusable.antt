@@ -13,10 +13,10 @@ use Rattle.disk_model.specs.Lucky.{IsSameOrApart, AreApart, AreRefusable}
 use Rattle.disk_model.specs.declared.names.FileName.{FileName}
 use Rattle.disk_model.specs.declared.names.FileName.TheVariants.{Log}
 use Rattle.disk_model.proofs.FilesLemmas.{same_file-≡}
-use Rattle.engine_core.specs.Block.{log_bytes, sealed, same_bytes, sums_up, IsLogBlock, block_head}
+use Rattle.engine_core.specs.Block.{log_bytes, plain_sealed, same_bytes, sums_up, IsLogBlock, block_head}
 use Rattle.engine_core.specs.Log.{ring_place}
 use Rattle.engine_core.specs.Stands.{passes, IsBlockWrite, AreBlockWrites, AllRefusable}
-use Rattle.engine_core.specs.Layer.{Moment}
+use Rattle.engine_core.specs.Layer.{PlainMoment}
 use Rattle.engine_core.proofs.Places.{place_high}
 use Rattle.engine_core.proofs.Sums.{IsLogBlock-length}
 
@@ -43,7 +43,7 @@ sums_up-ends block size sums =
     }
 
 IsLogBlock-ends : {number : ℕ} {text block : List ℕ} → IsLogBlock number text block → EndsInCrc32c block
-unfolding sealed
+unfolding plain_sealed
 IsLogBlock-ends {number} {text} b = subst EndsInCrc32c (sym b.is) (ends-append (block_head number (length text) ++ text ++ b.rest))
 
 -- a block whose last byte is inverted doesn't sum up
@@ -92,5 +92,5 @@ are_refusable f size is (w ∷ ws) are =
       are_refusable f size is ws are.1,
     )
 
-pub all_refusable : (blocks : List (List ℕ)) (settled acked : ℕ) (es : List Event) → Moment blocks settled acked es → AllRefusable es
+pub all_refusable : (blocks : List (List ℕ)) (settled acked : ℕ) (es : List Event) → PlainMoment blocks settled acked es → AllRefusable es
 all_refusable blocks settled acked es m = λ f. are_refusable f (length (synced_bytes f es)) (λ is. ap (λ (g : FileName). length (synced_bytes g es)) is ∙ m.synced.size) (unsynced_writes es) m.pending

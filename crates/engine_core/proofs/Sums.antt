@@ -5,19 +5,19 @@ use Rattle.std.proofs.lemmas.Bool.Decides.{nat_tests}
 use Rattle.std.proofs.lemmas.Nat.{from_be_bytes-to_be_bytes_8}
 use Rattle.std.specs.Int.{to_be_bytes, from_be_bytes, w32, w64}
 use Rattle.bytes_core.specs.Crc.{crc32c}
-use Rattle.engine_core.specs.Block.{sealed, same_bytes, sums_up, block_head, IsLogBlock}
+use Rattle.engine_core.specs.Block.{plain_sealed, same_bytes, sums_up, block_head, IsLogBlock}
 
 pub same_bytes-itself : (bs : List ℕ) → same_bytes bs bs ≡ true
 same_bytes-itself [] = refl
 same_bytes-itself (b ∷ bs) = let rest = same_bytes-itself bs in grind (arith, nat_tests)
 
-pub length-sealed : (text : List ℕ) → length (sealed text) ≡ length text + 4
-unfolding sealed
-length-sealed text = let four : length (to_be_bytes w32 (crc32c text)) ≡ 4 = refl in omega (arith, four, length-append text (to_be_bytes w32 (crc32c text)))
+pub length-plain_sealed : (text : List ℕ) → length (plain_sealed text) ≡ length text + 4
+unfolding plain_sealed
+length-plain_sealed text = let four : length (to_be_bytes w32 (crc32c text)) ≡ 4 = refl in omega (arith, four, length-append text (to_be_bytes w32 (crc32c text)))
 
-pub sums_up-sealed : (text : List ℕ) → length text ≡ 4092 → sums_up (sealed text) ≡ true
-unfolding sealed sums_up
-sums_up-sealed text size =
+pub sums_up-plain_sealed : (text : List ℕ) → length text ≡ 4092 → sums_up (plain_sealed text) ≡ true
+unfolding plain_sealed sums_up
+sums_up-plain_sealed text size =
     let sum = to_be_bytes w32 (crc32c text) in
     let front : take 4092 (text ++ sum) ≡ text = take_at text sum 4092 size in
     let back : drop 4092 (text ++ sum) ≡ sum = drop_at text sum 4092 size in
@@ -34,14 +34,14 @@ length-front number text rest size =
 
 pub IsLogBlock-length : {number : ℕ} {text block : List ℕ} → IsLogBlock number text block → length block ≡ 4096
 IsLogBlock-length {number} {text} b =
-    omega (arith, ap length b.is, length-sealed (block_head number (length text) ++ text ++ b.rest), length-front number text b.rest b.size)
+    omega (arith, ap length b.is, length-plain_sealed (block_head number (length text) ++ text ++ b.rest), length-front number text b.rest b.size)
 
 pub IsLogBlock-sums_up : {number : ℕ} {text block : List ℕ} → IsLogBlock number text block → sums_up block ≡ true
-IsLogBlock-sums_up {number} {text} b = ap sums_up b.is ∙ sums_up-sealed (block_head number (length text) ++ text ++ b.rest) (length-front number text b.rest b.size)
+IsLogBlock-sums_up {number} {text} b = ap sums_up b.is ∙ sums_up-plain_sealed (block_head number (length text) ++ text ++ b.rest) (length-front number text b.rest b.size)
 
-pub take-sealed : (n : ℕ) (text : List ℕ) → n ≤ length text → take n (sealed text) ≡ take n text
-unfolding sealed
-take-sealed n text le = take-append-le n text (to_be_bytes w32 (crc32c text)) le
+pub take-plain_sealed : (n : ℕ) (text : List ℕ) → n ≤ length text → take n (plain_sealed text) ≡ take n text
+unfolding plain_sealed
+take-plain_sealed n text le = take-append-le n text (to_be_bytes w32 (crc32c text)) le
 
 head_first : (number used : ℕ) → take 8 (block_head number used) ≡ to_be_bytes w64 number
 unfolding block_head
@@ -52,7 +52,7 @@ IsLogBlock-first {number} {text} b =
     let head = block_head number (length text) in
     let long = length-block_head number (length text) in
     ap (λ (l : List ℕ). take 8 l) b.is
-    ∙ take-sealed 8 (head ++ text ++ b.rest) (omega (arith, length-front number text b.rest b.size))
+    ∙ take-plain_sealed 8 (head ++ text ++ b.rest) (omega (arith, length-front number text b.rest b.size))
     ∙ ap (λ (l : List ℕ). take 8 l) (append_assoc head text b.rest)
     ∙ take-append-le 8 head (text ++ b.rest) (omega (arith, long))
     ∙ head_first number (length text)

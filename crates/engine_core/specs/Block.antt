@@ -9,8 +9,8 @@ abbrev pub log_bytes : ℕ
 log_bytes = 1060864
 
 -- the text with its checksum behind it
-unfoldable pub sealed : List ℕ → List ℕ
-sealed text = text ++ to_be_bytes w32 (crc32c text)
+unfoldable pub plain_sealed : List ℕ → List ℕ
+plain_sealed text = text ++ to_be_bytes w32 (crc32c text)
 
 abbrev pub same_bytes : List ℕ → List ℕ → Bool
 same_bytes [] [] = true
@@ -31,11 +31,7 @@ pub record IsLogBlock (number : ℕ) (text : List ℕ) (block : List ℕ) : Type
   pub some : 0 < length text
   pub rest : List ℕ
   pub size : length text + length rest ≡ 4076
-  pub is : block ≡ sealed (block_head number (length text) ++ text ++ rest)
-
--- the ring block that is written: zero bytes stand behind the text
-unfoldable pub zero_rest : ℕ → List ℕ
-zero_rest n = replicate n 0
+  pub is : block ≡ plain_sealed (block_head number (length text) ++ text ++ rest)
 
 -- the first bytes of a checkpoint: its sequence, and the number of the block from which the run begins
 unfoldable pub checkpoint_head : ℕ → ℕ → List ℕ
@@ -48,7 +44,7 @@ pub record IsCheckpoint (sequence from : ℕ) (block : List ℕ) : Type 0 where
   pub most : from ≤ 2 ^ 50
   pub rest : List ℕ
   pub size : length rest ≡ 4068
-  pub is : block ≡ sealed (checkpoint_head sequence from ++ rest)
+  pub is : block ≡ plain_sealed (checkpoint_head sequence from ++ rest)
 
 -- what the header says of each space
 unfoldable pub space_fields : SpaceInfo → List ℕ
@@ -67,4 +63,4 @@ header_head spaces =
 pub record IsHeader (spaces : List SpaceInfo) (block : List ℕ) : Type 0 where
   pub rest : List ℕ
   pub size : length (header_head spaces) + length rest ≡ 4092
-  pub is : block ≡ sealed (header_head spaces ++ rest)
+  pub is : block ≡ plain_sealed (header_head spaces ++ rest)

@@ -21,17 +21,17 @@ abbrev pub HasNone : ℕ → List ℕ → Type 0
 HasNone i file = (text : List ℕ) → IsLogBlock (i + 2) text (entry_at i file) → ⊥
 
 -- a place behind the settled blocks: it holds its block, or no block of its number, or is torn
-pub data Place (blocks : List (List ℕ)) (written i : ℕ) (file : List ℕ) (torn : List (ℕ × ℕ)) : Type 0 where
-  Written : i < written → entry_at i file ≡ entry blocks i → Place blocks written i file torn
-  NoBlock : HasNone i file → Place blocks written i file torn
-  IsTorn : IsListed torn (ring_place (i + 2) * 4096) 4096 → Place blocks written i file torn
+pub data PlainPlace (blocks : List (List ℕ)) (written i : ℕ) (file : List ℕ) (torn : List (ℕ × ℕ)) : Type 0 where
+  Written : i < written → entry_at i file ≡ entry blocks i → PlainPlace blocks written i file torn
+  NoBlock : HasNone i file → PlainPlace blocks written i file torn
+  IsTorn : IsListed torn (ring_place (i + 2) * 4096) 4096 → PlainPlace blocks written i file torn
 
 -- what a crash may leave of the log: the settled blocks stand, and of the written ones any
 pub record Spaced (blocks : List (List ℕ)) (settled written : ℕ) (file : List ℕ) (torn : List (ℕ × ℕ)) : Type 0 where
   pub size : length file ≡ log_bytes
   pub framed : IsFramed file
   pub front : (i : ℕ) → i < settled → entry_at i file ≡ entry blocks i
-  pub rest : (i : ℕ) → settled ≤ i → i < 256 → Place blocks written i file torn
+  pub rest : (i : ℕ) → settled ≤ i → i < 256 → PlainPlace blocks written i file torn
 
 -- a file with so many blocks, and none behind them
 pub record IsLogFile (blocks : List (List ℕ)) (written : ℕ) (file : List ℕ) : Type 0 where
@@ -81,7 +81,7 @@ pub record IsCrashSafe (blocks : List (List ℕ)) (es : List Event) : Type 0 whe
   pub refusable : AllRefusable es
 
 -- at each moment until the next sync: the run of each image, the file at its last sync, the unsynced writes, and how many were acknowledged
-pub record Moment (blocks : List (List ℕ)) (settled acked : ℕ) (es : List Event) : Type 0 where
+pub record PlainMoment (blocks : List (List ℕ)) (settled acked : ℕ) (es : List Event) : Type 0 where
   pub runs : AllRun blocks es
   pub synced : IsLogFile blocks settled (synced_bytes Log es)
   pub pending : AreBlockWrites (unsynced_writes es)

@@ -1,7 +1,8 @@
 // The bytes of a ring block.
 ghost use Rattle.std.specs.Prelude.{◌≡◌, ◌+◌, ◌<◌, ◌≤◌, length, IfOk};
-ghost use Rattle.engine_core.specs.Block.{block_head, IsLogBlock, sealed, zero_rest};
+ghost use Rattle.engine_core.specs.Block.{block_head, IsLogBlock, plain_sealed};
 
+use byte_list::zero_bytes;
 use bytes_core::crc32c;
 use std::alloc::{AllocError, Global};
 use std::marker::Model;
@@ -30,9 +31,9 @@ impl Block {
 }
 
 // Adds the checksum of what is there.
-#[tactic(auto, unfolding(crate::specs::Block::sealed))]
+#[tactic(auto, unfolding(crate::specs::Block::plain_sealed))]
 pub fn seal(text: Vec<u8>) -> Result<Block, AllocError>
-    ensures { IfOk result (λ b. b ≡ sealed text.items) }
+    ensures { IfOk result (λ b. b ≡ plain_sealed text.items) }
 {
     let mut block = text;
     let sum = crc32c(&block);
@@ -42,21 +43,19 @@ pub fn seal(text: Vec<u8>) -> Result<Block, AllocError>
 
 // The first sixteen bytes of a ring block.
 #[tactic(auto, unfolding(crate::specs::Block::block_head))]
+pub(crate) fn block_head(number: u64, used: u16) -> [u8; 16]
+    ensures { result ≡ block_head number used }
+{
+    let [a, b, c, d, e, f, g, h] = number.to_be_bytes();
+    let [u, v] = used.to_be_bytes();
+    [a, b, c, d, e, f, g, h, 0, 0, 0, 0, u, v, 0, 3]
+}
+
+// The same in memory, for the block to grow from.
 fn head_bytes(alloc: Global, number: u64, used: u16) -> Result<Vec<u8>, AllocError>
     ensures { IfOk result (λ v. v.items ≡ block_head number used) }
 {
-    let mut head = number.to_be_bytes().to_vec(alloc)?;
-    head.extend_from_slice(&0u32.to_be_bytes())?;
-    head.extend_from_slice(&used.to_be_bytes())?;
-    head.extend_from_slice(&3u16.to_be_bytes())?;
-    Ok(head)
-}
-
-#[tactic(auto, unfolding(crate::specs::Block::zero_rest))]
-pub fn zero_bytes(alloc: Global, n: usize) -> Result<Vec<u8>, AllocError>
-    ensures { IfOk result (λ v. v.items ≡ zero_rest n) }
-{
-    vec![in alloc; 0u8; n]
+    block_head(number, used).to_vec(alloc)
 }
 
 /// The ring block of this number that holds a text of 1 to 4076 bytes.

@@ -8,7 +8,8 @@ ghost use Rattle.engine_core.specs.Layer.{IsEmpty, LogReady};
 ghost use Rattle.engine_core.specs.Made.{IsNow, IsHeaded, HasCheckpoint};
 
 use crate::StartFault;
-use crate::block::{Block, seal, zero_bytes};
+use crate::block::{Block, seal};
+use byte_list::zero_bytes;
 use disk_model::{Disk, DiskError, FileName};
 use space_head::SpaceInfo;
 use std::alloc::{AllocError, Global};

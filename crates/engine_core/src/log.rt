@@ -2,7 +2,7 @@
 ghost use Rattle.std.specs.Prelude.{◌^◌, ◌-◌, ◌∷◌, ◌++◌, ℕ, List, OnOk, ◌≡◌, ◌+◌, ◌<◌, ◌≤◌, [], length, OnErr, IsErrOf};
 ghost use Rattle.disk_model.specs.Past.{At, Step, HasDiskCause, HasDiskMemoryCause};
 ghost use Rattle.engine_core.specs.Turns.{turns_after, sync_turns, IsTurnOf};
-ghost use Rattle.engine_core.specs.Layer.{LogReady, Moment, IsCrashSafe};
+ghost use Rattle.engine_core.specs.Layer.{LogReady, PlainMoment, IsCrashSafe};
 ghost use Rattle.engine_core.specs.Text.{mtr_text, IsSmall};
 ghost use Rattle.engine_core.specs.Block.{IsLogBlock};
 ghost use Rattle.engine_core.specs.Log.{ring_place};
@@ -51,7 +51,7 @@ pub fn write_block<D: Disk>(
     requires ready { At (LogReady log.now.blocks.items log.now.settled i log.now.acked) (D.past disk.old) }
     requires more { i < length log.now.blocks.items }
     requires room { length log.now.blocks.items ≤ 256 }
-    ensures step { Step (Moment log.now.blocks.items log.now.settled log.now.acked) (LogReady log.now.blocks.items log.now.settled (i + 1) log.now.acked) (D.past disk.old) (D.past disk.new) result }
+    ensures step { Step (PlainMoment log.now.blocks.items log.now.settled log.now.acked) (LogReady log.now.blocks.items log.now.settled (i + 1) log.now.acked) (D.past disk.old) (D.past disk.new) result }
     ensures cause { HasDiskCause (D.faults disk.old) (D.faults disk.new) result }
     ensures memory { HasDiskMemoryCause (D.memory_refusals disk.old) (D.memory_refusals disk.new) result }
     ensures later { D.is_later disk.old disk.new }
@@ -76,7 +76,7 @@ pub fn write_pending<D: Disk>(
     requires room { length log.now.blocks.items ≤ 256 }
     requires order { log.now.settled ≤ length log.now.blocks.items }
     requires counted { turns.old < 2 ^ 64 }
-    ensures step { Step (Moment log.now.blocks.items log.now.settled log.now.acked) (LogReady log.now.blocks.items log.now.settled (length log.now.blocks.items) log.now.acked) (D.past disk.old) (D.past disk.new) result }
+    ensures step { Step (PlainMoment log.now.blocks.items log.now.settled log.now.acked) (LogReady log.now.blocks.items log.now.settled (length log.now.blocks.items) log.now.acked) (D.past disk.old) (D.past disk.new) result }
     ensures cause { HasDiskCause (D.faults disk.old) (D.faults disk.new) result }
     ensures memory { HasDiskMemoryCause (D.memory_refusals disk.old) (D.memory_refusals disk.new) result }
     ensures later { D.is_later disk.old disk.new }
@@ -113,7 +113,7 @@ pub fn write_out<D: Disk>(disk: &mut D, turns: &mut u64, log: &PlainLog) -> Resu
     ensures cause { HasDiskCause (D.faults disk.old) (D.faults disk.new) result }
     ensures memory { HasDiskMemoryCause (D.memory_refusals disk.old) (D.memory_refusals disk.new) result }
     ensures later { D.is_later disk.old disk.new }
-    ensures kept { OnErr result (At (Moment log.now.blocks.items log.now.settled log.now.acked) (D.past disk.new)) }
+    ensures kept { OnErr result (At (PlainMoment log.now.blocks.items log.now.settled log.now.acked) (D.past disk.new)) }
     ensures turns { OnOk result (turns.new ≡ turns_after turns.old (sync_turns (length log.now.blocks.items - log.now.settled))) }
     ensures failed { OnErr result (IsTurnOf (sync_turns (length log.now.blocks.items - log.now.settled)) turns.old turns.new) }
 {
@@ -128,7 +128,7 @@ pub fn write_out<D: Disk>(disk: &mut D, turns: &mut u64, log: &PlainLog) -> Resu
 pub fn tell_acked<D: Disk>(disk: &mut D, log: &PlainLog) -> Result<(), DiskError>
     requires order { log.now.acked ≤ log.now.settled }
     requires ready { At (LogReady log.now.blocks.items log.now.settled log.now.settled log.now.acked) (D.past disk.old) }
-    ensures step { Step (Moment log.now.blocks.items log.now.settled log.now.acked) (LogReady log.now.blocks.items log.now.settled log.now.settled log.now.settled) (D.past disk.old) (D.past disk.new) result }
+    ensures step { Step (PlainMoment log.now.blocks.items log.now.settled log.now.acked) (LogReady log.now.blocks.items log.now.settled log.now.settled log.now.settled) (D.past disk.old) (D.past disk.new) result }
     ensures cause { HasDiskCause (D.faults disk.old) (D.faults disk.new) result }
     ensures memory { HasDiskMemoryCause (D.memory_refusals disk.old) (D.memory_refusals disk.new) result }
     ensures later { D.is_later disk.old disk.new }

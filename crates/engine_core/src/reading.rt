@@ -11,26 +11,18 @@ ghost use Rattle.engine_core.specs.Block.{log_bytes, IsLogBlock, block_head};
 ghost use Rattle.engine_core.specs.Log.{IsRunFrom, log_block, ring_place};
 
 use crate::StartFault;
+use crate::block::block_head;
 use crate::log::ring_place;
 use bytes_core::crc32c;
 use disk_model::{Disk, DiskError, FileName};
 use std::alloc::{AllocError, Global};
 use store_model::Piece;
 
-#[tactic(auto, unfolding(crate::specs::Block::block_head))]
-fn head_array(number: u64, used: u16) -> [u8; 16]
-    ensures { result ≡ block_head number used }
-{
-    let [a, b, c, d, e, f, g, h] = number.to_be_bytes();
-    let [u, v] = used.to_be_bytes();
-    [a, b, c, d, e, f, g, h, 0, 0, 0, 0, u, v, 0, 3]
-}
-
 fn has_head(head: &[u8], number: u64, used: u16) -> bool
     ensures yes { result ≡ true → head.now ≡ block_head number used }
     ensures no { result ≡ false → head.now ≢ block_head number used }
 {
-    let wanted = head_array(number, used);
+    let wanted = block_head(number, used);
     let wanted: &[u8] = &wanted;
     head == wanted
 }

@@ -1,6 +1,6 @@
 // The text of a mini-transaction.
 ghost use Rattle.std.specs.Prelude.{◌≡◌, ◌∷◌, ◌++◌, ◌<◌, ◌^◌, length, IfOk, OnOk};
-ghost use Rattle.engine_core.specs.Text.{change_text, mtr_text, IsAllowedInLog, AreAllowed};
+ghost use Rattle.engine_core.specs.Text.{plain_change_text, mtr_text, IsAllowedInLog, ArePlainAllowed};
 ghost use Rattle.std.specs.Int.{to_be_bytes, w32};
 
 use std::alloc::{AllocError, Global};
@@ -22,7 +22,7 @@ fn push_put(
     bytes: &Piece,
 ) -> Result<(), AllocError>
     requires { length bytes.now < 2 ^ 32 }
-    ensures { OnOk result (text.new.items ≡ text.old.items ++ change_text (Change.Put space page at bytes.now)) }
+    ensures { OnOk result (text.new.items ≡ text.old.items ++ plain_change_text (Change.Put space page at bytes.now)) }
 {
     push_page(text, 1, space, page)?;
     text.extend_from_slice(&at.to_be_bytes())?;
@@ -32,7 +32,7 @@ fn push_put(
 }
 
 fn push_kind(text: &mut Vec<u8>, space: u32, page: u32, kind: u16) -> Result<(), AllocError>
-    ensures { OnOk result (text.new.items ≡ text.old.items ++ change_text (Change.Kind space page kind)) }
+    ensures { OnOk result (text.new.items ≡ text.old.items ++ plain_change_text (Change.Kind space page kind)) }
 {
     push_page(text, 2, space, page)?;
     text.extend_from_slice(&kind.to_be_bytes())?;
@@ -42,7 +42,7 @@ fn push_kind(text: &mut Vec<u8>, space: u32, page: u32, kind: u16) -> Result<(),
 // Adds the text of one change.
 fn push_change(text: &mut Vec<u8>, change: &Change) -> Result<(), AllocError>
     requires { IsAllowedInLog change.now }
-    ensures { OnOk result (text.new.items ≡ text.old.items ++ change_text change.now) }
+    ensures { OnOk result (text.new.items ≡ text.old.items ++ plain_change_text change.now) }
 {
     match change {
         Change::Put {
@@ -63,7 +63,7 @@ fn push_change(text: &mut Vec<u8>, change: &Change) -> Result<(), AllocError>
 
 /// The text of a mini-transaction.
 pub fn mtr_text(alloc: Global, mtr: &Mtr) -> Result<Vec<u8>, AllocError>
-    requires { AreAllowed mtr.now }
+    requires { ArePlainAllowed mtr.now }
     ensures { IfOk result (λ v. v.items ≡ mtr_text mtr.now) }
 {
     let mut text = Vec::new(alloc);

@@ -3,9 +3,9 @@ use Rattle.std.proofs.Common.{◌≡◌, ℕ, ◌+◌, ◌<◌, ◌≤◌, ◌++
 use Rattle.std.specs.List.{onto_first}
 use Rattle.std.proofs.lemmas.Bool.{cases_lt}
 use Rattle.std.proofs.lemmas.List.{same_from_push, length-append, take-append-le, take_at, get_or_at, get_or_append_left}
-use Rattle.keyd_cli.specs.declared.act.Act.{Act}
-use Rattle.keyd_cli.specs.declared.act.Statement.{Statement}
-use Rattle.keyd_cli.specs.Schedule.{words_of, IsNoStatement, IsAct, IsSync, IsMtr}
+use Rattle.keyd_cli.specs.declared.act.DrillAct.{DrillAct}
+use Rattle.keyd_cli.specs.declared.act.DrillStatement.{DrillStatement}
+use Rattle.keyd_cli.specs.Schedule.{statement_words, IsNoStatement, IsAct, IsSync, IsMtr}
 use Rattle.keyd_cli.specs.Reads.{ReadsLines, ReadNone, ReadSkipped, ReadAct, is_mtr, mtr_count, HasRoom, IsSchedule, IsNotBuilt}
 use Rattle.keyd_cli.proofs.ReadsLemmas.{count_more, one_act}
 
@@ -14,25 +14,25 @@ hash_first : (parts : List (List ℕ)) → get_or (get_or (onto_first 35 parts) 
 hash_first [] is = omega (arith, is)
 hash_first (part ∷ parts) is = omega (arith, is)
 
-hash_words : (rest : List ℕ) {words : List (List ℕ)} → words_of (35 ∷ rest) ≡ codes "mtr" ∷ words → ⊥
-hash_words rest {words} is = hash_first (words_of rest) (ap (λ ws. get_or (get_or ws 0 []) 0 0) is)
+hash_words : (rest : List ℕ) {words : List (List ℕ)} → statement_words (35 ∷ rest) ≡ codes "mtr" ∷ words → ⊥
+hash_words rest {words} is = hash_first (statement_words rest) (ap (λ ws. get_or (get_or ws 0 []) 0 0) is)
 
-no_words : {words : List (List ℕ)} → words_of [] ≡ codes "mtr" ∷ words → ⊥
+no_words : {words : List (List ℕ)} → statement_words [] ≡ codes "mtr" ∷ words → ⊥
 no_words {words} is = let n : 0 ≡ 3 = ap (λ ws. length (get_or ws 0 [])) is in omega (arith, n)
 
 -- a line that is skipped is no act
-skipped_or_act : (space pages : ℕ) (line : List ℕ) (act : Act) → IsNoStatement line → IsAct space pages line act → ⊥
+skipped_or_act : (space pages : ℕ) (line : List ℕ) (act : DrillAct) → IsNoStatement line → IsAct space pages line act → ⊥
 skipped_or_act space pages line act (inl empty) (IsSync is) = let n : 0 ≡ 4 = ap length (sym empty ∙ is) in omega (arith, n)
-skipped_or_act space pages line act (inl empty) (IsMtr k p at bytes is) = no_words (sym (ap words_of empty) ∙ is.numbers.words)
+skipped_or_act space pages line act (inl empty) (IsMtr k p at bytes is) = no_words (sym (ap statement_words empty) ∙ is.numbers.words)
 skipped_or_act space pages line act (inr comment) (IsSync is) = let byte : 35 ≡ 115 = ap (λ t. get_or t 0 0) (sym comment.1 ∙ is) in omega (arith, byte)
-skipped_or_act space pages line act (inr comment) (IsMtr k p at bytes is) = hash_words comment.0 (sym (ap words_of comment.1) ∙ is.numbers.words)
+skipped_or_act space pages line act (inr comment) (IsMtr k p at bytes is) = hash_words comment.0 (sym (ap statement_words comment.1) ∙ is.numbers.words)
 
 -- no line is behind the empty list
 none_is_more : (lines : List (List ℕ)) (line : List ℕ) → [] ≡ lines ++ (line ∷ []) → ⊥
 none_is_more lines line is = omega (arith, ap length is, length-append lines (line ∷ []))
 
 -- the same line makes the counts grow by the same
-act_counts : (space pages : ℕ) (line other : List ℕ) (n k : ℕ) (ss ts : List Statement) (a b : Act) → IsAct space pages line a → IsAct space pages other b → line ≡ other → mtr_count ss ≡ mtr_count ts
+act_counts : (space pages : ℕ) (line other : List ℕ) (n k : ℕ) (ss ts : List DrillStatement) (a b : DrillAct) → IsAct space pages line a → IsAct space pages other b → line ≡ other → mtr_count ss ≡ mtr_count ts
     → mtr_count (ss ++ (record { line = n; act = a } ∷ [])) ≡ mtr_count (ts ++ (record { line = k; act = b } ∷ []))
 act_counts space pages line other n k ss ts a b x y same count =
     let kind : is_mtr a ≡ is_mtr b = one_act space pages other a b (subst (λ l. IsAct space pages l a) same x) y in
@@ -40,7 +40,7 @@ act_counts space pages line other n k ss ts a b x y same count =
     ∙ sym (count_more ts (ts ++ (record { line = k; act = b } ∷ [])) k b refl)
 
 -- lines are read with one count of mini-transactions
-same_counts : (space pages : ℕ) (lines others : List (List ℕ)) (ss ts : List Statement) → ReadsLines space pages lines ss → ReadsLines space pages others ts → lines ≡ others → mtr_count ss ≡ mtr_count ts
+same_counts : (space pages : ℕ) (lines others : List (List ℕ)) (ss ts : List DrillStatement) → ReadsLines space pages lines ss → ReadsLines space pages others ts → lines ≡ others → mtr_count ss ≡ mtr_count ts
 same_counts space pages lines others ss ts ReadNone ReadNone is = refl
 same_counts space pages lines others ss ts ReadNone (ReadSkipped more us line r skipped) is = absurd (none_is_more more line is)
 same_counts space pages lines others ss ts ReadNone (ReadAct more us line act r x room) is = absurd (none_is_more more line is)
@@ -57,28 +57,28 @@ same_counts space pages lines others ss ts (ReadAct more us line act r x room) (
     (same_counts space pages more less us vs r q (same_from_push more less line last is).0)
 
 -- these statements stand before the n-th line, which is refused
-record IsRefused (space pages : ℕ) (lines : List (List ℕ)) (n : ℕ) (statements : List Statement) : Type 0 where
+record IsRefused (space pages : ℕ) (lines : List (List ℕ)) (n : ℕ) (statements : List DrillStatement) : Type 0 where
   pub reads : ReadsLines space pages (take n lines) statements
   pub kept : IsNoStatement (get_or lines n []) → ⊥
-  pub refused : (act : Act) → IsAct space pages (get_or lines n []) act → HasRoom (mtr_count statements) act → ⊥
+  pub refused : (act : DrillAct) → IsAct space pages (get_or lines n []) act → HasRoom (mtr_count statements) act → ⊥
 
 -- a refused line that isn't the last one is refused without the last one too
-earlier : (space pages : ℕ) (lines : List (List ℕ)) (line : List ℕ) (n : ℕ) (ss : List Statement) → n < length lines → IsRefused space pages (lines ++ (line ∷ [])) n ss → IsRefused space pages lines n ss
+earlier : (space pages : ℕ) (lines : List (List ℕ)) (line : List ℕ) (n : ℕ) (ss : List DrillStatement) → n < length lines → IsRefused space pages (lines ++ (line ∷ [])) n ss → IsRefused space pages lines n ss
 earlier space pages lines line n ss low at =
     let same : get_or (lines ++ (line ∷ [])) n [] ≡ get_or lines n [] = get_or_append_left lines (line ∷ []) [] n low in
     record {
       reads = subst (λ ls. ReadsLines space pages ls ss) (take-append-le n lines (line ∷ []) (omega (arith, low))) at.reads;
       kept = subst (λ l. IsNoStatement l → ⊥) same at.kept;
-      refused = subst (λ l. (act : Act) → IsAct space pages l act → HasRoom (mtr_count ss) act → ⊥) same at.refused;
+      refused = subst (λ l. (act : DrillAct) → IsAct space pages l act → HasRoom (mtr_count ss) act → ⊥) same at.refused;
     }
 
 -- the refused line is the last one
-record IsLast (space pages : ℕ) (lines : List (List ℕ)) (line : List ℕ) (ss : List Statement) : Type 0 where
+record IsLast (space pages : ℕ) (lines : List (List ℕ)) (line : List ℕ) (ss : List DrillStatement) : Type 0 where
   pub reads : ReadsLines space pages lines ss
   pub kept : IsNoStatement line → ⊥
-  pub refused : (act : Act) → IsAct space pages line act → HasRoom (mtr_count ss) act → ⊥
+  pub refused : (act : DrillAct) → IsAct space pages line act → HasRoom (mtr_count ss) act → ⊥
 
-last_one : (space pages : ℕ) (lines : List (List ℕ)) (line : List ℕ) (n : ℕ) (ss : List Statement) → n < length (lines ++ (line ∷ [])) → length lines ≤ n → IsRefused space pages (lines ++ (line ∷ [])) n ss
+last_one : (space pages : ℕ) (lines : List (List ℕ)) (line : List ℕ) (n : ℕ) (ss : List DrillStatement) → n < length (lines ++ (line ∷ [])) → length lines ≤ n → IsRefused space pages (lines ++ (line ∷ [])) n ss
     → IsLast space pages lines line ss
 last_one space pages lines line n ss low high at =
     let size : length lines ≡ n = omega (arith, low, high, length-append lines (line ∷ [])) in
@@ -86,16 +86,16 @@ last_one space pages lines line n ss low high at =
     record {
       reads = subst (λ ls. ReadsLines space pages ls ss) (take_at lines (line ∷ []) n size) at.reads;
       kept = subst (λ l. IsNoStatement l → ⊥) same at.kept;
-      refused = subst (λ l. (act : Act) → IsAct space pages l act → HasRoom (mtr_count ss) act → ⊥) same at.refused;
+      refused = subst (λ l. (act : DrillAct) → IsAct space pages l act → HasRoom (mtr_count ss) act → ⊥) same at.refused;
     }
 
-last_not_act : (space pages : ℕ) (lines : List (List ℕ)) (line : List ℕ) (ss us : List Statement) (act : Act) → ReadsLines space pages lines us → IsAct space pages line act → HasRoom (mtr_count us) act
+last_not_act : (space pages : ℕ) (lines : List (List ℕ)) (line : List ℕ) (ss us : List DrillStatement) (act : DrillAct) → ReadsLines space pages lines us → IsAct space pages line act → HasRoom (mtr_count us) act
     → IsLast space pages lines line ss → ⊥
 last_not_act space pages lines line ss us act r x room at =
     at.refused act x (subst (λ c. HasRoom c act) (same_counts space pages lines lines us ss r at.reads refl) room)
 
 -- no line of lines that are read is refused
-none_refused : (space pages : ℕ) (lines : List (List ℕ)) (us : List Statement) → ReadsLines space pages lines us → (n : ℕ) (ss : List Statement) → n < length lines → IsRefused space pages lines n ss → ⊥
+none_refused : (space pages : ℕ) (lines : List (List ℕ)) (us : List DrillStatement) → ReadsLines space pages lines us → (n : ℕ) (ss : List DrillStatement) → n < length lines → IsRefused space pages lines n ss → ⊥
 none_refused space pages lines us ReadNone n ss low at = omega (arith, low)
 none_refused space pages lines us (ReadSkipped more vs line r skipped) n ss low at = elim (cases_lt n (length more)) [
   | inl before ↦ none_refused space pages more vs r n ss before (earlier space pages more line n ss before at)
@@ -107,7 +107,7 @@ none_refused space pages lines us (ReadAct more vs line act r x room) n ss low a
 ]
 
 -- a text that is a schedule has no line that is refused
-pub built-not_refused : (space pages : ℕ) (text : List ℕ) (statements : List Statement) (line : ℕ) → IsSchedule space pages text statements → IsNotBuilt space pages text line → ⊥
+pub built-not_refused : (space pages : ℕ) (text : List ℕ) (statements : List DrillStatement) (line : ℕ) → IsSchedule space pages text statements → IsNotBuilt space pages text line → ⊥
 built-not_refused space pages text statements line is not =
     let n = length not.before in
     let whole = not.before ++ (not.line ∷ not.behind) in
@@ -117,5 +117,5 @@ built-not_refused space pages text statements line is not =
     (record {
       reads = subst (λ ls. ReadsLines space pages ls not.statements) (sym (take_at not.before (not.line ∷ not.behind) n refl)) not.reads;
       kept = subst (λ l. IsNoStatement l → ⊥) same not.kept;
-      refused = subst (λ l. (act : Act) → IsAct space pages l act → HasRoom (mtr_count not.statements) act → ⊥) same not.refused;
+      refused = subst (λ l. (act : DrillAct) → IsAct space pages l act → HasRoom (mtr_count not.statements) act → ⊥) same not.refused;
     })

@@ -4,14 +4,14 @@ use Rattle.io_core.specs.Files.{Files}
 use Rattle.keyd_cli.specs.declared.plan.DrillPlan.{DrillPlan}
 use Rattle.keyd_cli.specs.declared.status.Status.{Status}
 use Rattle.keyd_cli.specs.declared.status.Status.TheVariants as status
-use Rattle.keyd_cli.specs.Words.{Word}
+use Rattle.keyd_cli.specs.Words.{CommandWord}
 use Rattle.keyd_cli.specs.PlanOf.{IsPlan}
 use Rattle.keyd_cli.specs.Reads.{IsNotBuilt}
 use Rattle.keyd_cli.specs.Ends.{IsEnd, OutsideCounts, NoneRose, IsComplete}
 use Rattle.keyd_cli.proofs.Built.{built-not_refused}
 use Rattle.keyd_cli.proofs.OnePlan.{one-space}
 
-module _ (words : List Word) (files : Option Files) (left given given' : Option (List ℕ)) (before now : OutsideCounts) (all : IsComplete words files left) (none : NoneRose before now) where
+module _ (words : List CommandWord) (files : Option Files) (left given given' : Option (List ℕ)) (before now : OutsideCounts) (all : IsComplete words files left) (none : NoneRose before now) where
   not_refused : (p : DrillPlan) (text : List ℕ) (line : ℕ) → IsPlan (drop 1 words) p → text ≡ all.text → IsNotBuilt p.space.space p.space.pages text line → ⊥
   not_refused p text line asked same refused =
       let one = one-space (drop 1 words) p all.plan asked all.asked in

@@ -27,11 +27,11 @@ use Rattle.disk_model.specs.declared.calls.DiskCall.{DiskCall}
 use Rattle.engine_core.specs.declared.fault.State.{State}
 use Rattle.engine_core.specs.declared.fault.State.TheVariants.{Up, OutOfMemory}
 use Rattle.engine_core.specs.Stands.{AllRecover, LogKeeps, passes}
-use Rattle.keyd_cli.specs.declared.act.Statement.{Statement}
+use Rattle.keyd_cli.specs.declared.act.DrillStatement.{DrillStatement}
 use Rattle.keyd_cli.specs.declared.plan.DrillPlan.{DrillPlan}
 use Rattle.keyd_cli.specs.declared.drill.Drilled.{Drilled}
 use Rattle.keyd_cli.specs.Session.{HasRun, AreAckedWithin}
-use Rattle.keyd_cli.specs.Drill.{AreLost, Begins, IsDrilled, stop_after, stopped_by}
+use Rattle.keyd_cli.specs.Drill.{AreLost, DrillBegins, IsDrilled, stop_after, stopped_by}
 use Rattle.keyd_cli.proofs.Stops.{none-fails, fails-late}
 
 -- a disk that just began has the files that it reads as
@@ -91,7 +91,7 @@ none-failed begun (Some turn) cs planned is some =
     by false not is late = let le : nat_le (later_turn begun turn) (turns_in cs) ≡ true = grind (arith, nat_tests) in absurd (true≢false (sym le ∙ not))
 
 -- the facts of a session and of its disk's crash, together
-module _ (plan : DrillPlan) (statements : List Statement) (first : DiskContents) (begins : Begins plan.space plan.stop first) (d : Drilled) (later : IsLaterLog first.log d.end.disk.contents.log) where
+module _ (plan : DrillPlan) (statements : List DrillStatement) (first : DiskContents) (begins : DrillBegins plan.space plan.stop first) (d : Drilled) (later : IsLaterLog first.log d.end.disk.contents.log) where
   planned : are_planned [] first.log.stop 0 (calls_since d.end.disk.contents) ≡ true
   planned =
       let log = d.end.disk.contents.log in

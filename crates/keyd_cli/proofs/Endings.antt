@@ -10,13 +10,13 @@ use Rattle.keyd_cli.specs.declared.plan.DrillPlan.{DrillPlan}
 use Rattle.keyd_cli.specs.declared.drill.Drilled.{Drilled}
 use Rattle.keyd_cli.specs.declared.status.Status.{Status}
 use Rattle.keyd_cli.specs.declared.status.Status.TheVariants as status
-use Rattle.keyd_cli.specs.Words.{Word, flag_word, ArePairs, option_words, occurrences, IsDrill}
+use Rattle.keyd_cli.specs.Words.{CommandWord, flag_word, ArePairs, option_words, occurrences, IsDrill}
 use Rattle.keyd_cli.specs.PlanOf.{IsPlan}
 use Rattle.keyd_cli.specs.Keys.{values_of}
 use Rattle.keyd_cli.specs.Ends.{IsKeyed, IsKeyEnd, IsInputEnd, IsCommandDrilled, IsCutShort, IsEnd, OutsideCounts, drill_text}
 
 -- an option has as many values as it stands occurrences
-pub values-count : (f : Flag) (ws : List Word) → ArePairs ws → length (values_of f ws) ≡ occurrences f ws
+pub values-count : (f : Flag) (ws : List CommandWord) → ArePairs ws → length (values_of f ws) ≡ occurrences f ws
 unfolding ArePairs option_words values_of
 values-count f [] pairs = refl
 values-count f (w ∷ []) pairs = absurd pairs
@@ -31,7 +31,7 @@ pub handed : {T E : Type 0} (P : E → Type 0) (r : Result T E) (x : E) → IsEr
 handed P (Ok v) x is p = absurd is
 handed P (Err e) x is p = subst P (sym is) p
 
-module _ (words : List Word) (files : Option Files) (left given : Option (List ℕ)) (before now : OutsideCounts) where
+module _ (words : List CommandWord) (files : Option Files) (left given : Option (List ℕ)) (before now : OutsideCounts) where
   pub memory-end : IsEnd words files left given given before now status.OutOfMemory
   memory-end = inl refl
 

@@ -3,9 +3,9 @@ use Rattle.std.proofs.Common.{◌≡◌, ℕ, ◌+◌, ◌-◌, ◌<◌, ◌≤�
 use Rattle.std.proofs.lemmas.List.{take_more, take_all, drop_more, take-append-drop, length-take-le, length-drop}
 use Rattle.std.proofs.lemmas.List.Sums.{sum_by_push, count_by-le-length}
 use Rattle.std.proofs.lemmas.List.Splits.{length-slice_split}
-use Rattle.keyd_cli.specs.declared.act.Act.{Act}
-use Rattle.keyd_cli.specs.declared.act.Statement.{Statement}
-use Rattle.keyd_cli.specs.Schedule.{schedule_lines, words_of, IsNoStatement, IsAct, IsSync, IsMtr}
+use Rattle.keyd_cli.specs.declared.act.DrillAct.{DrillAct}
+use Rattle.keyd_cli.specs.declared.act.DrillStatement.{DrillStatement}
+use Rattle.keyd_cli.specs.Schedule.{schedule_lines, statement_words, IsNoStatement, IsAct, IsSync, IsMtr}
 use Rattle.keyd_cli.specs.Reads.{ReadsLines, ReadSkipped, ReadAct, is_mtr, mtr_count, HasRoom, IsNotBuilt}
 
 -- the n-th line, where so many are read
@@ -40,12 +40,12 @@ all_read all n left is none most =
 pub few_lines : (text : List ℕ) → length (schedule_lines text) ≤ length text + 1
 few_lines text = omega (arith, length-slice_split (λ b. b == 10) text, count_by-le-length (λ b. b == 10) text)
 
-pub skipped_more : (space pages : ℕ) (all : List (List ℕ)) (n : ℕ) (line : List ℕ) (rest : List (List ℕ)) (statements : List Statement) → AtLine all n line rest
+pub skipped_more : (space pages : ℕ) (all : List (List ℕ)) (n : ℕ) (line : List ℕ) (rest : List (List ℕ)) (statements : List DrillStatement) → AtLine all n line rest
     → ReadsLines space pages (take n all) statements → IsNoStatement line → ReadsLines space pages (take (n + 1) all) statements
 skipped_more space pages all n line rest statements at reads skipped =
     subst (λ ls. ReadsLines space pages ls statements) (sym at.more) (ReadSkipped (take n all) statements line reads skipped)
 
-pub act_more : (space pages : ℕ) (all : List (List ℕ)) (n : ℕ) (line : List ℕ) (rest : List (List ℕ)) (statements more : List Statement) (act : Act) → AtLine all n line rest
+pub act_more : (space pages : ℕ) (all : List (List ℕ)) (n : ℕ) (line : List ℕ) (rest : List (List ℕ)) (statements more : List DrillStatement) (act : DrillAct) → AtLine all n line rest
     → ReadsLines space pages (take n all) statements → IsAct space pages line act → HasRoom (mtr_count statements) act
     → more ≡ statements ++ (record { line = n + 1; act = act } ∷ []) → ReadsLines space pages (take (n + 1) all) more
 act_more space pages all n line rest statements more act at reads is room grown =
@@ -55,11 +55,11 @@ act_more space pages all n line rest statements more act at reads is room grown 
     ap (λ k. statements ++ (record { line = k; act = act } ∷ [])) number ∙ sym grown in
     subst (λ ss. ReadsLines space pages (take (n + 1) all) ss) same (subst (λ ls. ReadsLines space pages ls (statements ++ (record { line = length (take n all) + 1; act = act } ∷ []))) (sym at.more) read)
 
-pub count_more : (statements more : List Statement) (n : ℕ) (act : Act) → more ≡ statements ++ (record { line = n; act = act } ∷ []) → mtr_count more ≡ mtr_count statements + (if is_mtr act then 1 else 0)
+pub count_more : (statements more : List DrillStatement) (n : ℕ) (act : DrillAct) → more ≡ statements ++ (record { line = n; act = act } ∷ []) → mtr_count more ≡ mtr_count statements + (if is_mtr act then 1 else 0)
 count_more statements more n act grown = ap mtr_count grown ∙ sum_by_push (λ s. cond (is_mtr s.act) 1 0) statements (record { line = n; act = act })
 
-pub refused_at : (space pages : ℕ) (text : List ℕ) (n : ℕ) (line : List ℕ) (rest : List (List ℕ)) (statements : List Statement) → AtLine (schedule_lines text) n line rest
-    → ReadsLines space pages (take n (schedule_lines text)) statements → (IsNoStatement line → ⊥) → ((act : Act) → IsAct space pages line act → HasRoom (mtr_count statements) act → ⊥)
+pub refused_at : (space pages : ℕ) (text : List ℕ) (n : ℕ) (line : List ℕ) (rest : List (List ℕ)) (statements : List DrillStatement) → AtLine (schedule_lines text) n line rest
+    → ReadsLines space pages (take n (schedule_lines text)) statements → (IsNoStatement line → ⊥) → ((act : DrillAct) → IsAct space pages line act → HasRoom (mtr_count statements) act → ⊥)
     → IsNotBuilt space pages text (n + 1)
 refused_at space pages text n line rest statements at reads kept refused = record {
   before = take n (schedule_lines text);
@@ -74,14 +74,14 @@ refused_at space pages text n line rest statements at reads kept refused = recor
 }
 
 -- no line of a put is `sync`
-no_both : (line : List ℕ) {rest : List (List ℕ)} → line ≡ codes "sync" → words_of line ≡ codes "mtr" ∷ rest → ⊥
+no_both : (line : List ℕ) {rest : List (List ℕ)} → line ≡ codes "sync" → statement_words line ≡ codes "mtr" ∷ rest → ⊥
 no_both line {rest} same words =
-    let one : words_of line ≡ codes "sync" ∷ [] = ap words_of same in
+    let one : statement_words line ≡ codes "sync" ∷ [] = ap statement_words same in
     let byte : 115 ≡ 109 = ap (λ ws. get_or (get_or ws 0 []) 0 0) (sym one ∙ words) in
     omega (arith, byte)
 
 -- a line is one act at most
-pub one_act : (space pages : ℕ) (line : List ℕ) (a b : Act) → IsAct space pages line a → IsAct space pages line b → is_mtr a ≡ is_mtr b
+pub one_act : (space pages : ℕ) (line : List ℕ) (a b : DrillAct) → IsAct space pages line a → IsAct space pages line b → is_mtr a ≡ is_mtr b
 one_act space pages line a b (IsSync x) (IsSync y) = refl
 one_act space pages line a b (IsMtr k p at bytes x) (IsMtr l q to more y) = refl
 one_act space pages line a b (IsSync x) (IsMtr l q to more y) = absurd (no_both line x y.numbers.words)

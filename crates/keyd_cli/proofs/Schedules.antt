@@ -5,8 +5,8 @@ use Rattle.hex.specs.Hex.{decode_of}
 use Rattle.redo_text.specs.declared.change.Change.{Change}
 use Rattle.redo_text.specs.declared.change.Change.TheVariants.{Put}
 use Rattle.keyd_cli.specs.Schedule.{AreNumbers, IsPutLine, IsAct, IsSync, IsMtr, IsNoStatement}
-use Rattle.keyd_cli.specs.declared.act.Act.{Act}
-use Rattle.keyd_cli.specs.declared.act.Act.TheVariants.{Mtr}
+use Rattle.keyd_cli.specs.declared.act.DrillAct.{DrillAct}
+use Rattle.keyd_cli.specs.declared.act.DrillAct.TheVariants.{Mtr}
 
 ok_or_none : {E : Type 0} → Result (List ℕ) E → List ℕ
 ok_or_none (Ok bytes) = bytes
@@ -43,6 +43,6 @@ pub not_skipped : (line : List ℕ) → 0 < length line → (get_or line 0 0 ≡
 not_skipped line some other (inl empty) = let n : length line ≡ 0 = ap length empty in omega (arith, some, n)
 not_skipped line some other (inr comment) = other (ap (λ t. get_or t 0 0) comment.1)
 
-pub no_act : (space pages : ℕ) (line : List ℕ) → (line ≡ codes "sync" → ⊥) → ((k p at : ℕ) (bytes : List ℕ) → IsPutLine space pages line k p at bytes → ⊥) → (act : Act) → IsAct space pages line act → ⊥
+pub no_act : (space pages : ℕ) (line : List ℕ) → (line ≡ codes "sync" → ⊥) → ((k p at : ℕ) (bytes : List ℕ) → IsPutLine space pages line k p at bytes → ⊥) → (act : DrillAct) → IsAct space pages line act → ⊥
 no_act space pages line no_sync no_put act (IsSync is) = no_sync is
 no_act space pages line no_sync no_put act (IsMtr k p at bytes is) = no_put k p at bytes is

@@ -17,7 +17,7 @@ use Rattle.engine_core.specs.Made.{IsHeaded}
 use Rattle.engine_core.specs.Stands.{LogKeeps, passes}
 use Rattle.keyd_cli.specs.declared.words.SpaceWords.{SpaceWords}
 use Rattle.keyd_cli.specs.declared.plan.DrillPlan.{DrillPlan}
-use Rattle.keyd_cli.specs.declared.act.Statement.{Statement}
+use Rattle.keyd_cli.specs.declared.act.DrillStatement.{DrillStatement}
 use Rattle.keyd_cli.specs.declared.drill.Drilled.{Drilled}
 use Rattle.keyd_cli.specs.Session.{HasRun, AreAckedWithin}
 
@@ -36,7 +36,7 @@ stopped_by begun turns None = None
 stopped_by begun turns (Some turn) = if nat_le (later_turn begun turn) turns then Some turn else None
 
 -- The disk as the session begins: the store has this space and no used page, and from the session's stop on each turn is to fail.
-pub record Begins (space : SpaceWords) (turn : Option ℕ) (first : DiskContents) : Type 0 where
+pub record DrillBegins (space : SpaceWords) (turn : Option ℕ) (first : DiskContents) : Type 0 where
   pub empty : LogReady [] 0 0 0 (events first)
   pub headed : IsHeaded (info_of space ∷ []) (events first)
   pub failing : first.log.failing.items ≡ []
@@ -47,9 +47,9 @@ abbrev pub AreLost : List Choice → Type 0
 AreLost choices = All (λ c. c ≡ Lost) choices
 
 -- The session ran on the disk as it began, that disk's crash keeps so many entries of the journal, and no more than these were acknowledged.
-pub record IsDrilled (plan : DrillPlan) (statements : List Statement) (d : Drilled) : Type 0 where
+pub record IsDrilled (plan : DrillPlan) (statements : List DrillStatement) (d : Drilled) : Type 0 where
   pub first : DiskContents
-  pub begins : Begins plan.space plan.stop first
+  pub begins : DrillBegins plan.space plan.stop first
   pub later : IsLaterLog first.log d.end.disk.contents.log
   -- no turn before the stop failed, and each from it on did, but where memory was refused
   pub planned : are_planned [] first.log.stop 0 (calls_since d.end.disk.contents) ≡ true

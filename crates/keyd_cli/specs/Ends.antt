@@ -12,13 +12,13 @@ use Rattle.engine_core.specs.Stands.{contents_after}
 use Rattle.store_model.specs.Fold.{empty}
 use Rattle.store_model.specs.Report.{report_text}
 use Rattle.keyd_cli.specs.declared.plan.DrillPlan.{DrillPlan}
-use Rattle.keyd_cli.specs.declared.act.Statement.{Statement}
+use Rattle.keyd_cli.specs.declared.act.DrillStatement.{DrillStatement}
 use Rattle.keyd_cli.specs.declared.drill.Drilled.{Drilled}
 use Rattle.keyd_cli.specs.declared.outcome.Reply.{Reply}
 use Rattle.keyd_cli.specs.declared.outcome.DrillEnd.{DrillEnd}
 use Rattle.keyd_cli.specs.declared.status.Status.{Status}
 use Rattle.keyd_cli.specs.declared.status.Status.TheVariants as status
-use Rattle.keyd_cli.specs.Words.{Word, IsDrill, IsUsage}
+use Rattle.keyd_cli.specs.Words.{CommandWord, IsDrill, IsUsage}
 use Rattle.keyd_cli.specs.PlanOf.{IsPlan}
 use Rattle.keyd_cli.specs.Keys.{IsLoaded}
 use Rattle.keyd_cli.specs.Reads.{IsSchedule, IsNotBuilt}
@@ -29,7 +29,7 @@ use Rattle.keyd_cli.specs.Schedule.{schedule_bytes}
 -- ---- the key files
 
 -- Where the library tells its files, those that the options name load.
-abbrev pub IsKeyed : List Word → Option Files → Type 0
+abbrev pub IsKeyed : List CommandWord → Option Files → Type 0
 IsKeyed options files = Told (λ fs. (keys : List ring.RingEntry) × IsLoaded fs options (Ok keys)) files
 
 -- the status of key files that don't load
@@ -40,7 +40,7 @@ load_status (load.KeyFile index fault) = status.KeyFile index fault
 load_status load.OutOfMemory = status.OutOfMemory
 
 -- The first fault of the key files, or a fault of the library, whose counts of faults and of absences were and are these.
-abbrev pub IsKeyEnd : List Word → Option Files → ℕ → ℕ → ℕ → ℕ → Status → Type 0
+abbrev pub IsKeyEnd : List CommandWord → Option Files → ℕ → ℕ → ℕ → ℕ → Status → Type 0
 IsKeyEnd options files faults faults' absences absences' (status.KeyFile index fault) = Told (λ fs. IsLoaded fs options (Err (load.KeyFile index fault))) files
 IsKeyEnd options files faults faults' absences absences' (status.Missing name) = Told (λ fs. IsLoaded fs options (Err (load.Missing name))) files × Rose absences absences'
 IsKeyEnd options files faults faults' absences absences' status.FileFault = Rose faults faults'
@@ -66,7 +66,7 @@ IsInputEnd plan left faults faults' _ = ⊥
 pub record IsInputDrilled (plan : DrillPlan) (left : Option (List ℕ)) (d : Drilled) : Type 0 where
   pub text : List ℕ
   pub input : IsInput left text
-  pub statements : List Statement
+  pub statements : List DrillStatement
   pub schedule : IsSchedule plan.space.space plan.space.pages text statements
   pub is : IsDrilled plan statements d
 
@@ -81,14 +81,14 @@ drill_text plan d =
 -- ---- the command
 
 -- The words are a list of `drill`, its key files load, its schedule was drilled.
-pub record IsCommandDrilled (words : List Word) (files : Option Files) (left : Option (List ℕ)) (plan : DrillPlan) (d : Drilled) : Type 0 where
+pub record IsCommandDrilled (words : List CommandWord) (files : Option Files) (left : Option (List ℕ)) (plan : DrillPlan) (d : Drilled) : Type 0 where
   pub words_are : IsDrill words
   pub asked : IsPlan (drop 1 words) plan
   pub keyed : IsKeyed (drop 1 words) files
   pub drilled : IsInputDrilled plan left d
 
 -- It was drilled, the output was given exactly its text, and this is the session's journal, its replies and its end.
-pub record IsDone (words : List Word) (files : Option Files) (left given given' : Option (List ℕ)) (journal : List Entry) (replies : List Reply) (drill : List DrillEnd) : Type 0 where
+pub record IsDrillDone (words : List CommandWord) (files : Option Files) (left given given' : Option (List ℕ)) (journal : List Entry) (replies : List Reply) (drill : List DrillEnd) : Type 0 where
   pub plan : DrillPlan
   pub drilled : Drilled
   pub ready : IsCommandDrilled words files left plan drilled
@@ -98,7 +98,7 @@ pub record IsDone (words : List Word) (files : Option Files) (left given given' 
   pub drill_is : drill ≡ drilled.end ∷ []
 
 -- It was drilled, and the output was given a front of its text.
-pub record IsCutShort (words : List Word) (files : Option Files) (left given given' : Option (List ℕ)) : Type 0 where
+pub record IsCutShort (words : List CommandWord) (files : Option Files) (left given given' : Option (List ℕ)) : Type 0 where
   pub plan : DrillPlan
   pub drilled : Drilled
   pub ready : IsCommandDrilled words files left plan drilled
@@ -112,11 +112,11 @@ pub record OutsideCounts : Type 0 where
   pub output : ℕ
 
 -- a status of the input comes after words and key files that are right
-abbrev pub IsPastKeys : List Word → Option Files → (DrillPlan → Type 0) → Type 0
+abbrev pub IsPastKeys : List CommandWord → Option Files → (DrillPlan → Type 0) → Type 0
 IsPastKeys words files P = IsDrill words × IsKeyed (drop 1 words) files × ((plan : DrillPlan) × IsPlan (drop 1 words) plan × P plan)
 
 -- Why the command isn't done. But for a fault of the output, or where it was refused memory, the output was given nothing.
-abbrev pub IsEnd : List Word → Option Files → Option (List ℕ) → Option (List ℕ) → Option (List ℕ) → OutsideCounts → OutsideCounts → Status → Type 0
+abbrev pub IsEnd : List CommandWord → Option Files → Option (List ℕ) → Option (List ℕ) → Option (List ℕ) → OutsideCounts → OutsideCounts → Status → Type 0
 IsEnd words files left given given' before now (status.Usage i) = IsUsage words i × (given' ≡ given)
 IsEnd words files left given given' before now (status.KeyFile index fault) = IsDrill words × IsKeyEnd (drop 1 words) files before.library now.library before.absences now.absences (status.KeyFile index fault) × (given' ≡ given)
 IsEnd words files left given given' before now (status.Missing name) = IsDrill words × IsKeyEnd (drop 1 words) files before.library now.library before.absences now.absences (status.Missing name) × (given' ≡ given)
@@ -138,7 +138,7 @@ pub record NoneRose (before now : OutsideCounts) : Type 0 where
   pub output : Rose before.output now.output → ⊥
 
 -- The words are a list of `drill`, no key file has a fault, and the input is a schedule of no more bytes than it may have.
-pub record IsComplete (words : List Word) (files : Option Files) (left : Option (List ℕ)) : Type 0 where
+pub record IsComplete (words : List CommandWord) (files : Option Files) (left : Option (List ℕ)) : Type 0 where
   pub words_are : IsDrill words
   pub plan : DrillPlan
   pub asked : IsPlan (drop 1 words) plan
@@ -148,5 +148,5 @@ pub record IsComplete (words : List Word) (files : Option Files) (left : Option 
   pub text : List ℕ
   pub read : left ≡ Some text
   pub size : length text ≤ schedule_bytes
-  pub statements : List Statement
+  pub statements : List DrillStatement
   pub schedule : IsSchedule plan.space.space plan.space.pages text statements

@@ -3,7 +3,7 @@ use Rattle.std.specs.Prelude.{◌≡◌, ℕ, ◌≤◌, List}
 use Rattle.std.specs.Fmt.{decimal}
 
 -- a number from low to high
-pub record IsNumber (text : List ℕ) (low high n : ℕ) : Type 0 where
+pub record IsDrillNumber (text : List ℕ) (low high n : ℕ) : Type 0 where
   pub spelled : text ≡ decimal n
   pub from : low ≤ n
   pub to : n ≤ high

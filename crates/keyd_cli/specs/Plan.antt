@@ -7,22 +7,22 @@ use Rattle.keyd_cli.specs.Printed.{letter_of}
 use Rattle.keyd_cli.specs.declared.words.Flag.{Flag}
 use Rattle.keyd_cli.specs.declared.words.Flag.TheVariants as flag
 use Rattle.keyd_cli.specs.declared.words.SpaceWords.{SpaceWords}
-use Rattle.keyd_cli.specs.Words.{Word, flag_word, IsSpace, IsStopTurn, IsChoice}
+use Rattle.keyd_cli.specs.Words.{CommandWord, flag_word, IsSpace, IsStopTurn, IsChoice}
 
 -- the value of an option among options and their values, two by two
-unfoldable pub value_in : Flag → List Word → Option Word
+unfoldable pub value_in : Flag → List CommandWord → Option CommandWord
 value_in f [] = None
 value_in f (word ∷ []) = None
 value_in f (word ∷ value ∷ words) = if bytes_eq word (flag_word f) then Some value else value_in f words
 
 -- the space of these options
-abbrev pub IsSpaceIn : List Word → SpaceWords → Type 0
+abbrev pub IsSpaceIn : List CommandWord → SpaceWords → Type 0
 IsSpaceIn options space = MatchOption (value_in flag.Space options) ⊥ (λ v. IsSpace v space.space space.pages space.key_id)
 
 -- their stop, if there is one
-abbrev pub IsStopIn : List Word → Option ℕ → Type 0
+abbrev pub IsStopIn : List CommandWord → Option ℕ → Type 0
 IsStopIn options stop = MatchOption (value_in flag.Stop options) (stop ≡ None) (λ v. MatchOption stop ⊥ (IsStopTurn v))
 
 -- their choices, by default one that loses all
-abbrev pub AreChoicesIn : List Word → List Choice → Type 0
+abbrev pub AreChoicesIn : List CommandWord → List Choice → Type 0
 AreChoicesIn options choices = MatchOption (value_in flag.Choice options) (choices ≡ Lost ∷ []) (λ v. (map letter_of choices ≡ v) × IsChoice v)

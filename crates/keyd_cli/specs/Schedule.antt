@@ -3,23 +3,23 @@ use Rattle.std.specs.Prelude.{◌≡◌, ◌⊎◌, ℕ, ◌+◌, ◌≤◌, ◌
 use Rattle.std.specs.Fmt.{decimal}
 use Rattle.hex.specs.Hex.{decode_of}
 use Rattle.redo_text.specs.declared.change.Change.TheVariants.{Put}
-use Rattle.keyd_cli.specs.declared.act.Act.{Act}
-use Rattle.keyd_cli.specs.declared.act.Act.TheVariants.{Mtr, Sync}
-use Rattle.keyd_cli.specs.Parts.{parts_of}
+use Rattle.keyd_cli.specs.declared.act.DrillAct.{DrillAct}
+use Rattle.keyd_cli.specs.declared.act.DrillAct.TheVariants.{Mtr, Sync}
+use Rattle.keyd_cli.specs.Parts.{drill_parts_of}
 
 -- the most bytes that a schedule has
 abbrev pub schedule_bytes : ℕ
 schedule_bytes = 1048576
 
 abbrev pub schedule_lines : List ℕ → List (List ℕ)
-schedule_lines text = parts_of 10 text
+schedule_lines text = drill_parts_of 10 text
 
-abbrev pub words_of : List ℕ → List (List ℕ)
-words_of line = parts_of 32 line
+abbrev pub statement_words : List ℕ → List (List ℕ)
+statement_words line = drill_parts_of 32 line
 
 -- the session, the page, the place and the digits of a line `mtr K put SPACE PAGE AT HEX`
 pub record AreNumbers (space pages : ℕ) (line : List ℕ) (session page at : ℕ) (hex : List ℕ) : Type 0 where
-  pub words : words_of line ≡ codes "mtr" ∷ decimal session ∷ codes "put" ∷ decimal space ∷ decimal page ∷ decimal at ∷ hex ∷ []
+  pub words : statement_words line ≡ codes "mtr" ∷ decimal session ∷ codes "put" ∷ decimal space ∷ decimal page ∷ decimal at ∷ hex ∷ []
   pub session_from : 1 ≤ session
   pub session_to : session ≤ 16
   pub page_from : 1 ≤ page
@@ -38,7 +38,7 @@ pub record IsPutLine (space pages : ℕ) (line : List ℕ) (session page at : �
   pub short : 17 + length bytes ≤ 4076
 
 -- a line of a statement: `sync`, or a mini-transaction of one put
-pub data IsAct (space pages : ℕ) (line : List ℕ) : Act → Type 0 where
+pub data IsAct (space pages : ℕ) (line : List ℕ) : DrillAct → Type 0 where
   IsSync : line ≡ codes "sync" → IsAct space pages line Sync
   IsMtr : (session page at : ℕ) (bytes : List ℕ) → IsPutLine space pages line session page at bytes → IsAct space pages line (Mtr session (Put space page at bytes ∷ []))
 

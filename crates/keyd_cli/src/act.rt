@@ -3,7 +3,7 @@ use store_model::Mtr;
 
 /// What a statement of a schedule asks for.
 #[derive(Debug, Drop)]
-pub enum Act {
+pub enum DrillAct {
     /// Commits a mini-transaction of a session.
     Mtr { session: u32, mtr: Mtr },
     /// Writes the journal out and acknowledges it.
@@ -12,7 +12,7 @@ pub enum Act {
 
 /// A statement and its line, counted from 1.
 #[derive(Debug, Drop)]
-pub struct Statement {
+pub struct DrillStatement {
     pub line: u32,
-    pub act: Act,
+    pub act: DrillAct,
 }

@@ -6,11 +6,11 @@ ghost use Rattle.cause_core.specs.Counts.{Rose};
 ghost use Rattle.keyd_cli.specs.declared.status.Status.TheVariants as status;
 ghost use Rattle.keyd_cli.specs.Words.{IsDrill, IsUsage, AreOptions};
 ghost use Rattle.keyd_cli.specs.Reads.{IsSchedule, IsNotBuilt};
-ghost use Rattle.keyd_cli.specs.Ends.{load_status, IsKeyed, IsKeyEnd, IsInput, IsInputEnd, IsInputDrilled, IsCommandDrilled, IsDone, IsEnd, NoneRose, IsComplete, drill_text};
+ghost use Rattle.keyd_cli.specs.Ends.{load_status, IsKeyed, IsKeyEnd, IsInput, IsInputEnd, IsInputDrilled, IsCommandDrilled, IsDrillDone, IsEnd, NoneRose, IsComplete, drill_text};
 ghost use Rattle.keyd_cli.specs.PlanOf.{IsFitting};
 ghost use Rattle.keyd_cli.specs.Schedule.{schedule_bytes};
 
-use crate::act::Statement;
+use crate::act::DrillStatement;
 use crate::drill::{Drilled, drill, report_after};
 use crate::keys::load_keys;
 use crate::outcome::{Drills, Ended, Replies};
@@ -66,7 +66,7 @@ fn read_input<S: Source>(alloc: Global, input: &mut S) -> Result<Vec<u8>, Status
 }
 
 // The statements of a schedule.
-fn statements_of(alloc: Global, text: &[u8], space: &SpaceWords) -> Result<Vec<Statement>, Status>
+fn statements_of(alloc: Global, text: &[u8], space: &SpaceWords) -> Result<Vec<DrillStatement>, Status>
     requires pages { 2 ≤ space.now.pages }
     requires size { length text.now ≤ schedule_bytes }
     ensures ok { IfOk result (λ s. IsSchedule space.now.space space.now.pages text.now s.items) }
@@ -157,7 +157,7 @@ fn run_command<L: Library, S: Source, K: Sink>(
     input: &mut S,
     out: &mut K,
 ) -> Result<Finished, Status>
-    ensures ok { IfOk result (λ f. IsDone (map string_bytes words.now) (L.files files.old) (S.left input.old) (K.given out.old) (K.given out.new) f.journal f.replies f.drill.ends.items) }
+    ensures ok { IfOk result (λ f. IsDrillDone (map string_bytes words.now) (L.files files.old) (S.left input.old) (K.given out.old) (K.given out.new) f.journal f.replies f.drill.ends.items) }
     ensures err { IfErr result (IsEnd (map string_bytes words.now) (L.files files.old) (S.left input.old) (K.given out.old) (K.given out.new) (record { library = L.faults files.old; absences = L.absences files.old; input = S.faults input.old; output = K.faults out.old }) (record { library = L.faults files.new; absences = L.absences files.new; input = S.faults input.new; output = K.faults out.new })) }
     ensures same { L.files files.new ≡ L.files files.old }
 {
@@ -206,7 +206,7 @@ where
     S: Source,
     K: Sink,
     R: Rng,
-    ensures done { result.status ≡ status.Done → IsDone (map string_bytes words.now) (L.files files.old) (S.left input.old) (K.given out.old) (K.given out.new) result.journal result.replies result.drill.ends.items }
+    ensures done { result.status ≡ status.Done → IsDrillDone (map string_bytes words.now) (L.files files.old) (S.left input.old) (K.given out.old) (K.given out.new) result.journal result.replies result.drill.ends.items }
     ensures ends { result.status ≢ status.Done → IsEnd (map string_bytes words.now) (L.files files.old) (S.left input.old) (K.given out.old) (K.given out.new) (record { library = L.faults files.old; absences = L.absences files.old; input = S.faults input.old; output = K.faults out.old }) (record { library = L.faults files.new; absences = L.absences files.new; input = S.faults input.new; output = K.faults out.new }) result.status }
     ensures complete { IsComplete (map string_bytes words.now) (L.files files.old) (S.left input.old) → NoneRose (record { library = L.faults files.old; absences = L.absences files.old; input = S.faults input.old; output = K.faults out.old }) (record { library = L.faults files.new; absences = L.absences files.new; input = S.faults input.new; output = K.faults out.new }) → (result.status ≡ status.Done) ⊎ (result.status ≡ status.OutOfMemory) }
     ensures empty { result.status ≢ status.Done → (result.journal ≡ []) × (result.replies ≡ []) × (result.drill.ends.items ≡ []) }

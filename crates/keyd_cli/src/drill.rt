@@ -15,9 +15,9 @@ ghost use Rattle.store_model.specs.Fold.{empty};
 ghost use Rattle.store_model.specs.Report.{report_text};
 ghost use Rattle.keyd_cli.specs.Reads.{mtr_count};
 ghost use Rattle.keyd_cli.specs.Session.{AreRunnable};
-ghost use Rattle.keyd_cli.specs.Drill.{info_of, stop_after, stopped_by, Begins, AreLost, IsDrilled};
+ghost use Rattle.keyd_cli.specs.Drill.{info_of, stop_after, stopped_by, DrillBegins, AreLost, IsDrilled};
 
-use crate::act::Statement;
+use crate::act::DrillStatement;
 use crate::outcome::{DrillEnd, Reply};
 use crate::plan::DrillPlan;
 use crate::session::run_statements;
@@ -67,7 +67,7 @@ fn created(alloc: Global, space: &SpaceWords) -> Result<MemDisk, OutOfMemory>
 
 // The store as the session begins.
 fn begun(alloc: Global, plan: &DrillPlan) -> Result<MemDisk, OutOfMemory>
-    ensures { IfOk result (λ disk. Begins plan.now.space plan.now.stop disk.contents) }
+    ensures { IfOk result (λ disk. DrillBegins plan.now.space plan.now.stop disk.contents) }
 {
     let mut disk = created(alloc, &plan.space)?;
     if let Some(turn) = plan.stop {
@@ -123,7 +123,7 @@ fn started(alloc: Global, disk: MemDisk) -> Result<Engine<MemDisk>, OutOfMemory>
 pub fn drill(
     alloc: Global,
     plan: &DrillPlan,
-    statements: Vec<Statement>,
+    statements: Vec<DrillStatement>,
 ) -> Result<Drilled, OutOfMemory>
     requires small { AreRunnable statements.items }
     requires room { mtr_count statements.items ≤ 256 }

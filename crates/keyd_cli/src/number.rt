@@ -1,7 +1,7 @@
 // Numbers as words and schedules write them.
 ghost use Rattle.std.specs.Prelude.{◌≡◌, ℕ, ◌<◌, ◌≤◌, ◌^◌, MatchOption};
 ghost use Rattle.std.specs.Fmt.{decimal};
-ghost use Rattle.keyd_cli.specs.Numbers.{IsNumber};
+ghost use Rattle.keyd_cli.specs.Numbers.{IsDrillNumber};
 
 /// The number that a text writes in decimal digits, without a sign and without a leading zero (a
 /// lone 0 is fine). None where it writes no number below 2^64 in this way.
@@ -25,7 +25,7 @@ pub fn decimal_number(text: &[u8]) -> Option<u64>
 
 /// The number from low to high that a text writes in this way.
 pub fn number_within(text: &[u8], low: u32, high: u32) -> Option<u32>
-    ensures { MatchOption result ((n : _) → IsNumber text.now low high n → ⊥) (λ n. IsNumber text.now low high n) }
+    ensures { MatchOption result ((n : _) → IsDrillNumber text.now low high n → ⊥) (λ n. IsDrillNumber text.now low high n) }
 {
     let number = decimal_number(text)?;
     if number < low as u64 {

@@ -1,12 +1,12 @@
 // The schedule of a drill.
 ghost use Rattle.std.specs.Prelude.{◌≡◌, ◌≤◌, ◌∷◌, [], MatchOption, IfOk, codes, IsTrue, ◌↔◌, ◌+◌, IfNone, IfSome, true, if◌then◌else◌, length};
-ghost use Rattle.keyd_cli.specs.Schedule.{schedule_bytes, words_of, AreNumbers, IsPutLine, IsAct};
-ghost use Rattle.keyd_cli.specs.Lines.{IsLine};
+ghost use Rattle.keyd_cli.specs.Schedule.{schedule_bytes, statement_words, AreNumbers, IsPutLine, IsAct};
+ghost use Rattle.keyd_cli.specs.Lines.{IsDrillLine};
 ghost use Rattle.keyd_cli.specs.Reads.{is_mtr, HasRoom, IsSchedule, IsNotBuilt};
 
-use crate::act::{Act, Statement};
+use crate::act::{DrillAct, DrillStatement};
 use crate::number::number_within;
-use crate::parts::Parts;
+use crate::parts::DrillParts;
 use crate::words::SpaceWords;
 use cause_core::OutOfMemory;
 use hex::FromHexError;
@@ -25,9 +25,9 @@ struct PutWords<'a> {
 }
 
 fn put_words(line: &[u8]) -> Option<PutWords<'_>>
-    ensures { MatchOption result ((a b d e f : _) → words_of line.now ≡ codes "mtr" ∷ a ∷ codes "put" ∷ b ∷ d ∷ e ∷ f ∷ [] → ⊥) (λ w. words_of line.now ≡ codes "mtr" ∷ w.session.now ∷ codes "put" ∷ w.space.now ∷ w.page.now ∷ w.at.now ∷ w.hex.now ∷ []) }
+    ensures { MatchOption result ((a b d e f : _) → statement_words line.now ≡ codes "mtr" ∷ a ∷ codes "put" ∷ b ∷ d ∷ e ∷ f ∷ [] → ⊥) (λ w. statement_words line.now ≡ codes "mtr" ∷ w.session.now ∷ codes "put" ∷ w.space.now ∷ w.page.now ∷ w.at.now ∷ w.hex.now ∷ []) }
 {
-    let mut words = Parts::new(line, b' ');
+    let mut words = DrillParts::new(line, b' ');
     if words.next()? != b"mtr".as_slice() {
         return None;
     }
@@ -85,7 +85,7 @@ fn is_fitting(at: u32, length: usize) -> bool
 }
 
 // The mini-transaction of such a line. None where the line isn't one that the store can take.
-fn put_act(alloc: Global, line: &[u8], plan: &SpaceWords) -> Result<Option<Act>, OutOfMemory>
+fn put_act(alloc: Global, line: &[u8], plan: &SpaceWords) -> Result<Option<DrillAct>, OutOfMemory>
     requires { 2 ≤ plan.now.pages }
     ensures { IfOk result (λ o. MatchOption o ((session page at bytes : _) → IsPutLine plan.now.space plan.now.pages line.now session page at bytes → ⊥) (λ act. IsAct plan.now.space plan.now.pages line.now act)) }
 {
@@ -107,7 +107,7 @@ fn put_act(alloc: Global, line: &[u8], plan: &SpaceWords) -> Result<Option<Act>,
         bytes: Piece::of(bytes),
     };
     let mtr = Mtr::of(vec![in alloc; change]?);
-    Ok(Some(Act::Mtr {
+    Ok(Some(DrillAct::Mtr {
         session: numbers.session,
         mtr,
     }))
@@ -117,19 +117,19 @@ fn put_act(alloc: Global, line: &[u8], plan: &SpaceWords) -> Result<Option<Act>,
 #[derive(Drop)]
 enum LineKind {
     Skipped,
-    Act(Act),
+    Act(DrillAct),
     Other,
 }
 
 fn read_line(alloc: Global, line: &[u8], plan: &SpaceWords) -> Result<LineKind, OutOfMemory>
     requires { 2 ≤ plan.now.pages }
-    ensures { IfOk result (IsLine plan.now.space plan.now.pages line.now) }
+    ensures { IfOk result (IsDrillLine plan.now.space plan.now.pages line.now) }
 {
     if line.is_empty() || line[0] == b'#' {
         return Ok(LineKind::Skipped);
     }
     if line == b"sync".as_slice() {
-        return Ok(LineKind::Act(Act::Sync));
+        return Ok(LineKind::Act(DrillAct::Sync));
     }
     match put_act(alloc, line, plan)? {
         Some(act) => Ok(LineKind::Act(act)),
@@ -148,14 +148,14 @@ pub enum ScheduleFault {
 }
 
 // How many mini-transactions there are with this statement. None where there is no room for it.
-fn counted(act: &Act, mtrs: usize) -> Option<usize>
+fn counted(act: &DrillAct, mtrs: usize) -> Option<usize>
     requires { mtrs ≤ 256 }
     ensures none { IfNone result ((is_mtr act.now ≡ true) × (mtrs ≡ 256)) }
     ensures some { IfSome result (λ n. (n ≡ mtrs + (if is_mtr act.now then 1 else 0)) × HasRoom mtrs act.now × (n ≤ 256)) }
 {
     match act {
-        Act::Mtr { .. } => { if mtrs == 256 { None } else { Some(mtrs + 1) } }
-        Act::Sync => Some(mtrs),
+        DrillAct::Mtr { .. } => { if mtrs == 256 { None } else { Some(mtrs + 1) } }
+        DrillAct::Sync => Some(mtrs),
     }
 }
 
@@ -164,14 +164,14 @@ pub fn read_schedule(
     alloc: Global,
     text: &[u8],
     plan: &SpaceWords,
-) -> Result<Vec<Statement>, ScheduleFault>
+) -> Result<Vec<DrillStatement>, ScheduleFault>
     requires pages { 2 ≤ plan.now.pages }
     requires size { length text.now ≤ schedule_bytes }
     ensures ok { IfOk result (λ s. IsSchedule plan.now.space plan.now.pages text.now s.items) }
     ensures not_built { (line : _) → result ≡ Err (ScheduleFault.NotBuilt line) → IsNotBuilt plan.now.space plan.now.pages text.now line }
 {
     let mut statements = Vec::new(alloc);
-    let mut lines = Parts::new(text, b'\n');
+    let mut lines = DrillParts::new(text, b'\n');
     let mut number = 0;
     let mut mtrs = 0;
     while let Some(line) = lines.next() {
@@ -186,7 +186,7 @@ pub fn read_schedule(
                     return Err(ScheduleFault::NotBuilt(number));
                 };
                 mtrs = count;
-                let statement = Statement { line: number, act };
+                let statement = DrillStatement { line: number, act };
                 let Ok(()) = statements.push(statement) else {
                     return Err(ScheduleFault::OutOfMemory);
                 };

@@ -4,7 +4,7 @@ ghost use Rattle.engine_core.specs.declared.fault.State.TheVariants as state;
 ghost use Rattle.keyd_cli.specs.Session.{IsSmallAct, AreRunnable, entry_of, reply_to, HasRun, acked_after, AreAckedWithin};
 ghost use Rattle.keyd_cli.specs.Reads.{mtr_count, is_mtr};
 
-use crate::act::{Act, Statement};
+use crate::act::{DrillAct, DrillStatement};
 use crate::outcome::{Answer, Reply};
 use cause_core::OutOfMemory;
 use disk_model::{Disk, MemDisk};
@@ -14,7 +14,7 @@ use std::alloc::Global;
 // Runs one statement. None where the disk was stopped.
 fn answer<D: Disk + Drop>(
     engine: &mut Engine<D>,
-    statement: Statement,
+    statement: DrillStatement,
 ) -> Result<Option<Reply>, OutOfMemory>
     requires small { IsSmallAct statement.act }
     requires room { length engine.old.journal + length (entry_of 0 0 statement.act) ≤ 256 }
@@ -27,7 +27,7 @@ fn answer<D: Disk + Drop>(
 {
     let line = statement.line;
     match statement.act {
-        Act::Mtr { session, mtr } => match engine.commit(Author { session, line }, mtr) {
+        DrillAct::Mtr { session, mtr } => match engine.commit(Author { session, line }, mtr) {
             Ok(receipt) => Ok(Some(Reply {
                 line,
                 place: receipt.place,
@@ -35,7 +35,7 @@ fn answer<D: Disk + Drop>(
             })),
             Err(_) => Err(OutOfMemory),
         },
-        Act::Sync => match engine.sync() {
+        DrillAct::Sync => match engine.sync() {
             Ok(acked) => Ok(Some(Reply {
                 line,
                 place: acked,
@@ -60,7 +60,7 @@ pub struct SessionOutcome {
 pub fn run_statements<D: Disk + Drop>(
     alloc: Global,
     engine: &mut Engine<D>,
-    statements: Vec<Statement>,
+    statements: Vec<DrillStatement>,
 ) -> Result<SessionOutcome, OutOfMemory>
     requires small { AreRunnable statements.items }
     requires room { mtr_count statements.items ≤ 256 }

@@ -15,7 +15,7 @@ const KEYS: &[u8] = b"1;000102030405060708090a0b0c0d0e0f\n";
 const PUT: &str = "mtr 1 put 5 1 38 616263\nsync\n";
 
 // The words of a line.
-fn words_of(alloc: Global, line: &str) -> Result<Vec<String>, AllocError> {
+fn statement_words(alloc: Global, line: &str) -> Result<Vec<String>, AllocError> {
     let mut words = Vec::new(alloc);
     for word in line.split(' ') {
         words.push(String::from_str(alloc, word)?)?;
@@ -54,7 +54,7 @@ fn outcome(
     takes: Vec<u64>,
     gives: Vec<u64>,
 ) -> Result<((u8, usize), Vec<u8>), Fail> {
-    let words = words_of(alloc, line)?;
+    let words = statement_words(alloc, line)?;
     let mut files = shelf(alloc, calls)?;
     let mut input = ByteSource::new(Vec::from_slice(alloc, script)?, takes);
     let mut out = ByteSink::new(alloc, gives);

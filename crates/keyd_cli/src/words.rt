@@ -108,7 +108,7 @@ struct SpaceParts<'a> {
     key_id: &'a [u8],
 }
 
-fn parts_of(value: &[u8]) -> Option<SpaceParts<'_>>
+fn drill_parts_of(value: &[u8]) -> Option<SpaceParts<'_>>
     ensures { MatchOption result ((a b c : _) → AreParts value.now a b c → ⊥) (λ p. AreParts value.now p.space.now p.pages.now p.key_id.now) }
 {
     let (space, rest) = cut_at(value, b':')?;
@@ -128,7 +128,7 @@ fn parts_of(value: &[u8]) -> Option<SpaceParts<'_>>
 pub fn space_of(value: &str) -> Option<SpaceWords>
     ensures { MatchOption result ((id pages key : _) → IsSpace value.now id pages key → ⊥) (λ s. IsSpace value.now s.space s.pages s.key_id) }
 {
-    let parts = parts_of(value.as_bytes())?;
+    let parts = drill_parts_of(value.as_bytes())?;
     let space = number_within(parts.space, 1, 4_294_967_279)?;
     let pages = number_within(parts.pages, 2, 16_384)?;
     let key_id = number_within(parts.key_id, 1, 4_294_967_295)?;

@@ -8,7 +8,7 @@
 //!    lemma for each event.
 //! 2. `HasPlaces` says that each write since the last sync was one of a whole place whose test
 //!    refuses it once its last byte is inverted. A crash of a memory disk is then lucky
-//!    (`refusable`), and each place of a lucky image is one that `May` allows (`left_may`).
-//! 3. `Writing`, `Wrote` and `Settled` are places written in a row by a list of places and bytes,
+//!    (`refusable`), and each place of a lucky image is one that `May` allows (`in_lucky`).
+//! 3. `Writing`, `Wrote` and `BatchSettled` are places written in a row by a list of places and bytes,
 //!    `Filling` and `Filled` are places written in the order of the file.
 #![tactic(auto)]

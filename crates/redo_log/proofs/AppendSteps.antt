@@ -15,7 +15,7 @@ use Rattle.redo_text.specs.declared.change.Change.TheVariants.{Put, Kind, Touch,
 use Rattle.redo_text.specs.declared.key.RedoKey.{RedoKey}
 use Rattle.redo_text.specs.Block.{AreOf, block_count, blocks, nth_block, text_part}
 use Rattle.redo_text.proofs.BlockLoop.{length-joined, range-joined}
-use Rattle.redo_text.specs.Reading.{reading, version_of, used_of, flags_of, is_first, is_last, clear_body}
+use Rattle.redo_text.specs.Reading.{reading, block_version, used_of, block_flags, is_first, is_last, clear_body}
 use Rattle.redo_text.specs.Text.{text_of, AreAllowed}
 use Rattle.redo_log.specs.State.{LogState}
 use Rattle.crash_image.specs.LogForm.{AreTexts}
@@ -53,10 +53,10 @@ module _ (key : RedoKey) (number : ℕ) (text : List ℕ) (some : 0 < length tex
         let lt : m - number < count = omega (arith, low, high) in
         (m - number, lt, e, ap block (sym e) ∙ reads (m - number) lt)
 
-    first_at : (j : ℕ) → j < count → is_first (flags_of (at j)) ≡ nat_eq j 0
+    first_at : (j : ℕ) → j < count → is_first (block_flags (at j)) ≡ nat_eq j 0
     first_at j lt = let n = nth j lt in n.first_is
 
-    last_at : (j : ℕ) → j < count → is_last (flags_of (at j)) ≡ nat_eq (j + 1) count
+    last_at : (j : ℕ) → j < count → is_last (block_flags (at j)) ≡ nat_eq (j + 1) count
     last_at j lt = let n = nth j lt in n.last_is
 
     pub whole : IsWholeMtr N (redo_form keys) block number (number + count)
@@ -64,12 +64,12 @@ module _ (key : RedoKey) (number : ℕ) (text : List ℕ) (some : 0 < length tex
       some = omega (arith, some);
       most = omega (arith, few);
       valid = λ m low high. let r = read_back m low high in subst (λ (n : ℕ). is_ring_block n (block m) ≡ true) r.2 (ap (is_ring_block (number + r.0)) r.3 ∙ (nth r.0 r.1).valid);
-      first = let r = read_back number (omega arith) (omega (arith, some)) in ap (λ (b : List ℕ). is_first (flags_of b)) r.3 ∙ first_at r.0 r.1 ∙ eq_true r.0 0 (omega (arith, r.2));
-      others = λ m gt high. let r = read_back m (omega (arith, gt)) high in ap (λ (b : List ℕ). is_first (flags_of b)) r.3 ∙ first_at r.0 r.1 ∙ eq_false r.0 0 (λ e. omega (arith, e, r.2, gt));
-      before = λ m low high. let r = read_back m low (omega (arith, high)) in ap (λ (b : List ℕ). is_last (flags_of b)) r.3 ∙ last_at r.0 r.1 ∙ eq_false (r.0 + 1) count (λ e. omega (arith, e, r.2, high));
+      first = let r = read_back number (omega arith) (omega (arith, some)) in ap (λ (b : List ℕ). is_first (block_flags b)) r.3 ∙ first_at r.0 r.1 ∙ eq_true r.0 0 (omega (arith, r.2));
+      others = λ m gt high. let r = read_back m (omega (arith, gt)) high in ap (λ (b : List ℕ). is_first (block_flags b)) r.3 ∙ first_at r.0 r.1 ∙ eq_false r.0 0 (λ e. omega (arith, e, r.2, gt));
+      before = λ m low high. let r = read_back m low (omega (arith, high)) in ap (λ (b : List ℕ). is_last (block_flags b)) r.3 ∙ last_at r.0 r.1 ∙ eq_false (r.0 + 1) count (λ e. omega (arith, e, r.2, high));
       last = λ m is.
           let r = read_back m (omega (arith, is, some)) (omega (arith, is)) in
-          ap (λ (b : List ℕ). is_last (flags_of b)) r.3 ∙ last_at r.0 r.1 ∙ eq_true (r.0 + 1) count (omega (arith, r.2, is));
+          ap (λ (b : List ℕ). is_last (block_flags b)) r.3 ∙ last_at r.0 r.1 ∙ eq_true (r.0 + 1) count (omega (arith, r.2, is));
     }
 
     texts_from : (r j : ℕ) → j + r ≡ count → AreTexts keys.header keys.ring (listed_blocks N (redo_form keys) block (number + j) r) (drop (4076 * j) text)
@@ -82,7 +82,7 @@ module _ (key : RedoKey) (number : ℕ) (text : List ℕ) (some : 0 < length tex
         let e : 4076 * j + 4076 ≡ 4076 * (j + 1) = omega arith in (
           key.local,
           drop (4076 * (j + 1)) text,
-          ap (λ (b : List ℕ). local_key keys.ring 1 (version_of b) keys.header.salt) here ∙ ap (λ (v : ℕ). local_key keys.ring 1 v keys.header.salt) n.version ∙ has.local,
+          ap (λ (b : List ℕ). local_key keys.ring 1 (block_version b) keys.header.salt) here ∙ ap (λ (v : ℕ). local_key keys.ring 1 v keys.header.salt) n.version ∙ has.local,
           subst (λ (i : ℕ). AreTexts keys.header keys.ring (listed_blocks N (redo_form keys) block i r) (drop (4076 * (j + 1)) text)) (sym on) (texts_from r (j + 1) (omega (arith, is))),
           split_off (4076 * j) 4076 text
               ∙ ap (λ (l : List ℕ). l ++ drop (4076 * j + 4076) text) (sym n.text_is ∙ ap (λ (a : Algorithm). block_text a key.local (at j)) has.algorithm ∙ ap (λ (b : List ℕ). block_text keys.header.algorithm key.local b) (sym here))
@@ -178,10 +178,10 @@ module _ (old : LogState) (mtr : List Change) (key : RedoKey) (is : IsOpen old) 
     some = omega (arith, some);
     within = omega (arith, total);
     first = let e : pending_count new - needed ≡ pending_count old + 0 = omega (arith, total) in
-        ap (λ (i : ℕ). is_first (flags_of (pending_at new i))) e ∙ ap (λ (b : List ℕ). is_first (flags_of b)) (back_at 0) ∙ (nth 0 (omega (arith, some))).first_is ∙ eq_true 0 0 refl;
+        ap (λ (i : ℕ). is_first (block_flags (pending_at new i))) e ∙ ap (λ (b : List ℕ). is_first (block_flags b)) (back_at 0) ∙ (nth 0 (omega (arith, some))).first_is ∙ eq_true 0 0 refl;
     others = λ j gt lt.
         let e : j ≡ pending_count old + (j - pending_count old) = omega (arith, gt, total) in
-        ap (λ (i : ℕ). is_first (flags_of (pending_at new i))) e ∙ ap (λ (b : List ℕ). is_first (flags_of b)) (back_at (j - pending_count old)) ∙ (nth (j - pending_count old) (omega (arith, lt, gt, total))).first_is
+        ap (λ (i : ℕ). is_first (block_flags (pending_at new i))) e ∙ ap (λ (b : List ℕ). is_first (block_flags b)) (back_at (j - pending_count old)) ∙ (nth (j - pending_count old) (omega (arith, lt, gt, total))).first_is
         ∙ eq_false (j - pending_count old) 0 (λ n. omega (arith, n, gt, total));
   }
 

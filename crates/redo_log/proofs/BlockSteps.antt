@@ -20,7 +20,7 @@ use Rattle.byte_list.proofs.RangeLaws.{length-range}
 use Rattle.redo_log.specs.State.{LogState}
 use Rattle.store_files.specs.RingBlock.{is_ring_block}
 use Rattle.redo_log.specs.Blocks.{Keys, redo_form, file_layout}
-use Rattle.redo_log.specs.Log.{IsOpen, durable, pending_at, pending_count, Fits}
+use Rattle.redo_log.specs.Log.{IsOpen, durable, pending_at, pending_count, FitsRing}
 use Rattle.redo_log.specs.Events.{block_batch, BlocksWriting, BlocksWrote, BlocksSettled, IsBlockEvent}
 use Rattle.redo_log.proofs.FormLaws.{form_laws, torn_block}
 
@@ -96,7 +96,7 @@ module _ (log : LogState) where
 
   -- ---- the ring
 
-  module _ (keys : Keys) (r : RingState) (is : IsOpen log) (fits : Fits r log) where
+  module _ (keys : Keys) (r : RingState) (is : IsOpen log) (fits : FitsRing r log) where
     abbrev F : Form (List Change)
     F = redo_form keys
 

@@ -9,7 +9,7 @@ use Rattle.byte_list.specs.Fields.{be64_at}
 use Rattle.disk_model.specs.Crash.{torn_bytes}
 use Rattle.page_places.specs.Texts.{ends_in_sum}
 use Rattle.page_places.proofs.Sums.{and_left, and_right, and_both, torn_page}
-use Rattle.store_image.specs.Checkpoint.{Checkpoint, side_of}
+use Rattle.store_image.specs.Checkpoint.{HeldCheckpoint, side_of}
 use Rattle.store_files.specs.Checkpoint.{is_checkpoint, checkpoint_in, IsWritableCheckpoint}
 use Rattle.store_files.proofs.CheckpointsWritten.{checkpoint_back, checkpoint_sum}
 use Rattle.ring_log.proofs.RingSteps.{some_same, none_some}
@@ -62,17 +62,17 @@ pub checkpoint_none : (i : ℕ) (b : List ℕ) → is_checkpoint i b ≡ false �
 unfolding checkpoint_in
 checkpoint_none i b is = by_false (is_checkpoint i b) _ _ is
 
-pub checkpoint_is : (i : ℕ) (b : List ℕ) (c : Checkpoint) → checkpoint_in i b ≡ Some c → (is_checkpoint i b ≡ true) × (c.sequence ≡ be64_at b 8) × (c.from ≡ be64_at b 16)
+pub checkpoint_is : (i : ℕ) (b : List ℕ) (c : HeldCheckpoint) → checkpoint_in i b ≡ Some c → (is_checkpoint i b ≡ true) × (c.sequence ≡ be64_at b 8) × (c.from ≡ be64_at b 16)
 checkpoint_is i b c is = by (is_checkpoint i b) refl
   where
     by : (t : Bool) → is_checkpoint i b ≡ t → (is_checkpoint i b ≡ true) × (c.sequence ≡ be64_at b 8) × (c.from ≡ be64_at b 16)
     by true e =
         let same : c ≡ record { sequence = be64_at b 8; from = be64_at b 16 } = some_same _ _ (sym is ∙ checkpoint_some i b e) in
-        (e, ap (λ (d : Checkpoint). d.sequence) same, ap (λ (d : Checkpoint). d.from) same)
+        (e, ap (λ (d : HeldCheckpoint). d.sequence) same, ap (λ (d : HeldCheckpoint). d.from) same)
     by false e = absurd (none_some c (sym (checkpoint_none i b e) ∙ is))
 
 module _ (sequence from : ℕ) (some : 1 ≤ sequence) (order : sequence < from) (most : from ≤ 2 ^ 50) where
-  abbrev c : Checkpoint
+  abbrev c : HeldCheckpoint
   c = record { sequence = sequence; from = from }
 
   is : IsWritableCheckpoint c

@@ -8,7 +8,7 @@ use Rattle.bytes_core.specs.Crc.{crc32c}
 use Rattle.byte_list.specs.Bytes.{put, zeros}
 use Rattle.byte_list.proofs.RangeLaws.{length-zeros}
 use Rattle.store_files.specs.Checkpoint.{checkpoint_front, checkpoint_bytes}
-use Rattle.store_image.specs.Checkpoint.{Checkpoint}
+use Rattle.store_image.specs.Checkpoint.{HeldCheckpoint}
 use Rattle.redo_log.specs.Check.{check_words, check_bytes}
 
 -- the bytes before the checksum, as they are written

@@ -20,7 +20,7 @@ use Rattle.redo_log.specs.State.{LogState}
 use Rattle.redo_log.specs.Blocks.{Keys, redo_form, file_layout}
 use Rattle.store_files.specs.Checkpoint.{checkpoint_in}
 use Rattle.redo_log.specs.Check.{check_bytes}
-use Rattle.redo_log.specs.Log.{IsOpen, durable, checked, Fits}
+use Rattle.redo_log.specs.Log.{IsOpen, durable, checked, FitsRing}
 use Rattle.redo_log.specs.Events.{side_batch, CheckWriting, CheckWrote, CheckSettled, IsCheckEvent, check_event}
 use Rattle.redo_log.proofs.CheckLaws.{length-check, made_check, torn_check}
 use Rattle.redo_log.proofs.FormLaws.{form_laws}
@@ -76,7 +76,7 @@ checked_same r f is = if_same (nat_eq f r.from) r (checkpointed r f) (eq_true f 
 pub checked_other : (r : RingState) (f : ℕ) → f ≢ r.from → checkpointed r f ≡ checked r f
 checked_other r f is = if_other (nat_eq f r.from) r (checkpointed r f) (eq_false f r.from is)
 
-module _ (keys : Keys) (log : LogState) (r : RingState) (is : IsOpen log) (fits : Fits r log) (f : ℕ) where
+module _ (keys : Keys) (log : LogState) (r : RingState) (is : IsOpen log) (fits : FitsRing r log) (f : ℕ) where
   abbrev N : ℕ
   N = log.blocks
 

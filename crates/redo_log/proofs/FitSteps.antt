@@ -4,7 +4,7 @@ use Rattle.std.proofs.lemmas.Bool.Decides.{nat_tests}
 use Rattle.ring_log.specs.Ring.{RingState}
 use Rattle.ring_log.specs.Batches.{settle, checkpointed}
 use Rattle.redo_log.specs.State.{LogState}
-use Rattle.redo_log.specs.Log.{IsOpen, durable, pending_at, pending_count, empty_log, written_out, with_checkpoint, checked, Fits}
+use Rattle.redo_log.specs.Log.{IsOpen, durable, pending_at, pending_count, empty_log, written_out, with_checkpoint, checked, FitsRing}
 use Rattle.redo_log.proofs.CheckSteps.{checked_same, checked_other}
 
 -- a log with nothing pending
@@ -37,7 +37,7 @@ cleared_open old is = record {
   valid = λ j lt. absurd (omega (arith, lt));
 }
 
-pub cleared_fits : (old : LogState) → IsOpen old → (r : RingState) → Fits r old → Fits (settle r (pending_count old)) (written_out old)
+pub cleared_fits : (old : LogState) → IsOpen old → (r : RingState) → FitsRing r old → FitsRing (settle r (pending_count old)) (written_out old)
 cleared_fits old is r fits = record {
   sequence = fits.sequence;
   from = fits.from;
@@ -63,8 +63,8 @@ moved_open old f is low high = record {
   valid = is.valid;
 }
 
-pub moved_fits : (old : LogState) (f : ℕ) → old.from < f → (r : RingState) → Fits r old → Fits (checked r f) (next_check old f)
-moved_fits old f low r fits = subst (λ (q : RingState). Fits q (next_check old f)) (checked_other r f (λ e. let a = fits.from in omega (arith, e, low))) (record {
+pub moved_fits : (old : LogState) (f : ℕ) → old.from < f → (r : RingState) → FitsRing r old → FitsRing (checked r f) (next_check old f)
+moved_fits old f low r fits = subst (λ (q : RingState). FitsRing q (next_check old f)) (checked_other r f (λ e. let a = fits.from in omega (arith, e, low))) (record {
   sequence = ap (λ (s : ℕ). s + 1) fits.sequence;
   from = refl;
   written = fits.written;
@@ -72,8 +72,8 @@ moved_fits old f low r fits = subst (λ (q : RingState). Fits q (next_check old 
 })
 
 -- a checkpoint that does nothing
-pub kept_fits : (log : LogState) (f : ℕ) → f ≡ log.from → (r : RingState) → Fits r log → Fits (checked r f) log
-kept_fits log f same r fits = subst (λ (q : RingState). Fits q log) (checked_same r f (same ∙ sym fits.from)) fits
+pub kept_fits : (log : LogState) (f : ℕ) → f ≡ log.from → (r : RingState) → FitsRing r log → FitsRing (checked r f) log
+kept_fits log f same r fits = subst (λ (q : RingState). FitsRing q log) (checked_same r f (same ∙ sym fits.from)) fits
 
 if_true : {A : Type 0} (b : Bool) (x y : A) → b ≡ true → (if b then x else y) ≡ x
 if_true true x y is = refl

@@ -10,7 +10,7 @@ use Rattle.bytes_core.specs.LastByte.{EndsInCrc32c}
 use Rattle.bytes_core.proofs.LastByte.{ends-stored, stored-ends}
 use Rattle.page_places.specs.Texts.{ends_in_sum}
 use Rattle.page_places.proofs.Sums.{ends-ends_in_sum, ends_in_sum-ends, not_true}
-use Rattle.redo_text.specs.Reading.{stored_sum, computed_sum}
+use Rattle.redo_text.specs.Reading.{stored_block_sum, computed_block_sum}
 
 pub eq_of : (a b : ℕ) → nat_eq a b ≡ true → a ≡ b
 eq_of a b is = grind (arith, nat_tests)
@@ -31,23 +31,23 @@ module _ (b : List ℕ) (long : length b ≡ 4096) where
   four : take 4 (drop 4092 b) ≡ drop 4092 b
   four = take_all 4 (drop 4092 b) (omega (arith, length-drop 4092 b, long))
 
-  stored_is : stored_sum b ≡ from_be_bytes w32 (drop (length b - 4) b)
+  stored_is : stored_block_sum b ≡ from_be_bytes w32 (drop (length b - 4) b)
   unfolding be32_at
   stored_is = ap (from_be_bytes w32) four ∙ ap (λ (n : ℕ). from_be_bytes w32 (drop n b)) (sym end)
 
-  computed_is : computed_sum b ≡ crc32c (take (length b - 4) b)
+  computed_is : computed_block_sum b ≡ crc32c (take (length b - 4) b)
   computed_is = ap (λ (n : ℕ). crc32c (take n b)) (sym end)
 
-  sum_there : ends_in_sum b ≡ true → stored_sum b ≡ computed_sum b
+  sum_there : ends_in_sum b ≡ true → stored_block_sum b ≡ computed_block_sum b
   sum_there is = stored_is ∙ ends-stored b (ends_in_sum-ends b is) ∙ sym computed_is
 
-  sum_here : AreBytes b → stored_sum b ≡ computed_sum b → ends_in_sum b ≡ true
+  sum_here : AreBytes b → stored_block_sum b ≡ computed_block_sum b → ends_in_sum b ≡ true
   sum_here are is = ends-ends_in_sum b (stored-ends b (omega (arith, long)) are (sym stored_is ∙ is ∙ computed_is))
 
   -- the two sums are the same exactly where the block ends in its checksum
-  pub sum_test : AreBytes b → nat_eq (stored_sum b) (computed_sum b) ≡ ends_in_sum b
+  pub sum_test : AreBytes b → nat_eq (stored_block_sum b) (computed_block_sum b) ≡ ends_in_sum b
   sum_test are = by (ends_in_sum b) refl
     where
-      by : (t : Bool) → ends_in_sum b ≡ t → nat_eq (stored_sum b) (computed_sum b) ≡ ends_in_sum b
+      by : (t : Bool) → ends_in_sum b ≡ t → nat_eq (stored_block_sum b) (computed_block_sum b) ≡ ends_in_sum b
       by true e = of_eq _ _ (sum_there e) ∙ sym e
       by false e = not_true _ (λ t. true≢false (sym (sum_here are (eq_of _ _ t)) ∙ e)) ∙ sym e

@@ -15,7 +15,7 @@ use Rattle.byte_list.proofs.ByteLaws.{bytes_append, bytes_made, bytes_take, byte
 use Rattle.redo_text.specs.declared.change.Change.{Change}
 use Rattle.redo_text.specs.declared.key.RedoKey.{RedoKey}
 use Rattle.redo_text.specs.Block.{block_count, filled, log_iv, nth_block, ring_block, text_part}
-use Rattle.redo_text.specs.Reading.{reading, version_of, used_of, flags_of, body_of, is_first, is_last, clear_body}
+use Rattle.redo_text.specs.Reading.{reading, block_version, used_of, block_flags, block_body, is_first, is_last, clear_body}
 use Rattle.redo_text.proofs.BlockFields.{body_is, number_is, filled_bytes}
 use Rattle.redo_text.proofs.BlockTaken.{taken}
 use Rattle.store_files.specs.RingBlock.{is_ring_block, block_text}
@@ -26,9 +26,9 @@ use Rattle.redo_log.proofs.SumLaws.{of_eq}
 -- block k of a text
 pub record IsNth (key : RedoKey) (first : ℕ) (text : List ℕ) (k : ℕ) (b : List ℕ) : Type 0 where
   pub valid : is_ring_block (first + k) b ≡ true
-  pub version : version_of b ≡ key.version
-  pub first_is : is_first (flags_of b) ≡ nat_eq k 0
-  pub last_is : is_last (flags_of b) ≡ nat_eq (k + 1) (block_count text)
+  pub version : block_version b ≡ key.version
+  pub first_is : is_first (block_flags b) ≡ nat_eq k 0
+  pub last_is : is_last (block_flags b) ≡ nat_eq (k + 1) (block_count text)
   pub text_is : block_text key.algorithm key.local b ≡ text_part text k
 
 part_long : (text : List ℕ) (k : ℕ) → k < block_count text → (1 ≤ length (text_part text k)) × (length (text_part text k) ≤ 4076) × (nat_eq (k + 1) (block_count text) ≡ false → length (text_part text k) ≡ 4076)

@@ -7,7 +7,7 @@ use Rattle.redo_text.specs.declared.change.Change.{Change}
 use Rattle.redo_text.specs.declared.key.RedoKey.{RedoKey}
 use Rattle.redo_text.specs.declared.key.TheConstants.{LAST_BLOCK}
 use Rattle.redo_text.specs.Block.{block_count, blocks}
-use Rattle.redo_text.specs.Reading.{flags_of, is_first}
+use Rattle.redo_text.specs.Reading.{block_flags, is_first}
 use Rattle.redo_text.specs.Text.{text_of}
 use Rattle.redo_log.specs.State.{LogState}
 use Rattle.redo_log.specs.Blocks.{Keys, IsStoreKey, redo_form}
@@ -56,5 +56,5 @@ IsEntry old new mtr key =
 pub record HasLast (log : LogState) (k : ℕ) : Type 0 where
   pub some : 0 < k
   pub within : k ≤ pending_count log
-  pub first : is_first (flags_of (pending_at log (pending_count log - k))) ≡ true
-  pub others : (j : ℕ) → pending_count log - k < j → j < pending_count log → is_first (flags_of (pending_at log j)) ≡ false
+  pub first : is_first (block_flags (pending_at log (pending_count log - k))) ≡ true
+  pub others : (j : ℕ) → pending_count log - k < j → j < pending_count log → is_first (block_flags (pending_at log j)) ≡ false

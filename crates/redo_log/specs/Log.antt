@@ -48,7 +48,7 @@ abbrev pub with_checkpoint : LogState → ℕ → LogState
 with_checkpoint log from = if nat_eq from log.from then log else record log { from = from; sequence = log.sequence + 1 }
 
 -- The log in memory and the ring of the disk have the same numbers, and the pending blocks are those behind the written ones.
-pub record Fits (r : RingState) (log : LogState) : Type 0 where
+pub record FitsRing (r : RingState) (log : LogState) : Type 0 where
   pub sequence : r.sequence ≡ log.sequence
   pub from : r.from ≡ log.from
   pub written : r.written ≡ durable log

@@ -2,7 +2,7 @@
 ghost use Rattle.std.specs.Prelude.{◌≡◌, ℕ, ◌+◌, ◌-◌, ◌*◌, ◌<◌, ◌≤◌, ◌^◌, length, IfOk, OnOk, OnErr, IfErr};
 ghost use Rattle.byte_list.specs.Bytes.{AreBytes};
 ghost use Rattle.redo_text.specs.Block.{block_count};
-ghost use Rattle.redo_text.specs.Reading.{flags_of, is_first};
+ghost use Rattle.redo_text.specs.Reading.{block_flags, is_first};
 ghost use Rattle.redo_text.specs.Text.{text_of, AreAllowed};
 ghost use Rattle.redo_log.specs.Log.{IsOpen, pending_at, pending_count};
 ghost use Rattle.redo_log.specs.Append.{appended, taken_back, IsRedoKey, IsLogRefusal, IsEntry, HasLast, HasRoomFor};
@@ -89,7 +89,7 @@ impl Log {
 // Whether a block begins a mini-transaction.
 fn begins(block: &[u8]) -> bool
     requires { length block.now ≡ 4096 }
-    ensures { result ≡ is_first (flags_of block.now) }
+    ensures { result ≡ is_first (block_flags block.now) }
 {
     be16_at(block, 14) % 2 == 1
 }

@@ -14,7 +14,7 @@ ghost use Rattle.redo_log.specs.Blocks.{Keys, redo_form, file_layout};
 ghost use Rattle.redo_log.specs.Check.{check_bytes};
 ghost use Rattle.redo_log.specs.Events.{side_batch, CheckWriting, CheckWrote, CheckSettled, IsCheckEvent, check_event, IsPart};
 ghost use Rattle.redo_log.specs.Fresh.{fresh_ring, IsFresh};
-ghost use Rattle.redo_log.specs.Log.{IsOpen, durable, checked, with_checkpoint, Fits};
+ghost use Rattle.redo_log.specs.Log.{IsOpen, durable, checked, with_checkpoint, FitsRing};
 
 use crate::Log;
 use crate::check_block::fill_check;
@@ -97,7 +97,7 @@ impl Log {
         requires low { self.now.from ≤ from }
         requires high { from ≤ durable self.now }
         requires places { At (HasPlaces LogFile (file_layout self.now.blocks)) (D.past disk.old) }
-        ensures does { (keys : Keys) (r : RingState) → Fits r self.now → At (RingReady self.now.blocks (redo_form keys) r) (D.past disk.old) → Does (Ringed self.now.blocks (redo_form keys) (checking r from)) (IsCheckEvent (self.now.sequence + 1) from) (RingReady self.now.blocks (redo_form keys) (checked r from)) (D.past disk.old) (D.past disk.new) result }
+        ensures does { (keys : Keys) (r : RingState) → FitsRing r self.now → At (RingReady self.now.blocks (redo_form keys) r) (D.past disk.old) → Does (Ringed self.now.blocks (redo_form keys) (checking r from)) (IsCheckEvent (self.now.sequence + 1) from) (RingReady self.now.blocks (redo_form keys) (checked r from)) (D.past disk.old) (D.past disk.new) result }
         ensures places { At (HasPlaces LogFile (file_layout self.now.blocks)) (D.past disk.new) }
         ensures nothing { from ≡ self.now.from → (result ≡ Ok tt) × (D.past disk.new ≡ D.past disk.old) × (disk.new ≡ disk.old) }
         ensures exact { self.now.from < from → OnOk result (D.past disk.new ≡ grow (Sync LogFile) (grow (check_event (self.now.sequence + 1) from) (D.past disk.old))) }
@@ -126,9 +126,9 @@ impl Log {
         requires high { from ≤ durable self.old }
         requires places { At (HasPlaces LogFile (file_layout self.old.blocks)) (D.past disk.old) }
         // Each lucky image of each moment stands for a part of the journal.
-        ensures stands { (keys : Keys) (r : RingState) (start : ℕ) (journal : List (Logged (List Change))) → Fits r self.old → At (RingReady self.old.blocks (redo_form keys) r) (D.past disk.old) → IsRingJournal self.old.blocks (redo_form keys) r start journal self.old.next → IsBound self.old.blocks (redo_form keys) r.block start journal from → Throughout (AllRingStand self.old.blocks (redo_form keys) (checking r from) start journal self.old.next) (D.past disk.old) (D.past disk.new) }
-        ensures does { (keys : Keys) (r : RingState) → Fits r self.old → At (RingReady self.old.blocks (redo_form keys) r) (D.past disk.old) → Does (Ringed self.old.blocks (redo_form keys) (checking r from)) (IsCheckEvent (self.old.sequence + 1) from) (RingReady self.old.blocks (redo_form keys) (checked r from)) (D.past disk.old) (D.past disk.new) result }
-        ensures fits { OnOk result ((r : RingState) → Fits r self.old → Fits (checked r from) self.new) }
+        ensures stands { (keys : Keys) (r : RingState) (start : ℕ) (journal : List (Logged (List Change))) → FitsRing r self.old → At (RingReady self.old.blocks (redo_form keys) r) (D.past disk.old) → IsRingJournal self.old.blocks (redo_form keys) r start journal self.old.next → IsBound self.old.blocks (redo_form keys) r.block start journal from → Throughout (AllRingStand self.old.blocks (redo_form keys) (checking r from) start journal self.old.next) (D.past disk.old) (D.past disk.new) }
+        ensures does { (keys : Keys) (r : RingState) → FitsRing r self.old → At (RingReady self.old.blocks (redo_form keys) r) (D.past disk.old) → Does (Ringed self.old.blocks (redo_form keys) (checking r from)) (IsCheckEvent (self.old.sequence + 1) from) (RingReady self.old.blocks (redo_form keys) (checked r from)) (D.past disk.old) (D.past disk.new) result }
+        ensures fits { OnOk result ((r : RingState) → FitsRing r self.old → FitsRing (checked r from) self.new) }
         ensures nothing { from ≡ self.old.from → (result ≡ Ok tt) × (D.past disk.new ≡ D.past disk.old) × (disk.new ≡ disk.old) }
         ensures exact { self.old.from < from → OnOk result (D.past disk.new ≡ grow (Sync LogFile) (grow (check_event (self.old.sequence + 1) from) (D.past disk.old))) }
         ensures part { OnErr result (IsPart (side_batch (self.old.sequence + 1) from) 1 (D.past disk.old) (D.past disk.new)) }

@@ -8,7 +8,7 @@ ghost use Rattle.disk_model.specs.Past.{At, HasDiskCause};
 ghost use Rattle.disk_model.specs.declared.names.FileName.TheVariants.{Log as LogFile};
 ghost use Rattle.ring_log.specs.Ring.{read_in};
 ghost use Rattle.ring_log.specs.Scans.{IsRingRun, Goes, Stops};
-ghost use Rattle.redo_text.specs.Reading.{version_of};
+ghost use Rattle.redo_text.specs.Reading.{block_version};
 ghost use Rattle.redo_log.specs.Blocks.{Keys, redo_form, read_at};
 ghost use Rattle.redo_log.specs.Runs.{versions_up, AreVersions};
 
@@ -93,7 +93,7 @@ fn next_of(block: &[u8], number: u64, end: u64) -> Option<Next>
     requires order { end ≤ number }
     ensures some { IfSome result (λ next. (keys : Keys) → (N : ℕ) → Goes N (redo_form keys) number end block.now next.end) }
     ensures bounds { IfSome result (λ next. (end ≤ next.end) × (next.end ≤ number + 1)) }
-    ensures version { IfSome result (λ next. next.version ≡ version_of block.now) }
+    ensures version { IfSome result (λ next. next.version ≡ block_version block.now) }
     ensures none { IfNone result ((keys : Keys) → (N : ℕ) → Stops N (redo_form keys) number end block.now) }
 {
     if number - end >= 16 {

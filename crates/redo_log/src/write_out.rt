@@ -12,7 +12,7 @@ ghost use Rattle.store_image.specs.View.{Logged};
 ghost use Rattle.redo_text.specs.declared.change.Change.{Change};
 ghost use Rattle.redo_log.specs.Blocks.{Keys, redo_form, file_layout};
 ghost use Rattle.redo_log.specs.Events.{block_batch, BlocksWriting, BlocksWrote, IsBlockEvent, writes_of, grows, out_events, IsPart};
-ghost use Rattle.redo_log.specs.Log.{IsOpen, durable, pending_at, pending_count, written_out, Fits};
+ghost use Rattle.redo_log.specs.Log.{IsOpen, durable, pending_at, pending_count, written_out, FitsRing};
 
 use crate::Log;
 use disk_model::{Disk, DiskError, FileName};
@@ -57,7 +57,7 @@ impl Log {
     // Writes the pending blocks in order, and syncs the log.
     fn settle_blocks<D: Disk>(&self, disk: &mut D) -> Result<(), DiskError>
         requires places { At (HasPlaces LogFile (file_layout self.now.blocks)) (D.past disk.old) }
-        ensures does { (keys : Keys) (r : RingState) → Fits r self.now → At (RingReady self.now.blocks (redo_form keys) r) (D.past disk.old) → Does (Ringed self.now.blocks (redo_form keys) (more r (pending_count self.now))) (IsBlockEvent self.now) (RingReady self.now.blocks (redo_form keys) (settle r (pending_count self.now))) (D.past disk.old) (D.past disk.new) result }
+        ensures does { (keys : Keys) (r : RingState) → FitsRing r self.now → At (RingReady self.now.blocks (redo_form keys) r) (D.past disk.old) → Does (Ringed self.now.blocks (redo_form keys) (more r (pending_count self.now))) (IsBlockEvent self.now) (RingReady self.now.blocks (redo_form keys) (settle r (pending_count self.now))) (D.past disk.old) (D.past disk.new) result }
         ensures places { At (HasPlaces LogFile (file_layout self.now.blocks)) (D.past disk.new) }
         ensures nothing { pending_count self.now ≡ 0 → (result ≡ Ok tt) × (disk.new ≡ disk.old) }
         ensures exact { OnOk result (D.past disk.new ≡ grows (out_events (pending_count self.now) self.now) (D.past disk.old)) }
@@ -83,9 +83,9 @@ impl Log {
     pub fn write_out<D: Disk>(&mut self, disk: &mut D) -> Result<(), DiskError>
         requires places { At (HasPlaces LogFile (file_layout self.old.blocks)) (D.past disk.old) }
         // Each lucky image of each moment stands for a part of the journal, and at Ok all is durable.
-        ensures stands { (keys : Keys) (r : RingState) (start : ℕ) (journal : List (Logged (List Change))) → Fits r self.old → At (RingReady self.old.blocks (redo_form keys) r) (D.past disk.old) → IsRingJournal self.old.blocks (redo_form keys) r start journal self.old.next → Throughout (AllRingStand self.old.blocks (redo_form keys) (more r (pending_count self.old)) start journal self.old.next) (D.past disk.old) (D.past disk.new) }
-        ensures does { (keys : Keys) (r : RingState) → Fits r self.old → At (RingReady self.old.blocks (redo_form keys) r) (D.past disk.old) → Does (Ringed self.old.blocks (redo_form keys) (more r (pending_count self.old))) (IsBlockEvent self.old) (RingReady self.old.blocks (redo_form keys) (settle r (pending_count self.old))) (D.past disk.old) (D.past disk.new) result }
-        ensures fits { OnOk result ((r : RingState) → Fits r self.old → Fits (settle r (pending_count self.old)) self.new) }
+        ensures stands { (keys : Keys) (r : RingState) (start : ℕ) (journal : List (Logged (List Change))) → FitsRing r self.old → At (RingReady self.old.blocks (redo_form keys) r) (D.past disk.old) → IsRingJournal self.old.blocks (redo_form keys) r start journal self.old.next → Throughout (AllRingStand self.old.blocks (redo_form keys) (more r (pending_count self.old)) start journal self.old.next) (D.past disk.old) (D.past disk.new) }
+        ensures does { (keys : Keys) (r : RingState) → FitsRing r self.old → At (RingReady self.old.blocks (redo_form keys) r) (D.past disk.old) → Does (Ringed self.old.blocks (redo_form keys) (more r (pending_count self.old))) (IsBlockEvent self.old) (RingReady self.old.blocks (redo_form keys) (settle r (pending_count self.old))) (D.past disk.old) (D.past disk.new) result }
+        ensures fits { OnOk result ((r : RingState) → FitsRing r self.old → FitsRing (settle r (pending_count self.old)) self.new) }
         ensures nothing { pending_count self.old ≡ 0 → (result ≡ Ok tt) × (disk.new ≡ disk.old) }
         ensures exact { OnOk result (D.past disk.new ≡ grows (out_events (pending_count self.old) self.old) (D.past disk.old)) }
         ensures part { OnErr result (IsPart (block_batch self.old) (pending_count self.old) (D.past disk.old) (D.past disk.new)) }

@@ -10,8 +10,8 @@ use Rattle.byte_list.proofs.RangeLaws.{range_at}
 use Rattle.bytes_core.specs.Crc.{crc32c}
 use Rattle.bytes_core.proofs.Division.{crc32c-lt}
 use Rattle.redo_text.specs.declared.key.RedoKey.{RedoKey}
-use Rattle.redo_text.specs.Block.{body, filled, flags, head, ring_block, sealed}
-use Rattle.redo_text.specs.Reading.{body_of, computed_sum, flags_of, is_first, is_last, number_of, stored_sum, used_of, version_of}
+use Rattle.redo_text.specs.Block.{enciphered_body, filled, flags, head, ring_block, sealed}
+use Rattle.redo_text.specs.Reading.{block_body, computed_block_sum, block_flags, is_first, is_last, number_of, stored_block_sum, used_of, block_version}
 use Rattle.redo_text.proofs.BlockWrites.{length-head}
 
 -- the fields of a head
@@ -20,7 +20,7 @@ module _ (number version used bits : ℕ) (rest : List ℕ) where
   unfolding head
   number-head small = be64_at-written (head number version used bits ++ rest) 0 number refl small
 
-  pub version-head : version < 2 ^ 32 → version_of (head number version used bits ++ rest) ≡ version
+  pub version-head : version < 2 ^ 32 → block_version (head number version used bits ++ rest) ≡ version
   unfolding head
   version-head small = be32_at-written (head number version used bits ++ rest) 8 version refl small
 
@@ -28,7 +28,7 @@ module _ (number version used bits : ℕ) (rest : List ℕ) where
   unfolding head
   used-head small = be16_at-written (head number version used bits ++ rest) 12 used refl small
 
-  pub flags-head : bits < 2 ^ 16 → flags_of (head number version used bits ++ rest) ≡ bits
+  pub flags-head : bits < 2 ^ 16 → block_flags (head number version used bits ++ rest) ≡ bits
   unfolding head
   flags-head small = be16_at-written (head number version used bits ++ rest) 14 bits refl small
 
@@ -57,7 +57,7 @@ module _ (key : RedoKey) (number : ℕ) (first last : Bool) (text o : List ℕ) 
   h = head number key.version (length text) (flags first last)
 
   abbrev pub b : List ℕ
-  b = body key number text
+  b = enciphered_body key number text
 
   abbrev pub sum : List ℕ
   sum = to_be_bytes w32 (crc32c (h ++ b))
@@ -71,25 +71,25 @@ module _ (key : RedoKey) (number : ℕ) (first last : Bool) (text o : List ℕ) 
       let more = length-append b sum in
       omega (arith, sym long ∙ ap length parts, all, more, length-head number key.version (length text) (flags first last))
 
-  pub body_is : body_of o ≡ body key number text
-  body_is = ap body_of parts ∙ range_at h b sum 16 4076 (length-head number key.version (length text) (flags first last)) body_long
+  pub body_is : block_body o ≡ enciphered_body key number text
+  body_is = ap block_body parts ∙ range_at h b sum 16 4076 (length-head number key.version (length text) (flags first last)) body_long
 
   pub number_is : number < 2 ^ 64 → number_of o ≡ number
   number_is small = ap number_of parts ∙ number-head number key.version (length text) (flags first last) (b ++ sum) small
 
-  pub version_is : key.version < 2 ^ 32 → version_of o ≡ key.version
-  version_is small = ap version_of parts ∙ version-head number key.version (length text) (flags first last) (b ++ sum) small
+  pub version_is : key.version < 2 ^ 32 → block_version o ≡ key.version
+  version_is small = ap block_version parts ∙ version-head number key.version (length text) (flags first last) (b ++ sum) small
 
   pub used_is : length text ≤ 4076 → used_of o ≡ length text
   used_is most = ap used_of parts ∙ used-head number key.version (length text) (flags first last) (b ++ sum) (omega arith)
 
-  pub flags_is : flags_of o ≡ flags first last
-  flags_is = ap flags_of parts ∙ flags-head number key.version (length text) (flags first last) (b ++ sum) (flags-small first last)
+  pub flags_is : block_flags o ≡ flags first last
+  flags_is = ap block_flags parts ∙ flags-head number key.version (length text) (flags first last) (b ++ sum) (flags-small first last)
 
   front_long : length (h ++ b) ≡ 4092
   front_long = length-append h b ∙ omega (arith, length-head number key.version (length text) (flags first last), body_long)
 
-  pub sum_is : stored_sum o ≡ computed_sum o
+  pub sum_is : stored_block_sum o ≡ computed_block_sum o
   sum_is =
       let here : range 4092 4 o ≡ sum = ap (range 4092 4) (is ∙ ap (λ (l : List ℕ). (h ++ b) ++ l) (sym (append-nil sum))) ∙ range_at (h ++ b) sum [] 4092 4 front_long refl in
       let front : range 0 4092 o ≡ h ++ b = ap (range 0 4092) is ∙ take_at (h ++ b) sum 4092 front_long in
@@ -99,6 +99,6 @@ module _ (key : RedoKey) (number : ℕ) (first last : Bool) (text o : List ℕ) 
 pub filled_bytes : (text : List ℕ) → AreBytes text → AreBytes (filled text)
 filled_bytes text are = bytes_append text (zeros (4076 - length text)) are (bytes_zeros (4076 - length text))
 
-pub text_read : (text block : List ℕ) → length text ≤ 4076 → body_of block ≡ filled text → range 16 (length text) block ≡ text
+pub text_read : (text block : List ℕ) → length text ≤ 4076 → block_body block ≡ filled text → range 16 (length text) block ≡ text
 text_read text block most is =
     sym (take-take (length text) 4076 (drop 16 block) most) ∙ ap (take (length text)) is ∙ take_at text (zeros (4076 - length text)) (length text) refl

@@ -14,15 +14,15 @@ use Rattle.redo_text.specs.declared.fault.BlockFault.{BlockFault}
 use Rattle.redo_text.specs.declared.fault.BlockFault.TheVariants.{BadBlock, BadHead, WrongNumber}
 use Rattle.redo_text.specs.declared.key.RedoKey.{RedoKey}
 use Rattle.redo_text.specs.Block.{flags, ring_block}
-use Rattle.redo_text.specs.Reading.{computed_sum, fits_used, flags_of, is_first, is_last, number_of, reading, stored_sum, used_of, version_of}
+use Rattle.redo_text.specs.Reading.{computed_block_sum, fits_used, block_flags, is_first, is_last, number_of, reading, stored_block_sum, used_of, block_version}
 use Rattle.redo_text.proofs.BlockFields.{first-flags, flags_is, last-flags, number_is, sum_is, used_is, version_is}
 
 -- a block in which nothing is wrong
-reading_ok : (number : ℕ) (o : List ℕ) → stored_sum o ≡ computed_sum o → number_of o ≡ number → 1 ≤ version_of o
-    → fits_used (used_of o) (flags_of o) ≡ true → leb (flags_of o) 3 ≡ true → reading number o ≡ Ok tt
+reading_ok : (number : ℕ) (o : List ℕ) → stored_block_sum o ≡ computed_block_sum o → number_of o ≡ number → 1 ≤ block_version o
+    → fits_used (used_of o) (block_flags o) ≡ true → leb (block_flags o) 3 ≡ true → reading number o ≡ Ok tt
 unfolding reading
 reading_ok number o sum is version used bits =
-    rw (eq-eqb (stored_sum o) (computed_sum o) sum, eq-eqb (number_of o) number is, ne_eqb (version_of o) 0 (λ e. absurd (omega (arith, e, version))), used, bits) refl
+    rw (eq-eqb (stored_block_sum o) (computed_block_sum o) sum, eq-eqb (number_of o) number is, ne_eqb (block_version o) 0 (λ e. absurd (omega (arith, e, version))), used, bits) refl
 
 fits : (used : ℕ) (first last : Bool) → 1 ≤ used → used ≤ 4076 → (last ≡ false → used ≡ 4076) → fits_used used (flags first last) ≡ true
 unfolding fits_used
@@ -39,7 +39,7 @@ two_bits true true = refl
 
 module _ (key : RedoKey) (number : ℕ) (first last : Bool) (text o : List ℕ) (long : length o ≡ 4096) (is : o ≡ ring_block key number first last text) (small : number < 2 ^ 64) (some : 1 ≤ key.version) (version : key.version < 2 ^ 32) (least : 1 ≤ length text) (most : length text ≤ 4076) (whole : last ≡ false → length text ≡ 4076) where
   -- a block of a mini-transaction
-  pub taken : (reading number o ≡ Ok tt) × (version_of o ≡ key.version) × (used_of o ≡ length text) × (is_first (flags_of o) ≡ first) × (is_last (flags_of o) ≡ last)
+  pub taken : (reading number o ≡ Ok tt) × (block_version o ≡ key.version) × (used_of o ≡ length text) × (is_first (block_flags o) ≡ first) × (is_last (block_flags o) ≡ last)
   taken =
       let v = version_is key number first last text o long is version in
       let u = used_is key number first last text o long is most in
@@ -53,17 +53,17 @@ module _ (key : RedoKey) (number : ℕ) (first last : Bool) (text o : List ℕ) 
       )
 
 -- what is wrong first where the checksum is
-pub reading_bad : (number : ℕ) (o : List ℕ) → stored_sum o ≢ computed_sum o → reading number o ≡ Err (BadBlock (stored_sum o) (computed_sum o))
+pub reading_bad : (number : ℕ) (o : List ℕ) → stored_block_sum o ≢ computed_block_sum o → reading number o ≡ Err (BadBlock (stored_block_sum o) (computed_block_sum o))
 unfolding reading
-reading_bad number o differ = rw (ne_eqb (stored_sum o) (computed_sum o) differ) refl
+reading_bad number o differ = rw (ne_eqb (stored_block_sum o) (computed_block_sum o) differ) refl
 
 -- a block that is taken ends in its checksum
-pub reading_sum : (number : ℕ) (o : List ℕ) → reading number o ≡ Ok tt → stored_sum o ≡ computed_sum o
+pub reading_sum : (number : ℕ) (o : List ℕ) → reading number o ≡ Ok tt → stored_block_sum o ≡ computed_block_sum o
 reading_sum number o ok =
-    ⊎_elim (λ (yes : (eqb (stored_sum o) (computed_sum o) ≡ true) × (stored_sum o ≡ computed_sum o)). yes.1)
-    (λ (no : (eqb (stored_sum o) (computed_sum o) ≡ false) × (stored_sum o ≢ computed_sum o)). let bad : Ok tt ≡ Err (BadBlock (stored_sum o) (computed_sum o)) = sym ok ∙ reading_bad number o no.1 in absurd cc) (eqb_tells (stored_sum o) (computed_sum o))
+    ⊎_elim (λ (yes : (eqb (stored_block_sum o) (computed_block_sum o) ≡ true) × (stored_block_sum o ≡ computed_block_sum o)). yes.1)
+    (λ (no : (eqb (stored_block_sum o) (computed_block_sum o) ≡ false) × (stored_block_sum o ≢ computed_block_sum o)). let bad : Ok tt ≡ Err (BadBlock (stored_block_sum o) (computed_block_sum o)) = sym ok ∙ reading_bad number o no.1 in absurd cc) (eqb_tells (stored_block_sum o) (computed_block_sum o))
 
-ends : (o : List ℕ) → length o ≡ 4096 → AreBytes o → stored_sum o ≡ computed_sum o → EndsInCrc32c o
+ends : (o : List ℕ) → length o ≡ 4096 → AreBytes o → stored_block_sum o ≡ computed_block_sum o → EndsInCrc32c o
 unfolding be32_at
 ends o long are sum =
     let end : length o - 4 ≡ 4092 = omega (arith, long) in
@@ -72,7 +72,7 @@ ends o long are sum =
     (ap (λ (n : ℕ). from_be_bytes w32 (drop n o)) end ∙ ap (from_be_bytes w32) (sym four) ∙ sum ∙ ap (λ (n : ℕ). crc32c (take n o)) (sym end))
 
 -- A block whose last byte was inverted isn't taken.
-pub torn : (whole o : List ℕ) → length o ≡ 4096 → AreBytes o → AreBytes whole → o ≡ last_inverted whole → stored_sum whole ≡ computed_sum whole → stored_sum o ≢ computed_sum o
+pub torn : (whole o : List ℕ) → length o ≡ 4096 → AreBytes o → AreBytes whole → o ≡ last_inverted whole → stored_block_sum whole ≡ computed_block_sum whole → stored_block_sum o ≢ computed_block_sum o
 torn whole o long are bytes is sum same =
     let size : length whole ≡ 4096 = sym (length-set whole (length whole - 1) _) ∙ sym (ap length is) ∙ long in
     inverted-not_ends whole (ends whole size bytes sum) (subst EndsInCrc32c is (ends o long are same))

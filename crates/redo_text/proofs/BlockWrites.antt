@@ -6,7 +6,7 @@ use Rattle.byte_list.specs.Bytes.{put, range, zeros}
 use Rattle.byte_list.proofs.PutLaws.{put_at}
 use Rattle.byte_list.proofs.RangeLaws.{length-zeros, range_at}
 use Rattle.redo_text.specs.Block.{filled, head}
-use Rattle.redo_text.specs.Reading.{body_of}
+use Rattle.redo_text.specs.Reading.{block_body}
 
 pub zeros-add : (n m : ℕ) → zeros (n + m) ≡ zeros n ++ zeros m
 unfolding zeros
@@ -40,7 +40,7 @@ module _ (h b : List ℕ) (long : length h ≡ 16) (whole : length b ≡ 4076) w
   pub block_long : (z : List ℕ) → length z ≡ 4 → length (h ++ (b ++ z)) ≡ 4096
   block_long z e = length-append h (b ++ z) ∙ (let more = length-append b z in omega (arith, more, e, whole, long))
 
-  pub body_read : (z : List ℕ) → body_of (h ++ (b ++ z)) ≡ b
+  pub body_read : (z : List ℕ) → block_body (h ++ (b ++ z)) ≡ b
   body_read z = range_at h b z 16 4076 long whole
 
   pub body_put : (z new : List ℕ) → length new ≡ 4076 → put 16 new (h ++ (b ++ z)) ≡ h ++ (new ++ z)

@@ -28,12 +28,12 @@ abbrev pub filled : List ℕ → List ℕ
 filled text = text ++ zeros (4076 - length text)
 
 -- the body under the key
-abbrev pub body : RedoKey → ℕ → List ℕ → List ℕ
-body key number text = ciphered key.algorithm key.local (log_iv number) (filled text)
+abbrev pub enciphered_body : RedoKey → ℕ → List ℕ → List ℕ
+enciphered_body key number text = ciphered key.algorithm key.local (log_iv number) (filled text)
 
 -- the block of a number that holds a text of at most 4076 bytes
 abbrev pub ring_block : RedoKey → ℕ → Bool → Bool → List ℕ → List ℕ
-ring_block key number first last text = sealed (head number key.version (length text) (flags first last) ++ body key number text)
+ring_block key number first last text = sealed (head number key.version (length text) (flags first last) ++ enciphered_body key number text)
 
 -- how many blocks a text has: its length by 4076, rounded up
 abbrev pub block_count : List ℕ → ℕ

@@ -8,7 +8,7 @@ use Rattle.redo_text.specs.declared.fault.BadRecord.{BadRecord}
 use Rattle.redo_text.specs.Text.{change_text, IsAllowed}
 
 -- a place in a text, and the bytes from there on
-pub record Place : Type 0 where
+pub record ChangePlace : Type 0 where
   pub at : ℕ
   pub rest : List ℕ
 
@@ -30,13 +30,13 @@ abbrev pub BeginsWithNone : List ℕ → Type 0
 BeginsWithNone text = (change : Change) (rest : List ℕ) → Begins text change rest → ⊥
 
 -- What a reader answers, and where it stands then: the end and a place where no change begins leave it as it was.
-abbrev pub IsNext : Place → Place → Result (Option ChangeView) BadRecord → Type 0
-IsNext old new (Ok None) = (old.rest ≡ []) × (new ≡ old)
-IsNext old new (Ok (Some view)) = Begins old.rest (change_of view) new.rest × (new.at ≡ old.at + length (change_text (change_of view)))
-IsNext old new (Err bad) = (bad.at ≡ old.at) × (old.rest ≢ []) × BeginsWithNone old.rest × (new ≡ old)
+abbrev pub IsNextChange : ChangePlace → ChangePlace → Result (Option ChangeView) BadRecord → Type 0
+IsNextChange old new (Ok None) = (old.rest ≡ []) × (new ≡ old)
+IsNextChange old new (Ok (Some view)) = Begins old.rest (change_of view) new.rest × (new.at ≡ old.at + length (change_text (change_of view)))
+IsNextChange old new (Err bad) = (bad.at ≡ old.at) × (old.rest ≢ []) × BeginsWithNone old.rest × (new ≡ old)
 
 -- this change is lent, and the rest is left
-abbrev pub IsLent : Change → List ℕ → Place → Result (Option ChangeView) BadRecord → Type 0
+abbrev pub IsLent : Change → List ℕ → ChangePlace → Result (Option ChangeView) BadRecord → Type 0
 IsLent change rest new (Ok (Some view)) = (change_of view ≡ change) × (new.rest ≡ rest)
 IsLent change rest new (Ok None) = ⊥
 IsLent change rest new (Err bad) = ⊥

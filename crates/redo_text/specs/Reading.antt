@@ -13,24 +13,24 @@ use Rattle.redo_text.specs.Block.{log_iv}
 abbrev pub number_of : List ℕ → ℕ
 number_of block = be64_at block 0
 
-abbrev pub version_of : List ℕ → ℕ
-version_of block = be32_at block 8
+abbrev pub block_version : List ℕ → ℕ
+block_version block = be32_at block 8
 
 abbrev pub used_of : List ℕ → ℕ
 used_of block = be16_at block 12
 
-abbrev pub flags_of : List ℕ → ℕ
-flags_of block = be16_at block 14
+abbrev pub block_flags : List ℕ → ℕ
+block_flags block = be16_at block 14
 
-abbrev pub body_of : List ℕ → List ℕ
-body_of block = range 16 4076 block
+abbrev pub block_body : List ℕ → List ℕ
+block_body block = range 16 4076 block
 
-abbrev pub stored_sum : List ℕ → ℕ
-stored_sum block = be32_at block 4092
+abbrev pub stored_block_sum : List ℕ → ℕ
+stored_block_sum block = be32_at block 4092
 
 -- the checksum that the bytes before it have
-abbrev pub computed_sum : List ℕ → ℕ
-computed_sum block = crc32c (range 0 4092 block)
+abbrev pub computed_block_sum : List ℕ → ℕ
+computed_block_sum block = crc32c (range 0 4092 block)
 
 -- whether these flags say that the block is the first, or the last, of its mini-transaction
 abbrev pub is_first : ℕ → Bool
@@ -46,16 +46,16 @@ fits_used used flags = leb 1 used && (leb used 4076 && (is_last flags || (used =
 -- the first fault of a block that is wanted under a number, or none
 unfoldable pub reading : ℕ → List ℕ → Result (Unit {0}) BlockFault
 reading number block =
-    if not (stored_sum block == computed_sum block) then Err (BadBlock (stored_sum block) (computed_sum block))
+    if not (stored_block_sum block == computed_block_sum block) then Err (BadBlock (stored_block_sum block) (computed_block_sum block))
     else if not (number_of block == number) then Err (WrongNumber number (number_of block))
-    else if version_of block == 0 then Err (BadHead 8)
-    else if not (fits_used (used_of block) (flags_of block)) then Err (BadHead 12)
-    else if not (leb (flags_of block) 3) then Err (BadHead 14)
+    else if block_version block == 0 then Err (BadHead 8)
+    else if not (fits_used (used_of block) (block_flags block)) then Err (BadHead 12)
+    else if not (leb (block_flags block) 3) then Err (BadHead 14)
     else Ok tt
 
 -- the body in clear, and the block with it in place of its body
 abbrev pub clear_body : RedoKey → List ℕ → List ℕ
-clear_body key block = deciphered key.algorithm key.local (log_iv (number_of block)) (body_of block)
+clear_body key block = deciphered key.algorithm key.local (log_iv (number_of block)) (block_body block)
 
-abbrev pub in_clear : RedoKey → List ℕ → List ℕ
-in_clear key block = put 16 (clear_body key block) block
+abbrev pub block_in_clear : RedoKey → List ℕ → List ℕ
+block_in_clear key block = put 16 (clear_body key block) block

@@ -6,7 +6,7 @@ ghost use Rattle.aes_core.specs.Modes.{joined};
 ghost use Rattle.byte_list.specs.Bytes.{AreBytes, put, range, zeros};
 ghost use Rattle.bytes_core.specs.Crc.{crc32c};
 ghost use Rattle.redo_text.specs.Block.{AreOf, block_count, blocks, filled, flags, head, log_iv, nth_block, ring_block, text_part};
-ghost use Rattle.redo_text.specs.Reading.{body_of, in_clear, number_of};
+ghost use Rattle.redo_text.specs.Reading.{block_body, block_in_clear, number_of};
 
 use crate::RedoKey;
 use crate::key::log_iv;
@@ -39,8 +39,8 @@ fn head(number: u64, version: u32, used: u16, flags: u16) -> [u8; 16]
 fn encipher_body(block: &mut [u8], number: u64, key: &RedoKey, block_key: &BlockKey)
     requires size { length block.old ≡ 4096 }
     requires keyed { block_key.now ≡ key.now.local }
-    ensures value { block.new ≡ put 16 (ciphered key.now.algorithm key.now.local (log_iv number) (body_of block.old)) block.old }
-    ensures long { length (ciphered key.now.algorithm key.now.local (log_iv number) (body_of block.old)) ≡ 4076 }
+    ensures value { block.new ≡ put 16 (ciphered key.now.algorithm key.now.local (log_iv number) (block_body block.old)) block.old }
+    ensures long { length (ciphered key.now.algorithm key.now.local (log_iv number) (block_body block.old)) ≡ 4076 }
 {
     key.algorithm
         .encrypt(block_key, &log_iv(number), &mut block[16..4092]);
@@ -152,9 +152,9 @@ pub(crate) fn write_blocks(out: &mut [u8], first: u64, text: &[u8], key: &RedoKe
 fn decipher_under(bytes: &mut [u8], key: &RedoKey, block_key: &BlockKey)
     requires size { length bytes.old ≡ 4096 }
     requires keyed { block_key.now ≡ key.now.local }
-    ensures value { bytes.new ≡ in_clear key.now bytes.old }
-    ensures inverse { ciphered key.now.algorithm key.now.local (log_iv (number_of bytes.old)) (body_of bytes.new) ≡ body_of bytes.old }
-    ensures undoes { (p : List ℕ) → AreBytes p → body_of bytes.old ≡ ciphered key.now.algorithm key.now.local (log_iv (number_of bytes.old)) p → body_of bytes.new ≡ p }
+    ensures value { bytes.new ≡ block_in_clear key.now bytes.old }
+    ensures inverse { ciphered key.now.algorithm key.now.local (log_iv (number_of bytes.old)) (block_body bytes.new) ≡ block_body bytes.old }
+    ensures undoes { (p : List ℕ) → AreBytes p → block_body bytes.old ≡ ciphered key.now.algorithm key.now.local (log_iv (number_of bytes.old)) p → block_body bytes.new ≡ p }
     ensures text { (number : ℕ) (first last : Bool) (text : List ℕ) → number < 2 ^ 64 → AreBytes text → length text ≤ 4076 → bytes.old ≡ ring_block key.now number first last text → range 16 (length text) bytes.new ≡ text }
 {
     let number = be64_at(bytes, 0);
@@ -167,10 +167,10 @@ fn decipher_under(bytes: &mut [u8], key: &RedoKey, block_key: &BlockKey)
 /// anything.
 pub fn decipher_block(bytes: &mut [u8], key: &RedoKey)
     requires size { length bytes.old ≡ 4096 }
-    ensures value { bytes.new ≡ in_clear key.now bytes.old }
+    ensures value { bytes.new ≡ block_in_clear key.now bytes.old }
     // The body that is left enciphers to the one that was there, and a body that was enciphered comes back.
-    ensures inverse { ciphered key.now.algorithm key.now.local (log_iv (number_of bytes.old)) (body_of bytes.new) ≡ body_of bytes.old }
-    ensures undoes { (p : List ℕ) → AreBytes p → body_of bytes.old ≡ ciphered key.now.algorithm key.now.local (log_iv (number_of bytes.old)) p → body_of bytes.new ≡ p }
+    ensures inverse { ciphered key.now.algorithm key.now.local (log_iv (number_of bytes.old)) (block_body bytes.new) ≡ block_body bytes.old }
+    ensures undoes { (p : List ℕ) → AreBytes p → block_body bytes.old ≡ ciphered key.now.algorithm key.now.local (log_iv (number_of bytes.old)) p → block_body bytes.new ≡ p }
     // So the text of a block comes back.
     ensures text { (number : ℕ) (first last : Bool) (text : List ℕ) → number < 2 ^ 64 → AreBytes text → length text ≤ 4076 → bytes.old ≡ ring_block key.now number first last text → range 16 (length text) bytes.new ≡ text }
 {

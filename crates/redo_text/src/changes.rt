@@ -3,7 +3,7 @@ ghost use Rattle.std.specs.Prelude.{◌≡◌, ◌≢◌, ℕ, ◌+◌, ◌∷�
 ghost use Rattle.byte_list.specs.Bytes.{AreBytes};
 ghost use Rattle.redo_text.specs.declared.change.Change.{Change};
 ghost use Rattle.redo_text.specs.Text.{IsRange};
-ghost use Rattle.redo_text.specs.Changes.{Begins, BeginsWithNone, IsLent, IsNext, Place, change_of};
+ghost use Rattle.redo_text.specs.Changes.{Begins, BeginsWithNone, IsLent, IsNextChange, ChangePlace, change_of};
 
 use crate::BadRecord;
 use byte_list::fields::{be16_at, be32_at};
@@ -161,7 +161,7 @@ pub struct Changes<'a> {
 }
 
 impl<'a> Model for Changes<'a> {
-    ghost Value = { Place };
+    ghost Value = { ChangePlace };
 
     ghost view = { λ changes. record { at = changes.at; rest = changes.rest.now } };
 
@@ -182,7 +182,7 @@ impl<'a> Changes<'a> {
     /// # Errors
     /// [`BadRecord`] exactly where no change begins at the place that it names. The reader stays there.
     pub fn next(&mut self) -> Result<Option<ChangeView<'a>>, BadRecord>
-        ensures next { IsNext self.old self.new result }
+        ensures next { IsNextChange self.old self.new result }
         ensures only { (change : Change) (rest : List ℕ) → Begins self.old.rest change rest → IsLent change rest self.new result }
     {
         if self.rest.is_empty() {

@@ -3,7 +3,7 @@ ghost use Rattle.std.specs.Prelude.{◌≡◌, ◌≢◌, ℕ, ◌+◌, ◌<◌,
 ghost use Rattle.byte_list.specs.Bytes.{AreBytes};
 ghost use Rattle.bytes_core.specs.LastByte.{EndsInCrc32c, last_inverted};
 ghost use Rattle.redo_text.specs.Block.{ring_block};
-ghost use Rattle.redo_text.specs.Reading.{body_of, computed_sum, fits_used, flags_of, is_first, is_last, reading, stored_sum, used_of, version_of};
+ghost use Rattle.redo_text.specs.Reading.{block_body, computed_block_sum, fits_used, block_flags, is_first, is_last, reading, stored_block_sum, used_of, block_version};
 ghost use Rattle.redo_text.specs.declared.fault.BlockFault.{BlockFault};
 ghost use Rattle.redo_text.specs.declared.key.RedoKey.{RedoKey};
 
@@ -30,7 +30,7 @@ impl<'a> Model for BlockView<'a> {
 impl<'a> BlockView<'a> {
     /// The key version, from 1 on.
     pub fn version(&self) -> u32
-        ensures { result ≡ version_of self.now }
+        ensures { result ≡ block_version self.now }
     {
         be32_at(self.bytes, 8)
     }
@@ -44,21 +44,21 @@ impl<'a> BlockView<'a> {
 
     /// Whether the block is the first of its mini-transaction.
     pub fn first(&self) -> bool
-        ensures { result ≡ is_first (flags_of self.now) }
+        ensures { result ≡ is_first (block_flags self.now) }
     {
         be16_at(self.bytes, 14) % 2 == 1
     }
 
     /// Whether the block is the last of its mini-transaction.
     pub fn last(&self) -> bool
-        ensures { result ≡ is_last (flags_of self.now) }
+        ensures { result ≡ is_last (block_flags self.now) }
     {
         be16_at(self.bytes, 14) / 2 % 2 == 1
     }
 
     /// The body, as it was ciphered: 4076 bytes.
     pub fn body(&self) -> &'a [u8]
-        ensures { result.now ≡ body_of self.now }
+        ensures { result.now ≡ block_body self.now }
     {
         &self.bytes[16..4092]
     }
@@ -113,9 +113,9 @@ pub fn read_block<'a>(bytes: &'a [u8], number: u64) -> Result<BlockView<'a>, Blo
     ensures fault { IfErr result (λ fault. reading number bytes.now ≡ Err fault) }
     // Each block of a mini-transaction is taken, under its own number, version, flags and used length.
     ensures taken { (key : RedoKey) (first last : Bool) (text : List ℕ) → bytes.now ≡ ring_block key number first last text → 1 ≤ key.version → key.version < 2 ^ 32 → 1 ≤ length text → length text ≤ 4076 → (last ≡ false → length text ≡ 4076)
-        → (reading number bytes.now ≡ Ok tt) × (version_of bytes.now ≡ key.version) × (used_of bytes.now ≡ length text) × (is_first (flags_of bytes.now) ≡ first) × (is_last (flags_of bytes.now) ≡ last) }
+        → (reading number bytes.now ≡ Ok tt) × (block_version bytes.now ≡ key.version) × (used_of bytes.now ≡ length text) × (is_first (block_flags bytes.now) ≡ first) × (is_last (block_flags bytes.now) ≡ last) }
     // A block whose last byte was inverted isn't.
-    ensures inverted { (whole : List ℕ) → AreBytes whole → reading number whole ≡ Ok tt → bytes.now ≡ last_inverted whole → IsErrAnd result (λ fault. fault ≡ BlockFault.BadBlock (stored_sum bytes.now) (computed_sum bytes.now)) }
+    ensures inverted { (whole : List ℕ) → AreBytes whole → reading number whole ≡ Ok tt → bytes.now ≡ last_inverted whole → IsErrAnd result (λ fault. fault ≡ BlockFault.BadBlock (stored_block_sum bytes.now) (computed_block_sum bytes.now)) }
 {
     known_bytes(bytes);
     check_block(bytes, number)?;

@@ -6,7 +6,7 @@ use Rattle.disk_model.specs.declared.names.FileName.{FileName}
 use Rattle.disk_model.specs.declared.names.FileName.TheVariants.{Log}
 use Rattle.places.specs.Places.{place, May, Layout, HasPlaces}
 use Rattle.places.specs.Batches.{IsFileSettled}
-use Rattle.store_image.specs.Checkpoint.{Checkpoint, side_of}
+use Rattle.store_image.specs.Checkpoint.{HeldCheckpoint, side_of}
 use Rattle.store_image.specs.View.{block_bytes, Logged}
 use Rattle.store_image.specs.Places.{LogView}
 
@@ -19,7 +19,7 @@ pub record Form (M : Type 0) : Type 1 where
   -- these blocks, the first of this number, are those of the mini-transaction
   pub IsMtr : ℕ → List (List ℕ) → M → Type 0
   -- the valid checkpoint in this file block
-  pub checkpoint : ℕ → List ℕ → Option Checkpoint
+  pub checkpoint : ℕ → List ℕ → Option HeldCheckpoint
   -- the checksum of a file block is right
   pub passes : List ℕ → Bool
 
@@ -27,8 +27,8 @@ pub record Form (M : Type 0) : Type 1 where
 pub record IsForm {M : Type 0} (F : Form M) : Type 0 where
   pub block_one : (n m : ℕ) (b : List ℕ) → F.is_block n b ≡ true → F.is_block m b ≡ true → n ≡ m
   pub block_passes : (n : ℕ) (b : List ℕ) → F.is_block n b ≡ true → F.passes b ≡ true
-  pub check_passes : (i : ℕ) (b : List ℕ) (c : Checkpoint) → F.checkpoint i b ≡ Some c → F.passes b ≡ true
-  pub check_side : (i : ℕ) (b : List ℕ) (c : Checkpoint) → F.checkpoint i b ≡ Some c → i ≡ side_of c.sequence
+  pub check_passes : (i : ℕ) (b : List ℕ) (c : HeldCheckpoint) → F.checkpoint i b ≡ Some c → F.passes b ≡ true
+  pub check_side : (i : ℕ) (b : List ℕ) (c : HeldCheckpoint) → F.checkpoint i b ≡ Some c → i ≡ side_of c.sequence
   pub mtr_one : (n : ℕ) (bs : List (List ℕ)) (x y : M) → F.IsMtr n bs x → F.IsMtr n bs y → x ≡ y
 
 -- What a session knows of its log. Sequence and from are those of the last synced checkpoint, newer is the `from` of the next one where that is being written.
@@ -75,7 +75,7 @@ module _ {M : Type 0} (N : ℕ) (F : Form M) where
   -- the other checkpoint: an older one or none, or the next, or torn
   abbrev pub IsOther : RingState → Option (List ℕ) → Type 0
   IsOther r None = Unit {0}
-  IsOther r (Some b) = ((c : Checkpoint) → checkpoint (side_of (r.sequence + 1)) b ≡ Some c → c.sequence < r.sequence)
+  IsOther r (Some b) = ((c : HeldCheckpoint) → checkpoint (side_of (r.sequence + 1)) b ≡ Some c → c.sequence < r.sequence)
       ⊎ ((f : ℕ) × (r.newer ≡ Some f) × (checkpoint (side_of (r.sequence + 1)) b ≡ Some (record { sequence = r.sequence + 1; from = f })))
 
   -- the numbers of a ring, and that its blocks are valid
@@ -139,7 +139,7 @@ module _ {M : Type 0} (N : ℕ) (F : Form M) where
   pub record IsRingLog (file : List ℕ) (l : LogView M) : Type 0 where
     pub sequence : ℕ
     pub check : checkpoint (side_of sequence) (place block_bytes (side_of sequence) file) ≡ Some (record { sequence = sequence; from = l.from })
-    pub newest : (i : ℕ) (c : Checkpoint) → checkpoint i (place block_bytes i file) ≡ Some c → c.sequence ≤ sequence
+    pub newest : (i : ℕ) (c : HeldCheckpoint) → checkpoint i (place block_bytes i file) ≡ Some c → c.sequence ≤ sequence
     pub run : AreWholeEntries (read_in file) l.from l.run l.end
     pub few : l.end ≤ l.from + N
     pub longest : (end : ℕ) → IsWholeMtr (read_in file) l.end end → end ≤ l.from + N → ⊥

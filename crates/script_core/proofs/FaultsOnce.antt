@@ -1,9 +1,9 @@
 -- A line's words that can stand have no fault, and words that can't have one.
 use Rattle.std.proofs.Common.{◌≡◌, ◌≢◌, ◌⊎◌, ℕ, ◌<◌, ◌≤◌, ◌^◌, List, [], ◌∷◌, ap, sym, ◌∙◌, subst, inl, inr, refl, arith, drop, get_or}
 use Rattle.std.specs.Str.Parse.{digits_value}
-use Rattle.script_core.specs.Words.{Word, IsNumeral, IsNumber, NotNumber, IsOutside, IsPageType, IsHex}
+use Rattle.script_core.specs.Words.{Word, IsNumeral, IsNumber, NotNumber, IsOutOfRange, IsPageType, IsHex}
 use Rattle.script_core.specs.Batches.{IsOut}
-use Rattle.script_core.specs.Fields.{Field, Numeral, PageType, Bytes, Byte, FreeBatch, HeldBatch, End, Takes, Fits, Misfit, FaultAt, Passes, FaultIn}
+use Rattle.script_core.specs.Fields.{Field, Numeral, PageType, Bytes, Byte, FreeBatch, HeldBatch, End, Takes, FitsField, Misfit, FaultAt, Passes, FaultIn}
 use Rattle.script_core.specs.declared.act.Act.{Act}
 use Rattle.script_core.specs.declared.fault.LineFault.{LineFault}
 use Rattle.script_core.specs.declared.fault.LineFault.TheVariants.{Number, Range, Hex, Missing, Extra, Batch}
@@ -38,8 +38,8 @@ AreBounded [] = Unit {0}
 AreBounded (field ∷ fields) = IsBounded field × AreBounded fields
 
 module _ (before : List Act) where
-  fits_no_misfit : (field : Field) (word : Word) (kind : LineFault) → IsBounded field → Fits before field word → Misfit before field word kind → ⊥
-  unfolding Fits Misfit
+  fits_no_misfit : (field : Field) (word : Word) (kind : LineFault) → IsBounded field → FitsField before field word → Misfit before field word kind → ⊥
+  unfolding FitsField Misfit
   fits_no_misfit (Numeral low high) word kind bound fits misfit = no_number word low high fits.0 kind bound fits.1 misfit
   fits_no_misfit PageType word kind bound fits (inl not) = no_number word 0 65535 fits.0 kind (omega arith) fits.1.number not
   fits_no_misfit PageType word kind bound fits (inr (named, (n, is))) =
@@ -73,7 +73,7 @@ module _ (before : List Act) where
   one_misfit End word a b bound p q = p ∙ sym q
 
   -- a field that asks for a word, and one that ends the line
-  passes_word : (field : Field) (words rest : List Word) → Passes before field words rest → Takes words rest (Fits before field) ⊎ ((field ≡ End) × (words ≡ []) × (rest ≡ []))
+  passes_word : (field : Field) (words rest : List Word) → Passes before field words rest → Takes words rest (FitsField before field) ⊎ ((field ≡ End) × (words ≡ []) × (rest ≡ []))
   unfolding Passes
   passes_word (Numeral low high) words rest passes = inl passes
   passes_word PageType words rest passes = inl passes

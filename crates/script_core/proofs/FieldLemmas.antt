@@ -2,7 +2,7 @@
 use Rattle.std.proofs.Common.{◌≡◌, ◌⊎◌, ℕ, List, [], ◌∷◌, sym, subst, inl, inr, Result, Ok, Err, IfOk, IfErr, IsErrAnd, refl}
 use Rattle.script_core.specs.Words.{Word, IsNumber, NotNumber, IsPageType, IsHex}
 use Rattle.script_core.specs.Batches.{IsOut}
-use Rattle.script_core.specs.Fields.{Field, Numeral, PageType, Bytes, Byte, FreeBatch, HeldBatch, End, Takes, Fits, Misfit, FaultAt, Passes, ForFault}
+use Rattle.script_core.specs.Fields.{Field, Numeral, PageType, Bytes, Byte, FreeBatch, HeldBatch, End, Takes, FitsField, Misfit, FaultAt, Passes, ForFault}
 use Rattle.script_core.specs.declared.fault.LineError.{LineError}
 use Rattle.script_core.specs.declared.fault.LineError.TheVariants.{Fault, OutOfMemory}
 use Rattle.script_core.specs.declared.act.Act.{Act}

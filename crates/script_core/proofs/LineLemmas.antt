@@ -2,7 +2,7 @@
 use Rattle.std.proofs.Common.{◌≡◌, ℕ, List, [], ◌∷◌, ap, inl, inr, refl, sym, subst}
 use Rattle.script_core.specs.Words.{Word, IsNumber, IsPageType, IsHex}
 use Rattle.script_core.specs.Batches.{IsOut}
-use Rattle.script_core.specs.Fields.{Field, Numeral, PageType, Bytes, Byte, FreeBatch, HeldBatch, End, Takes, Fits, FaultAt, Passes, FaultIn}
+use Rattle.script_core.specs.Fields.{Field, Numeral, PageType, Bytes, Byte, FreeBatch, HeldBatch, End, Takes, FitsField, FaultAt, Passes, FaultIn}
 use Rattle.script_core.specs.declared.act.Act.{Act}
 use Rattle.script_core.specs.declared.fault.LineFault.{LineFault}
 
@@ -21,7 +21,7 @@ module _ (before : List Act) where
   behind field fields words rest kind passes fault = inr (rest, passes, fault)
 
   pub passes_number : {low high n : ℕ} {words rest : List Word} → Takes words rest (λ word. IsNumber word low high n) → Passes before (Numeral low high) words rest
-  unfolding Passes Fits
+  unfolding Passes FitsField
   passes_number {low} {high} {n} t = record { word = t.word; begins = t.begins; has = (n, t.has) }
 
   -- a number stands first, and what is wrong is behind it
@@ -29,9 +29,9 @@ module _ (before : List Act) where
   behind_number {low} {high} {n} {words} {rest} t fields kind fault = behind (Numeral low high) fields words rest kind (passes_number t) fault
 
   pub behind_free : {b : ℕ} {words rest : List Word} → Takes words rest (λ word. IsNumber word 1 16 b) → (IsOut b before → ⊥) → (fields : List Field) (kind : LineFault) → FaultIn before fields rest kind → FaultIn before (FreeBatch ∷ fields) words kind
-  unfolding Passes Fits
+  unfolding Passes FitsField
   behind_free {b} {words} {rest} t free fields kind fault = behind FreeBatch fields words rest kind (record { word = t.word; begins = t.begins; has = (b, t.has, free) }) fault
 
   pub behind_held : {b : ℕ} {words rest : List Word} → Takes words rest (λ word. IsNumber word 1 16 b) → IsOut b before → (fields : List Field) (kind : LineFault) → FaultIn before fields rest kind → FaultIn before (HeldBatch ∷ fields) words kind
-  unfolding Passes Fits
+  unfolding Passes FitsField
   behind_held {b} {words} {rest} t held fields kind fault = behind HeldBatch fields words rest kind (record { word = t.word; begins = t.begins; has = (b, t.has, held) }) fault

@@ -8,7 +8,7 @@ use Rattle.std.proofs.lemmas.Fmt.{decimal_digit, first_decimal, decimal_nonempty
 use Rattle.std.proofs.lemmas.Bool.{cases_lt}
 use Rattle.std.proofs.lemmas.Str.{IsUtf8-from_ascii}
 use Rattle.std.proofs.lemmas.Str.Parse.{IsNumeralModel, numerals_by_value, tells_by_index, tells_digits, digit_at, parse_digits}
-use Rattle.script_core.specs.Words.{Word, IsDigit, IsNumeral, IsNumber, NotNumber, IsOutside}
+use Rattle.script_core.specs.Words.{Word, IsDigit, IsNumeral, IsNumber, NotNumber, IsOutOfRange}
 use Rattle.script_core.specs.declared.fault.LineFault.{LineFault}
 use Rattle.script_core.specs.declared.fault.LineFault.TheVariants.{Number, Range}
 

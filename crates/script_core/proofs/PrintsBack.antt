@@ -5,7 +5,7 @@ use Rattle.std.proofs.lemmas.List.Elements.{All-cons}
 use Rattle.std.specs.Fmt.{decimal}
 use Rattle.std.specs.List.{join_with_byte}
 use Rattle.hex.specs.Hex.{encode_lower}
-use Rattle.script_core.specs.Words.{Word, IsNumber, IsPageType, IsHex, lines_of, words_of}
+use Rattle.script_core.specs.Words.{Word, IsNumber, IsPageType, IsHex, script_lines, words_of}
 use Rattle.script_core.specs.Names.{name_of, change_name_of}
 use Rattle.script_core.specs.Statements.{IsU32, change_name, AreChangeArguments, IsChange, AreChanges, statement_name, AreArguments, IsStatement}
 use Rattle.script_core.specs.Scripts.{IsSkipped, Reads, NoLine, Skipped, Said, IsScript}
@@ -235,7 +235,7 @@ no_statement s ss reads = none [] (s ∷ ss) reads refl refl
     none ls ys (Said n bs line act rest xs kept is reads) a b = cc a
 
 -- lines that are joined are cut again; without one there is an empty line
-whole_again : (ls : List (List ℕ)) (ss : List Statement) → AreFree 10 ls → Reads 1 [] ls ss → Reads 1 [] (lines_of (join_with_byte 10 ls)) ss
+whole_again : (ls : List (List ℕ)) (ss : List Statement) → AreFree 10 ls → Reads 1 [] ls ss → Reads 1 [] (script_lines (join_with_byte 10 ls)) ss
 whole_again [] ss free reads = by ss reads
   where
     by : (ys : List Statement) → Reads 1 [] [] ys → Reads 1 [] ([] ∷ []) ys
@@ -246,6 +246,6 @@ whole_again (l ∷ ls) ss free reads = subst (λ x. Reads 1 [] x ss) (sym (parts
 -- a script printed by the grammar's own spelling reads as itself
 pub prints_back : (text : List ℕ) (ss : List Statement) → IsScript text ss → IsScript (printed ss) ss
 prints_back text ss is = record {
-  reads = whole_again (lines_from 1 ss) ss (lines_free 1 [] (lines_of text) ss is.reads) (reads_again 1 [] (lines_of text) ss is.reads);
+  reads = whole_again (lines_from 1 ss) ss (lines_free 1 [] (script_lines text) ss is.reads) (reads_again 1 [] (script_lines text) ss is.reads);
   few = is.few;
 }

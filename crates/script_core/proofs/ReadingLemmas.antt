@@ -5,10 +5,10 @@ use Rattle.std.proofs.lemmas.List.{append-nil}
 use Rattle.std.proofs.lemmas.List.Sums.{count_by-le-length}
 use Rattle.std.proofs.lemmas.List.Splits.{length-slice_split}
 use Rattle.std.specs.Prelude.{◌==◌}
-use Rattle.script_core.specs.Words.{Word, lines_of, words_of}
+use Rattle.script_core.specs.Words.{Word, script_lines, words_of}
 use Rattle.script_core.specs.Batches.{Tells, HasBatch}
 use Rattle.script_core.specs.Statements.{IsStatement, IsLineFault, AreArguments}
-use Rattle.script_core.specs.Scripts.{IsSkipped, Reads, NoLine, Skipped, Said, BadAt, Bad, PastSkipped, PastSaid, IsLine, IsLineRefusal, IsRefusal, IsScript}
+use Rattle.script_core.specs.Scripts.{IsSkipped, Reads, NoLine, Skipped, Said, BadAt, Bad, PastSkipped, PastSaid, IsLine, IsLineRefusal, IsScriptRefusal, IsScript}
 use Rattle.script_core.specs.declared.act.Act.{Act}
 use Rattle.script_core.specs.declared.act.Act.TheVariants.{Mtr, Read, Sync, Flush, Check, Take, Put, Activate, Encrypt, Rotate, Report}
 use Rattle.script_core.specs.declared.script.Statement.{Statement}
@@ -16,7 +16,7 @@ use Rattle.script_core.specs.declared.fault.LineFault.{LineFault}
 use Rattle.script_core.specs.declared.fault.ScriptFault.{ScriptFault}
 use Rattle.script_core.specs.declared.fault.ScriptFault.TheVariants.{BadLine, TooMany, OutOfMemory}
 
-pub few_lines : (text : List ℕ) → length (lines_of text) ≤ length text + 1
+pub few_lines : (text : List ℕ) → length (script_lines text) ≤ length text + 1
 few_lines text = omega (arith, length-slice_split (λ b. b == 10) text, count_by-le-length (λ b. b == 10) text)
 
 -- what the lines that are left give, all of them give
@@ -53,8 +53,8 @@ gives_end number before left all so_far ends gives =
     subst (λ ss. Reads 1 [] all ss) (append-nil so_far) (gives.reads [] (subst (λ ls. Reads number before ls []) (sym ends) (NoLine number before)))
 
 -- the statements behind the last line are the script
-pub whole_script : (number : ℕ) (before : List Act) (left : List (List ℕ)) (text : List ℕ) (so_far : List Statement) → left ≡ [] → GivesOn number before left (lines_of text) so_far → length so_far ≤ 10000 → IsScript text so_far
-whole_script number before left text so_far ends gives few = record { reads = gives_end number before left (lines_of text) so_far ends gives; few = few }
+pub whole_script : (number : ℕ) (before : List Act) (left : List (List ℕ)) (text : List ℕ) (so_far : List Statement) → left ≡ [] → GivesOn number before left (script_lines text) so_far → length so_far ≤ 10000 → IsScript text so_far
+whole_script number before left text so_far ends gives few = record { reads = gives_end number before left (script_lines text) so_far ends gives; few = few }
 
 -- how the reading goes on behind some lines
 pub record GoesOn (number : ℕ) (out : List Bool) (left all : List (List ℕ)) (so_far : List Statement) : Type 0 where
@@ -82,9 +82,9 @@ has_batch before words act is = batch_of before act is.arguments is.are
 
 -- a line's refusal is the text's
 pub refused : (number : ℕ) (before : List Act) (line : List ℕ) (lines left : List (List ℕ)) (text : List ℕ) (so_far : List Statement) (f : ScriptFault) → left ≡ line ∷ lines → IsLineRefusal before number line f
-    → GivesOn number before left (lines_of text) so_far → IsRefusal text f
+    → GivesOn number before left (script_lines text) so_far → IsScriptRefusal text f
 refused number before line lines left text so_far (BadLine at kind) begins is gives =
-    subst (λ n. BadAt 1 [] (lines_of text) n kind) (sym is.0) (gives_bad number before line lines left (lines_of text) so_far kind begins is.1 is.2 gives)
+    subst (λ n. BadAt 1 [] (script_lines text) n kind) (sym is.0) (gives_bad number before line lines left (script_lines text) so_far kind begins is.1 is.2 gives)
 refused number before line lines left text so_far TooMany begins is gives = absurd is
 refused number before line lines left text so_far OutOfMemory begins is gives = tt
 

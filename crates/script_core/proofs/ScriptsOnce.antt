@@ -1,10 +1,10 @@
 -- A text is one script at most, and then no line is bad; a text has one first bad line at most.
 use Rattle.std.proofs.Common.{◌≡◌, ◌≢◌, ◌⊎◌, ℕ, ◌+◌, ◌<◌, ◌≤◌, List, [], ◌∷◌, ap, sym, ◌∙◌, subst, inl, inr, refl, arith, drop, get_or, length, codes}
-use Rattle.script_core.specs.Words.{Word, IsNumber, lines_of, words_of}
+use Rattle.script_core.specs.Words.{Word, IsNumber, script_lines, words_of}
 use Rattle.script_core.specs.Names.{name_of, change_name_of, fields_of, change_fields_of}
-use Rattle.script_core.specs.Fields.{Field, Numeral, PageType, Bytes, Byte, FreeBatch, HeldBatch, End, Takes, Fits, Passes, FaultAt, FaultIn}
+use Rattle.script_core.specs.Fields.{Field, Numeral, PageType, Bytes, Byte, FreeBatch, HeldBatch, End, Takes, FitsField, Passes, FaultAt, FaultIn}
 use Rattle.script_core.specs.Statements.{change_name, AreChangeArguments, IsChange, AreChanges, statement_name, AreArguments, IsStatement, ChangeFault, ChangesFault, InChange, NoSemicolon, Full, InRest, ArgumentFault, IsLineFault}
-use Rattle.script_core.specs.Scripts.{IsSkipped, Reads, NoLine, Skipped, Said, BadAt, Bad, PastSkipped, PastSaid, IsScript, IsOnlyScript, HasNoBadLine, IsFirstBad, IsRefusal, Excludes}
+use Rattle.script_core.specs.Scripts.{IsSkipped, Reads, NoLine, Skipped, Said, BadAt, Bad, PastSkipped, PastSaid, IsScript, IsOnlyScript, HasNoBadLine, IsFirstBad, IsScriptRefusal, Excludes}
 use Rattle.script_core.specs.declared.names.StatementName.{StatementName}
 use Rattle.script_core.specs.declared.names.StatementName.TheVariants as name
 use Rattle.script_core.specs.declared.names.ChangeName.{ChangeName}
@@ -22,11 +22,11 @@ use Rattle.script_core.proofs.FaultsOnce.{AllPass, AreBounded, no_fault, one_fau
 use Rattle.script_core.proofs.StatementsOnce.{one_change, one_changes, one_statement, name_of-injective, change_name_of-injective}
 
 -- a word that can stand, first of some words
-first : (before : List Act) (word : Word) (rest : List Word) (field : Field) → Fits before field word → Takes (word ∷ rest) rest (Fits before field)
+first : (before : List Act) (word : Word) (rest : List Word) (field : Field) → FitsField before field word → Takes (word ∷ rest) rest (FitsField before field)
 first before word rest field fits = record { word = word; begins = refl; has = fits }
 
 change_passes : (c : ScriptChange) (words rest : List Word) → AreChangeArguments c words rest → AllPass [] (change_fields_of (change_name c)) words
-unfolding AreChangeArguments change_name change_fields_of AllPass Passes Fits
+unfolding AreChangeArguments change_name change_fields_of AllPass Passes FitsField
 change_passes (change.Put space page at bytes) words rest are = (
   are.1 ∷ are.2 ∷ are.3 ∷ rest,
   record { word = are.0; begins = are.4; has = (space, are.5) },
@@ -132,7 +132,7 @@ number_bounds name.Report = (omega arith, (tt, tt))
 
 module _ (before : List Act) where
   arguments_pass : (act : Act) (words : List Word) → AreArguments before act words → AllPass before (fields_of (statement_name act)) words
-  unfolding AreArguments statement_name fields_of AllPass Passes Fits
+  unfolding AreArguments statement_name fields_of AllPass Passes FitsField
   arguments_pass (Mtr session changes) words are = (are.1, record { word = are.0; begins = are.2; has = (session, are.3) }, tt)
   arguments_pass (Read session space page at count) words are = (
     are.1 ∷ are.2 ∷ are.3 ∷ are.4 ∷ [],
@@ -162,7 +162,7 @@ module _ (before : List Act) where
   arguments_pass (Report space) words are = ([], record { word = are.0; begins = are.1; has = (space, are.2) }, ([], (refl, refl), tt))
 
   changes_are : (session : ℕ) (changes : List ScriptChange) (words : List Word) → AreArguments before (Mtr session changes) words → (rest : List Word) × Passes before (Numeral 1 16) words rest × AreChanges changes rest × (length changes ≤ 64)
-  unfolding AreArguments Passes Fits
+  unfolding AreArguments Passes FitsField
   changes_are session changes words are = (are.1, record { word = are.0; begins = are.2; has = (session, are.3) }, are.4, are.5)
 
   arguments_no_fault : (act : Act) (words : List Word) (k : LineFault) → AreArguments before act words → ArgumentFault before (statement_name act) words k → ⊥
@@ -256,13 +256,13 @@ one_bad number before lines m n a b (PastSaid i bs line act rest m1 k kept is p)
 
 -- a text is one script at most, and none where a line is bad; its first bad line is one
 pub one_script : (text : List ℕ) (a b : List Statement) → IsScript text a → IsScript text b → a ≡ b
-one_script text a b p q = one_reading 1 [] (lines_of text) a b p.reads q.reads
+one_script text a b p q = one_reading 1 [] (script_lines text) a b p.reads q.reads
 
 pub script_not_bad : (text : List ℕ) (a : List Statement) (at : ℕ) (k : LineFault) → IsScript text a → IsFirstBad text at k → ⊥
-script_not_bad text a at k is bad = read_not_bad 1 [] (lines_of text) a at k bad is.reads
+script_not_bad text a at k is bad = read_not_bad 1 [] (script_lines text) a at k bad is.reads
 
 pub one_first_bad : (text : List ℕ) (m n : ℕ) (a b : LineFault) → IsFirstBad text m a → IsFirstBad text n b → (m ≡ n) × (a ≡ b)
-one_first_bad text m n a b p q = one_bad 1 [] (lines_of text) m n a b p q
+one_first_bad text m n a b p q = one_bad 1 [] (script_lines text) m n a b p q
 
 pub only_script : (text : List ℕ) (statements : List Statement) → IsScript text statements → IsOnlyScript text statements
 only_script text statements is others also = one_script text others statements also is
@@ -270,10 +270,10 @@ only_script text statements is others also = one_script text others statements a
 pub no_bad_line : (text : List ℕ) (statements : List Statement) → IsScript text statements → HasNoBadLine text
 no_bad_line text statements is line kind bad = script_not_bad text statements line kind is bad
 
-pub excludes : (text : List ℕ) (f : ScriptFault) → IsRefusal text f → Excludes text f
+pub excludes : (text : List ℕ) (f : ScriptFault) → IsScriptRefusal text f → Excludes text f
 excludes text (BadLine line kind) is = (λ statements script. script_not_bad text statements line kind script is, λ other k bad. one_first_bad text other line k kind bad is)
 excludes text TooMany is = (
-  λ statements script. let same = one_reading 1 [] (lines_of text) statements is.statements script.reads is.reads in let size = ap length same in omega (arith, size, script.few, is.many),
-  λ line kind bad. read_not_bad 1 [] (lines_of text) is.statements line kind bad is.reads,
+  λ statements script. let same = one_reading 1 [] (script_lines text) statements is.statements script.reads is.reads in let size = ap length same in omega (arith, size, script.few, is.many),
+  λ line kind bad. read_not_bad 1 [] (script_lines text) is.statements line kind bad is.reads,
 )
 excludes text OutOfMemory is = tt

@@ -5,7 +5,7 @@ use Rattle.hex.specs.Hex.{decode_of}
 use Rattle.hex.proofs.HexLemmas.{decode_of-same}
 use Rattle.script_core.specs.Words.{Word, IsNumber, IsPageType, IsHex}
 use Rattle.script_core.specs.Names.{name_of, change_name_of, fields_of, change_fields_of, any_u32}
-use Rattle.script_core.specs.Fields.{Field, Numeral, PageType, Bytes, Byte, FreeBatch, HeldBatch, End, Takes, Passes, FaultAt, FaultIn, Fits}
+use Rattle.script_core.specs.Fields.{Field, Numeral, PageType, Bytes, Byte, FreeBatch, HeldBatch, End, Takes, Passes, FaultAt, FaultIn, FitsField}
 use Rattle.script_core.specs.Statements.{IsU32, change_name, AreChangeArguments, IsChange, AreChanges, statement_name, AreArguments, IsStatement, ChangeFault, ChangesFault, InChange, NoSemicolon, Full, InRest, ArgumentFault, IsLineFault}
 use Rattle.script_core.specs.declared.names.StatementName.{StatementName}
 use Rattle.script_core.specs.declared.names.StatementName.TheVariants as name

@@ -10,18 +10,18 @@ out_after batch (Put done) was = if batch == done then false else was
 out_after batch _ was = was
 
 -- whether it is after these statements, the newest first
-unfoldable pub is_out : ℕ → List Act → Bool
-is_out batch [] = false
-is_out batch (act ∷ before) = out_after batch act (is_out batch before)
+unfoldable pub is_batch_out : ℕ → List Act → Bool
+is_batch_out batch [] = false
+is_batch_out batch (act ∷ before) = out_after batch act (is_batch_out batch before)
 
 -- it was taken, and not put since
 abbrev pub IsOut : ℕ → List Act → Type 0
-IsOut batch before = is_out batch before ≡ true
+IsOut batch before = is_batch_out batch before ≡ true
 
 -- a table of the batches from 1 to 16 tells this
 pub record Tells (out : List Bool) (before : List Act) : Type 0 where
   pub size : length out ≡ 17
-  pub each : (batch : ℕ) → batch ≤ 16 → slice_index_or out batch false ≡ is_out batch before
+  pub each : (batch : ℕ) → batch ≤ 16 → slice_index_or out batch false ≡ is_batch_out batch before
 
 -- the batches that a statement names are from 1 to 16
 abbrev pub HasBatch : Act → Type 0

@@ -22,20 +22,20 @@ or_else (Some x) later = Some x
 or_else None later = later
 
 -- the first answer that the elements of a list give
-abbrev pub first_some : {X Y : Type 0} → (X → Option Y) → List X → Option Y
-first_some f [] = None
-first_some f (x ∷ xs) = or_else (f x) (first_some f xs)
+abbrev pub first_found : {X Y : Type 0} → (X → Option Y) → List X → Option Y
+first_found f [] = None
+first_found f (x ∷ xs) = or_else (f x) (first_found f xs)
 
 -- the pages of a space among these
 abbrev pub pages_if : ℕ → SpaceInfo → Option ℕ
 pages_if space info = if info.space == space then Some info.pages else None
 
-abbrev pub pages_of : List SpaceInfo → ℕ → Option ℕ
-pages_of spaces space = first_some (pages_if space) spaces
+abbrev pub page_count_of : List SpaceInfo → ℕ → Option ℕ
+page_count_of spaces space = first_found (pages_if space) spaces
 
 -- the store has no such space
 abbrev pub missing_space : List SpaceInfo → ℕ → Option Why
-missing_space spaces space = if is_some (pages_of spaces space) then None else Some (NoSuchSpace space)
+missing_space spaces space = if is_some (page_count_of spaces space) then None else Some (NoSuchSpace space)
 
 -- page 0, or a page past the space's end
 abbrev pub page_past : ℕ → ℕ → Option ℕ → Option Why
@@ -43,7 +43,7 @@ page_past space page None = None
 page_past space page (Some pages) = if nat_le 1 page && nat_lt page pages then None else Some (NoSuchPage space page)
 
 abbrev pub missing_page : List SpaceInfo → ℕ → ℕ → Option Why
-missing_page spaces space page = page_past space page (pages_of spaces space)
+missing_page spaces space page = page_past space page (page_count_of spaces space)
 
 -- the range isn't empty, and lies in bytes 38 to 16376
 abbrev pub is_range : ℕ → ℕ → Bool
@@ -56,10 +56,10 @@ TellsRange at size = IsTrue (is_range at size) ↔ IsRange at size
 abbrev pub bad_range : ℕ → ℕ → Option Why
 bad_range at size = if is_range at size then None else Some (BadRange at size)
 
-unfoldable pub space_of : ScriptChange → ℕ
-space_of (change.Put space page at bytes) = space
-space_of (change.Fill space page at length byte) = space
-space_of (change.Kind space page kind) = space
+unfoldable pub changed_space : ScriptChange → ℕ
+changed_space (change.Put space page at bytes) = space
+changed_space (change.Fill space page at length byte) = space
+changed_space (change.Kind space page kind) = space
 
 unfoldable pub page_of : ScriptChange → ℕ
 page_of (change.Put space page at bytes) = page
@@ -73,13 +73,13 @@ range_refusal (change.Kind space page kind) = None
 
 -- the refusal of a change by one of the checks
 unfoldable pub change_refusal : List SpaceInfo → ChangeCheck → ScriptChange → Option Why
-change_refusal spaces Space change = missing_space spaces (space_of change)
-change_refusal spaces Page change = missing_page spaces (space_of change) (page_of change)
+change_refusal spaces Space change = missing_space spaces (changed_space change)
+change_refusal spaces Page change = missing_page spaces (changed_space change) (page_of change)
 change_refusal spaces Range change = range_refusal change
 
 -- the first refusal of changes by it
 abbrev pub first_refusal : List SpaceInfo → ChangeCheck → List ScriptChange → Option Why
-first_refusal spaces check changes = first_some (change_refusal spaces check) changes
+first_refusal spaces check changes = first_found (change_refusal spaces check) changes
 
 -- what a change is to the log: a fill is a put of so many bytes of one value
 unfoldable pub log_change : ScriptChange → Change
@@ -127,7 +127,7 @@ refused_at spaces running statement = option_map (λ why. record { line = statem
 
 -- the first statement that is refused
 abbrev pub refused_in : List SpaceInfo → Bool → List Statement → Option Refused
-refused_in spaces running statements = first_some (refused_at spaces running) statements
+refused_in spaces running statements = first_found (refused_at spaces running) statements
 
 -- Ok where nothing is refused
 abbrev pub unless_refused : Option Refused → Result (Unit {0}) Refused

@@ -30,14 +30,14 @@ pub record Takes (words rest : List Word) (Has : Word → Type 0) : Type 0 where
   pub has : Has word
 
 -- a word that can stand for the field, behind a line of these statements
-unfoldable pub Fits : List Act → Field → Word → Type 0
-Fits before (Numeral low high) word = (n : ℕ) × IsNumber word low high n
-Fits before PageType word = (n : ℕ) × IsPageType word n
-Fits before Bytes word = (bytes : List ℕ) × IsHex word bytes
-Fits before Byte word = (byte : ℕ) × IsHex word (byte ∷ [])
-Fits before FreeBatch word = (b : ℕ) × IsNumber word 1 16 b × (IsOut b before → ⊥)
-Fits before HeldBatch word = (b : ℕ) × IsNumber word 1 16 b × IsOut b before
-Fits before End word = ⊥
+unfoldable pub FitsField : List Act → Field → Word → Type 0
+FitsField before (Numeral low high) word = (n : ℕ) × IsNumber word low high n
+FitsField before PageType word = (n : ℕ) × IsPageType word n
+FitsField before Bytes word = (bytes : List ℕ) × IsHex word bytes
+FitsField before Byte word = (byte : ℕ) × IsHex word (byte ∷ [])
+FitsField before FreeBatch word = (b : ℕ) × IsNumber word 1 16 b × (IsOut b before → ⊥)
+FitsField before HeldBatch word = (b : ℕ) × IsNumber word 1 16 b × IsOut b before
+FitsField before End word = ⊥
 
 -- a word that can't, and what is wrong with it
 unfoldable pub Misfit : List Act → Field → Word → LineFault → Type 0
@@ -58,7 +58,7 @@ FaultAt before field (word ∷ words) kind = Misfit before field word kind
 -- the field stands first, and these words are behind it
 unfoldable pub Passes : List Act → Field → List Word → List Word → Type 0
 Passes before End words rest = (words ≡ []) × (rest ≡ [])
-Passes before field words rest = Takes words rest (Fits before field)
+Passes before field words rest = Takes words rest (FitsField before field)
 
 -- the first fault of words that should be these fields
 unfoldable pub FaultIn : List Act → List Field → List Word → LineFault → Type 0

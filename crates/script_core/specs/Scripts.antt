@@ -1,6 +1,6 @@
 -- A text as a script: its lines one after another.
 use Rattle.std.specs.Prelude.{◌≡◌, ◌⊎◌, ℕ, ◌+◌, ◌≤◌, ◌<◌, List, [], ◌∷◌, length, Option, MatchOption}
-use Rattle.script_core.specs.Words.{lines_of, words_of}
+use Rattle.script_core.specs.Words.{script_lines, words_of}
 use Rattle.script_core.specs.Statements.{IsStatement, IsLineFault}
 use Rattle.script_core.specs.declared.act.Act.{Act}
 use Rattle.script_core.specs.declared.script.Statement.{Statement}
@@ -31,24 +31,24 @@ pub data BadAt : ℕ → List Act → List (List ℕ) → ℕ → LineFault → 
 
 -- the text is these statements, 10,000 at most
 pub record IsScript (text : List ℕ) (statements : List Statement) : Type 0 where
-  pub reads : Reads 1 [] (lines_of text) statements
+  pub reads : Reads 1 [] (script_lines text) statements
   pub few : length statements ≤ 10000
 
 -- the first bad line of the text, and what is wrong with it
 abbrev pub IsFirstBad : List ℕ → ℕ → LineFault → Type 0
-IsFirstBad text line kind = BadAt 1 [] (lines_of text) line kind
+IsFirstBad text line kind = BadAt 1 [] (script_lines text) line kind
 
 -- no line is bad, and there are more statements
 pub record HasTooMany (text : List ℕ) : Type 0 where
   pub statements : List Statement
-  pub reads : Reads 1 [] (lines_of text) statements
+  pub reads : Reads 1 [] (script_lines text) statements
   pub many : 10000 < length statements
 
 -- why a text isn't read; want of memory alone is free
-abbrev pub IsRefusal : List ℕ → ScriptFault → Type 0
-IsRefusal text (BadLine line kind) = IsFirstBad text line kind
-IsRefusal text TooMany = HasTooMany text
-IsRefusal text OutOfMemory = Unit {0}
+abbrev pub IsScriptRefusal : List ℕ → ScriptFault → Type 0
+IsScriptRefusal text (BadLine line kind) = IsFirstBad text line kind
+IsScriptRefusal text TooMany = HasTooMany text
+IsScriptRefusal text OutOfMemory = Unit {0}
 
 -- no other statements are the text
 abbrev pub IsOnlyScript : List ℕ → List Statement → Type 0

@@ -10,8 +10,8 @@ use Rattle.script_core.specs.declared.fault.LineFault.TheVariants.{Number, Range
 abbrev pub Word : Type 0
 Word = List ℕ
 
-abbrev pub lines_of : List ℕ → List (List ℕ)
-lines_of text = parts_of 10 text
+abbrev pub script_lines : List ℕ → List (List ℕ)
+script_lines text = parts_of 10 text
 
 abbrev pub words_of : List ℕ → List Word
 words_of line = parts_of 32 line
@@ -32,17 +32,17 @@ pub record IsNumber (word : Word) (low high n : ℕ) : Type 0 where
   pub to : n ≤ high
 
 -- a number is past these bounds
-abbrev pub IsOutside : ℕ → ℕ → ℕ → Type 0
-IsOutside low high n = (n < low) ⊎ (high < n)
+abbrev pub IsOutOfRange : ℕ → ℕ → ℕ → Type 0
+IsOutOfRange low high n = (n < low) ⊎ (high < n)
 
 -- the word writes no number, or one that is outside
 abbrev pub NotNumber : Word → ℕ → ℕ → LineFault → Type 0
-NotNumber word low high kind = ((kind ≡ Number) × (IsNumeral word → ⊥)) ⊎ ((kind ≡ Range) × IsNumeral word × IsOutside low high (digits_value 10 word))
+NotNumber word low high kind = ((kind ≡ Number) × (IsNumeral word → ⊥)) ⊎ ((kind ≡ Range) × IsNumeral word × IsOutOfRange low high (digits_value 10 word))
 
 -- the type of a page that isn't page 0
 pub record IsPageType (word : Word) (n : ℕ) : Type 0 where
   pub number : IsNumber word 0 65535 n
-  pub other : IsOutside 8 9 n
+  pub other : IsOutOfRange 8 9 n
 
 -- these bytes in hex digits of either case, one byte at least
 pub record IsHex (word : Word) (bytes : List ℕ) : Type 0 where

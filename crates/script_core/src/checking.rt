@@ -22,8 +22,8 @@ const BLOCK_TEXT: u128 = 4_076;
 const MOST_BLOCKS: usize = 16;
 
 // The number of pages of a tablespace.
-fn pages_of(spaces: &[SpaceInfo], space: u32) -> Option<u32>
-    ensures { result ≡ checks.pages_of spaces.now space }
+fn page_count_of(spaces: &[SpaceInfo], space: u32) -> Option<u32>
+    ensures { result ≡ checks.page_count_of spaces.now space }
 {
     for info in spaces {
         if info.space == space {
@@ -36,7 +36,7 @@ fn pages_of(spaces: &[SpaceInfo], space: u32) -> Option<u32>
 fn missing_space(spaces: &[SpaceInfo], space: u32) -> Option<Why>
     ensures { result ≡ checks.missing_space spaces.now space }
 {
-    match pages_of(spaces, space) {
+    match page_count_of(spaces, space) {
         Some(_) => None,
         None => Some(Why::NoSuchSpace { space }),
     }
@@ -45,7 +45,7 @@ fn missing_space(spaces: &[SpaceInfo], space: u32) -> Option<Why>
 fn missing_page(spaces: &[SpaceInfo], space: u32, page: u32) -> Option<Why>
     ensures { result ≡ checks.missing_page spaces.now space page }
 {
-    let pages = pages_of(spaces, space)?;
+    let pages = page_count_of(spaces, space)?;
     if 1 <= page && page < pages {
         None
     } else {
@@ -72,9 +72,9 @@ pub enum ChangeCheck {
     Range,
 }
 
-#[tactic(auto, unfolding(crate::specs::Checks::space_of))]
-fn space_of(change: &ScriptChange) -> u32
-    ensures { result ≡ checks.space_of change.now }
+#[tactic(auto, unfolding(crate::specs::Checks::changed_space))]
+fn changed_space(change: &ScriptChange) -> u32
+    ensures { result ≡ checks.changed_space change.now }
 {
     match change {
         ScriptChange::Put { space, .. } => *space,
@@ -110,8 +110,8 @@ fn change_refusal(spaces: &[SpaceInfo], check: ChangeCheck, change: &ScriptChang
     ensures { result ≡ checks.change_refusal spaces.now check change.now }
 {
     match check {
-        ChangeCheck::Space => missing_space(spaces, space_of(change)),
-        ChangeCheck::Page => missing_page(spaces, space_of(change), page_of(change)),
+        ChangeCheck::Space => missing_space(spaces, changed_space(change)),
+        ChangeCheck::Page => missing_page(spaces, changed_space(change), page_of(change)),
         ChangeCheck::Range => range_refusal(change),
     }
 }

@@ -3,7 +3,7 @@ ghost use Rattle.std.specs.Prelude.{◌≡◌, ◌≤◌, List, length, IsTrue, 
 ghost use Rattle.script_core.specs.declared.act.Act.{Act};
 ghost use Rattle.script_core.specs.Batches.{Tells};
 ghost use Rattle.script_core.specs.Printing.{printed};
-ghost use Rattle.script_core.specs.Scripts.{IsSkipped, IsScript, IsOnlyScript, HasNoBadLine, IsRefusal, Excludes, IsLine, IsLineRefusal};
+ghost use Rattle.script_core.specs.Scripts.{IsSkipped, IsScript, IsOnlyScript, HasNoBadLine, IsScriptRefusal, Excludes, IsLine, IsLineRefusal};
 
 use crate::batches::Batches;
 use crate::fault::{LineError, ScriptFault};
@@ -68,7 +68,7 @@ pub fn read_script(alloc: Global, bytes: &[u8]) -> Result<Script, ScriptFault>
     ensures only { IfOk result (IsOnlyScript bytes.now) }
     ensures none_bad { IfOk result (λ script. HasNoBadLine bytes.now) }
     ensures prints { IfOk result (λ script. IsScript (printed script) script) }
-    ensures err { IfErr result (IsRefusal bytes.now) }
+    ensures err { IfErr result (IsScriptRefusal bytes.now) }
     ensures excludes { IfErr result (Excludes bytes.now) }
 {
     let mut statements = Vec::new(alloc);

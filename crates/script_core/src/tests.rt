@@ -34,7 +34,7 @@ fn read(alloc: Global, text: &[u8]) -> Result<Script, ScriptFault> {
 }
 
 // How a text is read: the lines of its statements, or its fault.
-fn lines_of(alloc: Global, text: &[u8]) -> Result<Result<Vec<u32>, ScriptFault>, AllocError> {
+fn script_lines(alloc: Global, text: &[u8]) -> Result<Result<Vec<u32>, ScriptFault>, AllocError> {
     let script = match read(alloc, text) {
         Ok(script) => script,
         Err(fault) => return Ok(Err(fault)),
@@ -159,7 +159,7 @@ fn lines_are_counted_and_the_first_bad_one_is_answered(rt: HostRuntime) -> Resul
         ),
     ];
     for (text, wanted) in rows {
-        let found = lines_of(alloc, text.as_bytes())?;
+        let found = script_lines(alloc, text.as_bytes())?;
         assert!(rt; found == wanted, "at {text}: {found:?}");
     }
     Ok(())

@@ -12,7 +12,7 @@ use Rattle.byte_list.specs.Bytes.{range, zeros}
 use Rattle.byte_list.proofs.FieldLaws.{be64_at-written}
 use Rattle.page_places.specs.Texts.{ends_in_sum}
 use Rattle.page_places.proofs.Sums.{and_left, and_both, not_true, ends-ends_in_sum, torn_page}
-use Rattle.store_image.specs.Checkpoint.{Checkpoint, side_of}
+use Rattle.store_image.specs.Checkpoint.{HeldCheckpoint, side_of}
 use Rattle.store_files.specs.Checkpoint.{is_checkpoint, checkpoint_in, checkpoint_front, checkpoint_bytes, IsWritableCheckpoint}
 
 checkpoint_ends : (i : ℕ) (b : List ℕ) → is_checkpoint i b ≡ true → ends_in_sum b ≡ true
@@ -25,7 +25,7 @@ unfolding checkpoint_in
 no_checkpoint i b isnt =
     ap (λ (v : Bool). if v then Some (record { sequence = be64_at b 8; from = be64_at b 16 }) else None) (not_true (is_checkpoint i b) (λ valid. true≢false (sym (checkpoint_ends i b valid) ∙ isnt)))
 
-module _ (c : Checkpoint) (is : IsWritableCheckpoint c) where
+module _ (c : HeldCheckpoint) (is : IsWritableCheckpoint c) where
   abbrev b : List ℕ
   b = checkpoint_bytes c
 

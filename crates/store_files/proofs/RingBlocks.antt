@@ -19,8 +19,8 @@ use Rattle.bytes_core.proofs.LastByte.{ends-append, stored-ends}
 use Rattle.disk_model.specs.Crash.{torn_bytes}
 use Rattle.page_places.specs.Texts.{ends_in_sum}
 use Rattle.page_places.proofs.Sums.{and_left, and_right, and_both, not_true, ends-ends_in_sum, torn_page}
-use Rattle.redo_text.specs.Block.{body, filled, flags, head, log_iv, ring_block}
-use Rattle.redo_text.specs.Reading.{reading, body_of, number_of, used_of, version_of, stored_sum, computed_sum}
+use Rattle.redo_text.specs.Block.{enciphered_body, filled, flags, head, log_iv, ring_block}
+use Rattle.redo_text.specs.Reading.{reading, block_body, number_of, used_of, block_version, stored_block_sum, computed_block_sum}
 use Rattle.redo_text.specs.declared.fault.BlockFault.{BlockFault}
 use Rattle.redo_text.specs.declared.fault.BlockFault.TheVariants.{WrongNumber}
 use Rattle.redo_text.specs.declared.key.RedoKey.{RedoKey}
@@ -48,9 +48,9 @@ pub block_read : (n : ℕ) (b : List ℕ) → is_ring_block n b ≡ true → rea
 unfolding is_ring_block
 block_read n b valid = no_fault (reading n b) (and_right (nat_eq (length b) 4096) _ (and_right (ends_in_sum b) _ valid))
 
-wrong_number : (n : ℕ) (b : List ℕ) → stored_sum b ≡ computed_sum b → number_of b ≢ n → reading n b ≡ Err (WrongNumber n (number_of b))
+wrong_number : (n : ℕ) (b : List ℕ) → stored_block_sum b ≡ computed_block_sum b → number_of b ≢ n → reading n b ≡ Err (WrongNumber n (number_of b))
 unfolding reading
-wrong_number n b sum differ = rw (eq-eqb (stored_sum b) (computed_sum b) sum, ne_eqb (number_of b) n differ) refl
+wrong_number n b sum differ = rw (eq-eqb (stored_block_sum b) (computed_block_sum b) sum, ne_eqb (number_of b) n differ) refl
 
 number_read : (n : ℕ) (b : List ℕ) → reading n b ≡ Ok tt → number_of b ≡ n
 number_read n b ok =
@@ -67,7 +67,7 @@ valid_block n b sum long ok =
     let size : nat_eq (length b) 4096 ≡ true = grind (arith, nat_tests) in
     and_both _ _ sum (and_both _ _ size (ap has_no_fault ok))
 
-stored : (b : List ℕ) → length b ≡ 4096 → AreBytes b → stored_sum b ≡ computed_sum b → EndsInCrc32c b
+stored : (b : List ℕ) → length b ≡ 4096 → AreBytes b → stored_block_sum b ≡ computed_block_sum b → EndsInCrc32c b
 unfolding be32_at
 stored b long are sum =
     let end : length b - 4 ≡ 4092 = omega (arith, long) in
@@ -99,10 +99,10 @@ module _ (key : RedoKey) (number : ℕ) (first last : Bool) (text : List ℕ) (l
   o = ring_block key number first last text
 
   -- A ring block that is written is valid under its number, has its version, and says whether it is the first and the last of its mini-transaction.
-  pub ring_block_back : (is_ring_block number o ≡ true) × (version_of o ≡ key.version) × (begins_mtr o ≡ first) × (ends_mtr o ≡ last)
+  pub ring_block_back : (is_ring_block number o ≡ true) × (block_version o ≡ key.version) × (begins_mtr o ≡ first) × (ends_mtr o ≡ last)
   ring_block_back =
       let t = taken key number first last text o long refl small some version least most whole in
-      let sum : ends_in_sum o ≡ true = ends-ends_in_sum o (ends-append (head number key.version (length text) (flags first last) ++ body key number text)) in
+      let sum : ends_in_sum o ≡ true = ends-ends_in_sum o (ends-append (head number key.version (length text) (flags first last) ++ enciphered_body key number text)) in
       (valid_block number o sum long t.0, t.1, t.3, t.4)
 
   -- and its text comes back under its key
@@ -110,7 +110,7 @@ module _ (key : RedoKey) (number : ℕ) (first last : Bool) (text : List ℕ) (l
   ring_block_text is_key are =
       let used : used_of o ≡ length text = used_is key number first last text o long refl most in
       let number_there : number_of o ≡ number = number_is key number first last text o long refl small in
-      let body_there : body_of o ≡ body key number text = body_is key number first last text o long refl in
-      let clear : deciphered key.algorithm key.local (log_iv (number_of o)) (body_of o) ≡ filled text =
+      let body_there : block_body o ≡ enciphered_body key number text = body_is key number first last text o long refl in
+      let clear : deciphered key.algorithm key.local (log_iv (number_of o)) (block_body o) ≡ filled text =
       (λ i. deciphered key.algorithm key.local (log_iv (number_there i)) (body_there i)) ∙ deciphered_back key.algorithm key.local (log_iv number) (filled text) is_key (log_iv_block number) (filled_bytes text are) in
       (λ i. take (used i) (clear i)) ∙ take_at text (zeros (4076 - length text)) (length text) refl

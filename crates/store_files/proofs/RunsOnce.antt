@@ -7,7 +7,7 @@ use Rattle.key_ring.specs.Local.{local_key}
 use Rattle.places.specs.Places.{place}
 use Rattle.store_image.specs.Places.{LogView}
 use Rattle.store_image.specs.View.{Logged}
-use Rattle.store_image.specs.Checkpoint.{Checkpoint, side_of}
+use Rattle.store_image.specs.Checkpoint.{HeldCheckpoint, side_of}
 use Rattle.redo_text.specs.declared.change.Change.{Change}
 use Rattle.redo_text.proofs.ChangeLaws.{one_list}
 use Rattle.store_files.specs.Checkpoint.{checkpoint_in, IsNewestCheckpoint}
@@ -18,7 +18,7 @@ use Rattle.store_files.specs.Run.{block_at, MakeWholeMtr, HasText, AreLogEntries
 one_some : {A : Type 0} (x y : A) → Some x ≡ Some y → x ≡ y
 one_some x y e = cc
 
-pub newest_one : (file : List ℕ) (c d : Checkpoint) → IsNewestCheckpoint file c → IsNewestCheckpoint file d → c ≡ d
+pub newest_one : (file : List ℕ) (c d : HeldCheckpoint) → IsNewestCheckpoint file c → IsNewestCheckpoint file d → c ≡ d
 newest_one file c d nc nd =
     let a = nd.newest (side_of c.sequence) c nc.is in
     let b = nc.newest (side_of d.sequence) d nd.is in

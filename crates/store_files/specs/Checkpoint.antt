@@ -7,7 +7,7 @@ use Rattle.places.specs.Places.{place}
 use Rattle.byte_list.specs.Fields.{be64_at}
 use Rattle.byte_list.specs.Bytes.{range, zeros}
 use Rattle.page_places.specs.Texts.{ends_in_sum}
-use Rattle.store_image.specs.Checkpoint.{Checkpoint, side_of}
+use Rattle.store_image.specs.Checkpoint.{HeldCheckpoint, side_of}
 
 -- A valid checkpoint in file block i: checksum and magic are right, the block is that of its sequence, and it says numbers that a checkpoint may say.
 unfoldable pub is_checkpoint : ℕ → List ℕ → Bool
@@ -16,24 +16,24 @@ is_checkpoint i b =
     && (nat_le (be64_at b 8 + 1) (be64_at b 16) && nat_le (be64_at b 16) (2 ^ 50)))))
 
 -- the checkpoint in file block i, where it is valid
-unfoldable pub checkpoint_in : ℕ → List ℕ → Option Checkpoint
+unfoldable pub checkpoint_in : ℕ → List ℕ → Option HeldCheckpoint
 checkpoint_in i b = if is_checkpoint i b then Some (record { sequence = be64_at b 8; from = be64_at b 16 }) else None
 
 -- all bytes of a checkpoint before its checksum
-unfoldable pub checkpoint_front : Checkpoint → List ℕ
+unfoldable pub checkpoint_front : HeldCheckpoint → List ℕ
 checkpoint_front c = codes "KEYCHK01" ++ (to_be_bytes w64 c.sequence ++ (to_be_bytes w64 c.from ++ zeros 4068))
 
 -- the block of a checkpoint
-unfoldable pub checkpoint_bytes : Checkpoint → List ℕ
+unfoldable pub checkpoint_bytes : HeldCheckpoint → List ℕ
 checkpoint_bytes c = checkpoint_front c ++ to_be_bytes w32 (crc32c (checkpoint_front c))
 
 -- a checkpoint that can be written
-pub record IsWritableCheckpoint (c : Checkpoint) : Type 0 where
+pub record IsWritableCheckpoint (c : HeldCheckpoint) : Type 0 where
   pub some : 1 ≤ c.sequence
   pub below : c.sequence + 1 ≤ c.from
   pub within : c.from ≤ 2 ^ 50
 
 -- the newest valid checkpoint of a log's file: that of greatest sequence
-pub record IsNewestCheckpoint (file : List ℕ) (c : Checkpoint) : Type 0 where
+pub record IsNewestCheckpoint (file : List ℕ) (c : HeldCheckpoint) : Type 0 where
   pub is : checkpoint_in (side_of c.sequence) (place 4096 (side_of c.sequence) file) ≡ Some c
-  pub newest : (i : ℕ) (d : Checkpoint) → checkpoint_in i (place 4096 i file) ≡ Some d → d.sequence ≤ c.sequence
+  pub newest : (i : ℕ) (d : HeldCheckpoint) → checkpoint_in i (place 4096 i file) ≡ Some d → d.sequence ≤ c.sequence

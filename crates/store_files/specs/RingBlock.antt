@@ -4,7 +4,7 @@ use Rattle.aes_core.specs.declared.algorithm.Algorithm.{Algorithm}
 use Rattle.page_places.specs.Texts.{ends_in_sum}
 use Rattle.redo_text.specs.declared.change.Change.{Change}
 use Rattle.redo_text.specs.declared.fault.BlockFault.{BlockFault}
-use Rattle.redo_text.specs.Reading.{reading, version_of, used_of, flags_of, is_first, is_last, clear_body}
+use Rattle.redo_text.specs.Reading.{reading, block_version, used_of, block_flags, is_first, is_last, clear_body}
 use Rattle.redo_text.specs.Text.{text_of, AreAllowed}
 
 -- a block was read with no fault
@@ -18,15 +18,15 @@ is_ring_block number block = ends_in_sum block && (nat_eq (length block) 4096 &&
 
 -- the block is the first of its mini-transaction
 abbrev pub begins_mtr : List ℕ → Bool
-begins_mtr block = is_first (flags_of block)
+begins_mtr block = is_first (block_flags block)
 
 -- or the last
 abbrev pub ends_mtr : List ℕ → Bool
-ends_mtr block = is_last (flags_of block)
+ends_mtr block = is_last (block_flags block)
 
 -- the part of the mini-transaction's text that a block has, under a local key
 abbrev pub block_text : Algorithm → List ℕ → List ℕ → List ℕ
-block_text algorithm local block = take (used_of block) (clear_body (record { version = version_of block; local = local; algorithm = algorithm }) block)
+block_text algorithm local block = take (used_of block) (clear_body (record { version = block_version block; local = local; algorithm = algorithm }) block)
 
 -- the text is that of these changes, and each of them is allowed
 pub record IsMtrText (text : List ℕ) (changes : List Change) : Type 0 where

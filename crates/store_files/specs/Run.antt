@@ -6,7 +6,7 @@ use Rattle.places.specs.Places.{place}
 use Rattle.store_image.specs.Places.{LogView}
 use Rattle.store_image.specs.View.{Logged}
 use Rattle.redo_text.specs.declared.change.Change.{Change}
-use Rattle.redo_text.specs.Reading.{version_of}
+use Rattle.redo_text.specs.Reading.{block_version}
 use Rattle.store_files.specs.Checkpoint.{IsNewestCheckpoint}
 use Rattle.store_files.specs.Header.{Header}
 use Rattle.store_files.specs.RingBlock.{is_ring_block, begins_mtr, ends_mtr, block_text, IsMtrText}
@@ -46,7 +46,7 @@ module _ (header : Header) (keys : List RingEntry) (file : List ℕ) where
   abbrev pub HasText : ℕ → ℕ → List ℕ → Type 0
   HasText n zero text = text ≡ []
   HasText n (suc k) text =
-      (local : List ℕ) × (rest : List ℕ) × (local_key keys 1 (version_of (block_at header.blocks file n)) header.salt ≡ Some local)
+      (local : List ℕ) × (rest : List ℕ) × (local_key keys 1 (block_version (block_at header.blocks file n)) header.salt ≡ Some local)
       × HasText (n + 1) k rest × (text ≡ block_text header.algorithm local (block_at header.blocks file n) ++ rest)
 
   -- the whole mini-transactions from n up to end, each with the changes that its text is of

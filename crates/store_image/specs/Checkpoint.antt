@@ -2,7 +2,7 @@
 use Rattle.std.specs.Prelude.{ℕ, ◌+◌, ◌%◌}
 
 -- what a checkpoint says: its sequence, and the number of the block that the run begins with
-pub record Checkpoint : Type 0 where
+pub record HeldCheckpoint : Type 0 where
   pub sequence : ℕ
   pub from : ℕ
 

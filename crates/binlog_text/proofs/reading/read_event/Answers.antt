@@ -1,7 +1,7 @@
 use Rattle.std.proofs.Common.{◌≡◌, ℕ, ◌≤◌, max, List, length, IfErr, drop, Ok, true, false, sym, ap, ◌∙◌, subst, ⊎_elim}
 use Rattle.io_core.specs.Files.{bytes_from}
-use Rattle.binlog_text.specs.Held.{Held}
-use Rattle.binlog_text.specs.Faults.{IsRefusal}
+use Rattle.binlog_text.specs.Held.{HeldEvent}
+use Rattle.binlog_text.specs.Faults.{IsBinlogRefusal}
 use Rattle.binlog_text.specs.Reading.{due_in}
 use Rattle.binlog_text.proofs.FrontLaws.{event_in-front}
 use Rattle.binlog_text.proofs.Kept.{front_behind, front_same}
@@ -31,7 +31,7 @@ returns-clause-stays g c = record {
       let held = c.in_ok-reach.ensures.front.here fs is front in
       ⊎_elim
       (λ out. absurd (let e : true ≡ false = sym out ∙ refused_inside c.take_event.result c.take_event.ensures.refusal in cc))
-      (λ none. front_same c.take_event.new.buffer.rest c.reach.new.buffer.rest all (ap (λ (h : Held). h.rest) (c.take_event.ensures.end none)) held)
+      (λ none. front_same c.take_event.new.buffer.rest c.reach.new.buffer.rest all (ap (λ (h : HeldEvent). h.rest) (c.take_event.ensures.end none)) held)
       how;
 }
 
@@ -48,4 +48,4 @@ returns-clause-grown g c = record {
 }
 
 pub returns-clause-failed : goal.returns-clause-failed
-returns-clause-failed g c is = absurd (subst (λ x. IfErr x IsRefusal) is c.take_event.ensures.refusal)
+returns-clause-failed g c is = absurd (subst (λ x. IfErr x IsBinlogRefusal) is c.take_event.ensures.refusal)

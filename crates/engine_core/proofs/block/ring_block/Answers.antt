@@ -1,10 +1,10 @@
 use Rattle.std.proofs.Common.{◌≡◌, ℕ, ◌+◌, ◌-◌, List, length, replicate, refl, arith}
 use Rattle.std.proofs.lemmas.List.{length-replicate}
-use Rattle.engine_core.specs.Block.{zero_rest}
+use Rattle.byte_list.specs.Bytes.{zeros}
 use Rattle.engine_core.proofs.block.ring_block.Goals as goal
 
 pub returns : goal.returns
-unfolding zero_rest
+unfolding zeros
 returns c =
     let text : List ℕ = c.args.text.now in
     let n : ℕ = 4076 - length {A = ℕ} text in
@@ -13,7 +13,7 @@ returns c =
     record {
       small = omega arith;
       some = c.requires.some;
-      rest = zero_rest n;
+      rest = zeros n;
       size = omega (arith, long, sum);
       is = rw (c.in_ok-block-2.ensures, c.in_ok-extend_from_slice-2.ensures.items, c.in_ok-extend_from_slice.ensures.items, c.in_ok-block.ensures, c.deref.ensures.value, c.in_ok-zero_bytes.ensures) refl;
     }

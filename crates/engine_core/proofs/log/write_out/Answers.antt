@@ -4,7 +4,7 @@ use Rattle.disk_model.specs.Past.{At}
 use Rattle.disk_model.proofs.Moments.{one_more, ended_by, begins, at_each, at_is, at_last, finished}
 use Rattle.engine_core.proofs.Events.{ready_safe, ready_moment, safe_alone, on_err_always}
 use Rattle.engine_core.proofs.TurnCounts.{turns_same, none_of}
-use Rattle.engine_core.specs.Layer.{IsCrashSafe, LogReady, Moment}
+use Rattle.engine_core.specs.Layer.{IsCrashSafe, LogReady, PlainMoment}
 use Rattle.engine_core.proofs.log.write_out.Goals as goal
 
 pub returns-then-log-len-clause-step : goal.returns-then-log-len-clause-step
@@ -24,7 +24,7 @@ returns-in_err-write_pending-clause-step g c =
 pub returns-in_err-write_pending-clause-kept : goal.returns-in_err-write_pending-clause-kept
 returns-in_err-write_pending-clause-kept g c =
     let step = c.in_err-write_pending.ensures.step in
-    on_err_always c.from_residual.result (at_last (Moment c.args.log.now.blocks.items c.args.log.now.settled c.args.log.now.acked) _ _ step.moments)
+    on_err_always c.from_residual.result (at_last (PlainMoment c.args.log.now.blocks.items c.args.log.now.settled c.args.log.now.acked) _ _ step.moments)
 
 pub returns-clause-step : goal.returns-clause-step
 returns-clause-step g c =

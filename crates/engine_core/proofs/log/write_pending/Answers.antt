@@ -4,13 +4,13 @@ use Rattle.disk_model.specs.Past.{At}
 use Rattle.engine_core.proofs.Events.{ready_moment}
 use Rattle.engine_core.specs.Turns.{turns_after}
 use Rattle.engine_core.proofs.TurnCounts.{turns_same, turns_more}
-use Rattle.engine_core.specs.Layer.{Moment, LogReady}
+use Rattle.engine_core.specs.Layer.{PlainMoment, LogReady}
 use Rattle.engine_core.proofs.log.write_pending.Goals as goal
 
 pub loop-i-init : goal.loop-i-init
 loop-i-init g c = record {
   ready = c.requires.ready;
-  moments = begins (Moment c.args.log.now.blocks.items c.args.log.now.settled c.args.log.now.acked) _ (at_each (ready_moment c.args.log.now.blocks.items c.args.log.now.settled c.args.log.now.settled c.args.log.now.acked) c.requires.ready);
+  moments = begins (PlainMoment c.args.log.now.blocks.items c.args.log.now.settled c.args.log.now.acked) _ (at_each (ready_moment c.args.log.now.blocks.items c.args.log.now.settled c.args.log.now.settled c.args.log.now.acked) c.requires.ready);
   turns = turns_same c.args.turns.now _ c.requires.counted (omega arith);
   faults = omega arith;
   memory_refusals = omega arith;
@@ -26,7 +26,7 @@ returns-in_err-write_block-clause-step g c = ended_by _ _ c.from_residual.ensure
 pub loop-i-preserved : goal.loop-i-preserved
 loop-i-preserved g c = record {
   ready = c.in_ok-write_block.ensures.step.next;
-  moments = and_then (Moment c.args.log.now.blocks.items c.args.log.now.settled c.args.log.now.acked) _ _ _ c.loop-i.invariant.moments c.in_ok-write_block.ensures.step.moments;
+  moments = and_then (PlainMoment c.args.log.now.blocks.items c.args.log.now.settled c.args.log.now.acked) _ _ _ c.loop-i.invariant.moments c.in_ok-write_block.ensures.step.moments;
   turns =
       let before : c.loop-i.i - c.args.log.now.settled + 1 ≡ c.loop-i.i + 1 - c.args.log.now.settled = omega (arith, c.loop-i.auto.i-end) in
       c.in_ok-write_block.ensures.turns ∙ ap (λ n. turns_after n 1) c.loop-i.invariant.turns ∙ turns_more c.args.turns.now (c.loop-i.i - c.args.log.now.settled) 1 ∙ ap (turns_after c.args.turns.now) before;

@@ -1,11 +1,11 @@
 use Rattle.std.proofs.Common.{◌≡◌, ℕ, ◌+◌, sym, ◌∙◌, ap, subst, arith, true, Result, Err, List, [], if◌then◌else◌}
-use Rattle.keyd_cli.specs.declared.act.Act.{Act}
+use Rattle.keyd_cli.specs.declared.act.DrillAct.{DrillAct}
 use Rattle.keyd_cli.specs.declared.schedule.ScheduleFault.{ScheduleFault}
 use Rattle.keyd_cli.specs.declared.schedule.ScheduleFault.TheVariants.{NotBuilt}
 use Rattle.keyd_cli.specs.declared.schedule.LineKind.{LineKind}
 use Rattle.keyd_cli.specs.declared.schedule.LineKind.TheVariants.{Skipped, Other}
 use Rattle.keyd_cli.specs.declared.schedule.LineKind.TheVariants as line_kind
-use Rattle.keyd_cli.specs.Lines.{IsLine}
+use Rattle.keyd_cli.specs.Lines.{IsDrillLine}
 use Rattle.keyd_cli.specs.Schedule.{schedule_lines, IsAct, IsNoStatement}
 use Rattle.keyd_cli.specs.Reads.{ReadsLines, ReadNone, mtr_count, is_mtr, HasRoom, IsNotBuilt}
 use Rattle.keyd_cli.proofs.ReadsLemmas.{at_line, all_read, few_lines, skipped_more, act_more, count_more, refused_at, one_act}
@@ -24,8 +24,8 @@ pub overflow_add-number : goal.overflow_add-number
 overflow_add-number c = let few = few_lines c.args.text.now in omega (arith, few, c.loop-line.invariant.low, c.requires.size)
 
 -- what the line is, by the variant that was found
-as_found : (space pages : ℕ) (line : List ℕ) (found is : LineKind) → found ≡ is → IsLine space pages line found → IsLine space pages line is
-as_found space pages line found is same read = subst (IsLine space pages line) same read
+as_found : (space pages : ℕ) (line : List ℕ) (found is : LineKind) → found ≡ is → IsDrillLine space pages line found → IsDrillLine space pages line is
+as_found space pages line found is same read = subst (IsDrillLine space pages line) same read
 
 same_number : {V : Type 0} (m n : ℕ) → ◌≡◌ {A = Result V ScheduleFault} (Err (NotBuilt m)) (Err (NotBuilt n)) → m ≡ n
 same_number {V} m n same = ap (number_of {V = V}) same
@@ -55,11 +55,11 @@ returns-in_default-counted-clause-not_built c line same =
     let plan = c.args.plan.now in
     let text = c.args.text.now in
     let at = at_line (schedule_lines text) c.loop-line.number c.in-Some.line.now c.next.new.self c.loop-line.lines i.left c.in-Some.ensures i.low in
-    let read = as_found plan.space plan.pages c.in-Some.line.now c.in-Ok.line (line_kind.Act c.in-Act.act) c.in-Act.is c.in-Ok.ensures in
+    let read = as_found plan.space plan.pages c.in-Some.line.now c.in-Ok.line (line_kind.Act c.in-DrillAct.act) c.in-DrillAct.is c.in-Ok.ensures in
     let none = c.in_default-counted.ensures.none in
-    let refused : (act : Act) → IsAct plan.space plan.pages c.in-Some.line.now act → HasRoom (mtr_count c.loop-line.statements.items) act → ⊥ =
+    let refused : (act : DrillAct) → IsAct plan.space plan.pages c.in-Some.line.now act → HasRoom (mtr_count c.loop-line.statements.items) act → ⊥ =
     λ act is room.
-    let mtr : is_mtr act ≡ true = one_act plan.space plan.pages c.in-Some.line.now act c.in-Act.act is read.0 ∙ none.0 in
+    let mtr : is_mtr act ≡ true = one_act plan.space plan.pages c.in-Some.line.now act c.in-DrillAct.act is read.0 ∙ none.0 in
     omega (arith, room mtr, none.1, i.count) in
     subst (λ n. IsNotBuilt plan.space plan.pages text n) (same_number (c.loop-line.number + 1) line same)
     (refused_at plan.space plan.pages text c.loop-line.number c.in-Some.line.now c.next.new.self c.loop-line.statements.items at i.reads read.1 refused)
@@ -70,16 +70,16 @@ loop-line-preserved c =
     let plan = c.args.plan.now in
     let all = schedule_lines c.args.text.now in
     let at = at_line all c.loop-line.number c.in-Some.line.now c.next.new.self c.loop-line.lines i.left c.in-Some.ensures i.low in
-    let read = as_found plan.space plan.pages c.in-Some.line.now c.in-Ok.line (line_kind.Act c.in-Act.act) c.in-Act.is c.in-Ok.ensures in
+    let read = as_found plan.space plan.pages c.in-Some.line.now c.in-Ok.line (line_kind.Act c.in-DrillAct.act) c.in-DrillAct.is c.in-Ok.ensures in
     let some = c.in-Some-counted.ensures.some in
     let statements = c.loop-line.statements.items in
     let more = c.push.new.self.items in
-    let room : HasRoom (mtr_count statements) c.in-Act.act = subst (λ n. HasRoom n c.in-Act.act) i.count some.1 in
+    let room : HasRoom (mtr_count statements) c.in-DrillAct.act = subst (λ n. HasRoom n c.in-DrillAct.act) i.count some.1 in
     record {
       left = sym at.left;
       low = omega (arith, at.low);
-      reads = act_more plan.space plan.pages all c.loop-line.number c.in-Some.line.now c.next.new.self statements more c.in-Act.act at i.reads read.0 room c.in-Ok-push.ensures.items;
-      count = some.0 ∙ ap (λ n. n + (if is_mtr c.in-Act.act then 1 else 0)) i.count ∙ sym (count_more statements more (c.loop-line.number + 1) c.in-Act.act c.in-Ok-push.ensures.items);
+      reads = act_more plan.space plan.pages all c.loop-line.number c.in-Some.line.now c.next.new.self statements more c.in-DrillAct.act at i.reads read.0 room c.in-Ok-push.ensures.items;
+      count = some.0 ∙ ap (λ n. n + (if is_mtr c.in-DrillAct.act then 1 else 0)) i.count ∙ sym (count_more statements more (c.loop-line.number + 1) c.in-DrillAct.act c.in-Ok-push.ensures.items);
       room = some.2;
     }
 

@@ -2,15 +2,15 @@ use Rattle.std.proofs.Common.{rules, ◌≡◌, ℕ, ◌+◌, ◌<◌, ◌≤◌
 use Rattle.std.proofs.lemmas.List.{length-map, take_all, get_or-map, take-map}
 use Rattle.keyd_cli.specs.declared.words.Flag.{Flag}
 use Rattle.keyd_cli.specs.declared.words.Flag.TheVariants.{KeyFile, Space}
-use Rattle.keyd_cli.specs.Words.{Word, AreOptions, IsUsage, IsValue, occurrences, most_of}
+use Rattle.keyd_cli.specs.Words.{CommandWord, AreOptions, IsUsage, IsValue, occurrences, most_of}
 use Rattle.keyd_cli.proofs.Options.{no_options}
 use Rattle.keyd_cli.proofs.Usages.{usage_unknown, usage_often, usage_value, usage_missing, usage_needed, needs_key_file, needs_space, kept_more}
 use Rattle.keyd_cli.proofs.words.check_options.Goals as goal
 
-word_is : {S : Type 0} (f : S → Word) (strings : List S) (i : ℕ) (x : S) (text : Word) → i < length strings → x ≡ get_or strings i x → text ≡ f x → get_or (map f strings) i [] ≡ text
+word_is : {S : Type 0} (f : S → CommandWord) (strings : List S) (i : ℕ) (x : S) (text : CommandWord) → i < length strings → x ≡ get_or strings i x → text ≡ f x → get_or (map f strings) i [] ≡ text
 word_is f strings i x text low is read = get_or-map f strings i x [] low ∙ ap f (sym is) ∙ sym read
 
-times_is : {S : Type 0} (f : S → Word) (strings : List S) (i : ℕ) (flag : Flag) → occurrences flag (map f (take i strings)) ≡ occurrences flag (take i (map f strings))
+times_is : {S : Type 0} (f : S → CommandWord) (strings : List S) (i : ℕ) (flag : Flag) → occurrences flag (map f (take i strings)) ≡ occurrences flag (take i (map f strings))
 times_is f strings i flag = ap (occurrences flag) (sym (take-map f i strings))
 
 pub loop-at-init : goal.loop-at-init
@@ -82,7 +82,7 @@ loop-at-preserved c =
     }
 
 -- the loop ends at all the options
-all_are : {S : Type 0} (f : S → Word) (strings : List S) (at : ℕ) → (at < length strings → ⊥) → AreOptions (take at (map f strings)) → AreOptions (map f strings)
+all_are : {S : Type 0} (f : S → CommandWord) (strings : List S) (at : ℕ) → (at < length strings → ⊥) → AreOptions (take at (map f strings)) → AreOptions (map f strings)
 all_are f strings at end are = subst AreOptions (take_all at (map f strings) (omega (arith, length-map strings f, end))) are
 
 pub returns-then-times_of-eq0-clause-usage : goal.returns-then-times_of-eq0-clause-usage

@@ -1,9 +1,9 @@
 use Rattle.std.proofs.Common.{rules, ◌≡◌, ◌≢◌, List, [], ◌∷◌, length, map, string_bytes, codes, arith, sym, ◌∙◌, subst}
-use Rattle.keyd_cli.specs.Words.{Word, IsUsage}
+use Rattle.keyd_cli.specs.Words.{CommandWord, IsUsage}
 use Rattle.keyd_cli.proofs.Usages.{usage_none, usage_command}
 use Rattle.keyd_cli.proofs.words.check_words.Goals as goal
 
-no_strings : {S : Type 0} (f : S → Word) (strings : List S) → length strings ≡ 0 → IsUsage (map f strings) 0
+no_strings : {S : Type 0} (f : S → CommandWord) (strings : List S) → length strings ≡ 0 → IsUsage (map f strings) 0
 no_strings f [] none = usage_none
 no_strings f (x ∷ xs) none = absurd (omega (arith, none))
 

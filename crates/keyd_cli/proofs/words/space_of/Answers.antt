@@ -1,6 +1,6 @@
 use Rattle.std.proofs.Common.{◌≡◌, ℕ, sym, subst}
 use Rattle.std.specs.Fmt.{decimal}
-use Rattle.keyd_cli.specs.Words.{Word, IsSpace, AreParts}
+use Rattle.keyd_cli.specs.Words.{CommandWord, IsSpace, AreParts}
 use Rattle.keyd_cli.proofs.Spaces.{one_way, parts_of_space}
 use Rattle.keyd_cli.proofs.words.space_of.Goals as goal
 
@@ -11,7 +11,7 @@ returns-in_err-parts c =
     c.in_err-parts.ensures (decimal id) (decimal pages) (decimal key) (subst (λ t. AreParts t (decimal id) (decimal pages) (decimal key)) (sym c.as_bytes.ensures.value) are))
 
 -- the parts that were found are the numbers' texts
-same_parts : (text value a b d : Word) (id pages key : ℕ) → text ≡ value → AreParts text a b d → IsSpace value id pages key → (a ≡ decimal id) × (b ≡ decimal pages) × (d ≡ decimal key)
+same_parts : (text value a b d : CommandWord) (id pages key : ℕ) → text ≡ value → AreParts text a b d → IsSpace value id pages key → (a ≡ decimal id) × (b ≡ decimal pages) × (d ≡ decimal key)
 same_parts text value a b d id pages key same are is =
     one_way value a b d (decimal id) (decimal pages) (decimal key) (subst (λ t. AreParts t a b d) same are) (parts_of_space value id pages key is)
 

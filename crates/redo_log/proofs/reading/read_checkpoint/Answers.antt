@@ -1,5 +1,5 @@
 use Rattle.std.proofs.Common.{◌≡◌, ℕ, List, Some, None, true≢false, sym, ap, ◌∙◌, arith}
-use Rattle.store_image.specs.Checkpoint.{Checkpoint}
+use Rattle.store_image.specs.Checkpoint.{HeldCheckpoint}
 use Rattle.store_files.specs.Checkpoint.{is_checkpoint, checkpoint_in}
 use Rattle.page_places.proofs.Sums.{not_true}
 use Rattle.redo_log.proofs.CheckLaws.{IsCheck, check_is, is_check_of, checkpoint_some, checkpoint_none}
@@ -39,4 +39,4 @@ returns-clause-some c =
       order = omega (arith, s, f, c.if-sequence-from.false);
       most = omega (arith, f, c.if-from.false);
     }))
-    ∙ ap (λ (x : Checkpoint). Some x) (λ i. record { sequence = (sym s) i; from = (sym f) i })
+    ∙ ap (λ (x : HeldCheckpoint). Some x) (λ i. record { sequence = (sym s) i; from = (sym f) i })

@@ -5,7 +5,7 @@ use Rattle.disk_model.specs.declared.names.FileName.TheVariants.{Log as LogFile}
 use Rattle.disk_model.proofs.Moments.{at_is, at_both, at_each}
 use Rattle.ring_log.specs.Scans.{IsScanned, Goes, Stops}
 use Rattle.ring_log.proofs.ScanSteps.{read_none, read_more, read_stops, read_all}
-use Rattle.redo_text.specs.Reading.{version_of}
+use Rattle.redo_text.specs.Reading.{block_version}
 use Rattle.redo_log.specs.Blocks.{Keys, redo_form, read_at}
 use Rattle.redo_log.specs.Runs.{versions_up}
 use Rattle.redo_log.proofs.RunSteps.{versions_more}
@@ -51,7 +51,7 @@ loop-i-preserved g c =
           c.loop-i.invariant.read block;
       named = at_both (λ es named is. c.in-Ok.ensures.items
           ∙ ap (λ (l : List ℕ). l ++ c.in-Some.next.version ∷ []) named
-          ∙ ap (λ (v : ℕ). versions_up (read_at c.args.blocks (reads LogFile es)) c.args.from c.loop-i.i ++ v ∷ []) (c.in-Some.ensures.version ∙ ap version_of is)
+          ∙ ap (λ (v : ℕ). versions_up (read_at c.args.blocks (reads LogFile es)) c.args.from c.loop-i.i ++ v ∷ []) (c.in-Some.ensures.version ∙ ap block_version is)
           ∙ sym (versions_more (read_at c.args.blocks (reads LogFile es)) c.args.from c.loop-i.i))
           c.loop-i.invariant.named block;
       faults = c.in_ok-read_number.ensures.no_fault ∙ c.loop-i.invariant.faults;

@@ -4,7 +4,7 @@ use Rattle.aes_core.specs.Algorithm.{ciphered}
 use Rattle.bytes_core.specs.Crc.{crc32c}
 use Rattle.byte_list.specs.Bytes.{put, range, zeros}
 use Rattle.byte_list.proofs.RangeLaws.{length-zeros}
-use Rattle.redo_text.specs.Reading.{body_of}
+use Rattle.redo_text.specs.Reading.{block_body}
 use Rattle.redo_text.specs.Block.{filled, flags, head, log_iv}
 use Rattle.redo_text.proofs.BlockWrites.{block_long, body_put, body_read, front_read, head_put, length-filled, length-head, sum_put, text_put}
 use Rattle.redo_text.proofs.block.write_block.Goals as goal
@@ -33,9 +33,9 @@ returns c =
     let z : List ℕ = zeros 4 in
     let e1 = c.put.ensures ∙ ap (λ (l : List ℕ). put 0 l c.args.block.now) h_is ∙ head_put h t hl c.requires.most c.args.block.now c.requires.clear in
     let e2 : c.put-2.new.bytes ≡ h ++ (f ++ z) = c.put-2.ensures ∙ ap (put 16 t) e1 ∙ text_put h t hl c.requires.most in
-    let read : body_of c.put-2.new.bytes ≡ f = ap body_of e2 ∙ body_read h f hl fl z in
+    let read : block_body c.put-2.new.bytes ≡ f = ap block_body e2 ∙ body_read h f hl fl z in
     let b : List ℕ = ciphered k.algorithm k.local (log_iv c.args.number) f in
-    let made : ciphered k.algorithm k.local (log_iv c.args.number) (body_of c.put-2.new.bytes) ≡ b = ap (ciphered k.algorithm k.local (log_iv c.args.number)) read in
+    let made : ciphered k.algorithm k.local (log_iv c.args.number) (block_body c.put-2.new.bytes) ≡ b = ap (ciphered k.algorithm k.local (log_iv c.args.number)) read in
     let bl : length b ≡ 4076 = ap length (sym made) ∙ c.encipher_body.ensures.long in
     let e3 : c.encipher_body.new.block ≡ h ++ (b ++ z) = c.encipher_body.ensures.value ∙ (λ i. put 16 (made i) (e2 i)) ∙ body_put h f hl fl z b bl in
     let front : range 0 4092 c.encipher_body.new.block ≡ h ++ b = ap (range 0 4092) e3 ∙ front_read h b hl bl z in

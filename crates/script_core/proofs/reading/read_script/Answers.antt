@@ -1,7 +1,7 @@
 use Rattle.std.proofs.Common.{◌≡◌, ◌+◌, ◌<◌, ◌≤◌, rules, arith, sym, subst, ap, length, Some, None, [], ◌∷◌}
-use Rattle.script_core.specs.Words.{lines_of, words_of}
+use Rattle.script_core.specs.Words.{script_lines, words_of}
 use Rattle.script_core.specs.Statements.{IsStatement}
-use Rattle.script_core.specs.Scripts.{IsSkipped, IsScript, IsRefusal, Excludes, IsLine}
+use Rattle.script_core.specs.Scripts.{IsSkipped, IsScript, IsScriptRefusal, Excludes, IsLine}
 use Rattle.script_core.proofs.FieldLemmas.{handed}
 use Rattle.script_core.proofs.ReadingLemmas.{few_lines, gives_all, gives_skipped, gives_said, gives_end, whole_script, has_batch, refused, numbered}
 use Rattle.script_core.proofs.ScriptsOnce.{only_script, no_bad_line, excludes}
@@ -17,7 +17,7 @@ loop-line-init c =
       goes = record {
         before = [];
         tells = c.none-batches.ensures;
-        gives = rw (c.new-lines.ensures, items) (gives_all (lines_of c.args.bytes.now));
+        gives = rw (c.new-lines.ensures, items) (gives_all (script_lines c.args.bytes.now));
       };
     }
 
@@ -30,7 +30,7 @@ overflow_add-number c =
 pub returns-in_err-statement-clause-err : goal.returns-in_err-statement-clause-err
 returns-in_err-statement-clause-err c =
     let goes = c.loop-line.invariant.goes in
-    handed (IsRefusal c.args.bytes.now) c.from_residual.result c.in_err-statement.field-0.0 (search rules)
+    handed (IsScriptRefusal c.args.bytes.now) c.from_residual.result c.in_err-statement.field-0.0 (search rules)
     (refused (c.loop-line.number + 1) goes.before c.in-Some.line.now c.next.new.self c.loop-line.lines c.args.bytes.now c.loop-line.statements.items c.in_err-statement.field-0.0 c.in-Some.ensures
     (c.in_err-statement.ensures.err goes.before goes.tells) goes.gives)
 
@@ -55,7 +55,7 @@ loop-line-preserved-in_default-2 c =
       goes = record {
         before = goes.before;
         tells = goes.tells;
-        gives = gives_skipped number goes.before c.in-Some.line.now c.next.new.self c.loop-line.lines (lines_of c.args.bytes.now) c.loop-line.statements.items c.in-Some.ensures skipped goes.gives;
+        gives = gives_skipped number goes.before c.in-Some.line.now c.next.new.self c.loop-line.lines (script_lines c.args.bytes.now) c.loop-line.statements.items c.in-Some.ensures skipped goes.gives;
       };
     }
 
@@ -77,7 +77,7 @@ loop-line-preserved c =
       goes = record {
         before = act ∷ goes.before;
         tells = c.note.ensures goes.before goes.tells;
-        gives = gives_said number goes.before c.in-Some.line.now act c.next.new.self c.loop-line.lines (lines_of c.args.bytes.now) c.loop-line.statements.items c.push.new.self.items c.in-Some.ensures is.1 is.2
+        gives = gives_said number goes.before c.in-Some.line.now act c.next.new.self c.loop-line.lines (script_lines c.args.bytes.now) c.loop-line.statements.items c.push.new.self.items c.in-Some.ensures is.1 is.2
             (numbered c.in-Some-2.statement number c.loop-line.statements.items c.push.new.self.items is.0 c.in-Ok.ensures.items) goes.gives;
       };
     }
@@ -85,14 +85,14 @@ loop-line-preserved c =
 pub returns-then-len-gt-MOST_STATEMENTS-clause-err : goal.returns-then-len-gt-MOST_STATEMENTS-clause-err
 returns-then-len-gt-MOST_STATEMENTS-clause-err c =
     let goes = c.loop-line.invariant.goes in
-    let reads = gives_end (c.loop-line.number + 1) goes.before c.loop-line.lines (lines_of c.args.bytes.now) c.loop-line.statements.items c.in_default.ensures.0 goes.gives in
+    let reads = gives_end (c.loop-line.number + 1) goes.before c.loop-line.lines (script_lines c.args.bytes.now) c.loop-line.statements.items c.in_default.ensures.0 goes.gives in
     record { statements = c.loop-line.statements.items; reads = reads; many = search (rules, c.len.ensures, c.if-len-gt-MOST_STATEMENTS.true) }
 
 pub returns-then-len-gt-MOST_STATEMENTS-clause-excludes : goal.returns-then-len-gt-MOST_STATEMENTS-clause-excludes
 returns-then-len-gt-MOST_STATEMENTS-clause-excludes c =
     let goes = c.loop-line.invariant.goes in
     let text = c.args.bytes.now in
-    let reads = gives_end (c.loop-line.number + 1) goes.before c.loop-line.lines (lines_of text) c.loop-line.statements.items c.in_default.ensures.0 goes.gives in
+    let reads = gives_end (c.loop-line.number + 1) goes.before c.loop-line.lines (script_lines text) c.loop-line.statements.items c.in_default.ensures.0 goes.gives in
     excludes text TooMany (record { statements = c.loop-line.statements.items; reads = reads; many = search (rules, c.len.ensures, c.if-len-gt-MOST_STATEMENTS.true) })
 
 pub returns-clause-ok : goal.returns-clause-ok

@@ -1,12 +1,12 @@
 use Rattle.std.proofs.Common.{◌≡◌, ◌+◌, length}
-use Rattle.script_core.specs.Words.{lines_of}
+use Rattle.script_core.specs.Words.{script_lines}
 use Rattle.script_core.proofs.ReadingLemmas.{GoesOn}
 use Rattle.script_core.proofs.reading.read_script.Given as goal
 
 abbrev pub invariant-loop-line : goal.invariant-loop-line
 invariant-loop-line l = record {
-  count : l.number + length l.lines ≡ length (lines_of l.bytes);
-  goes : GoesOn l.number l.batches.out l.lines (lines_of l.bytes) l.statements.items;
+  count : l.number + length l.lines ≡ length (script_lines l.bytes);
+  goes : GoesOn l.number l.batches.out l.lines (script_lines l.bytes) l.statements.items;
 }
 
 abbrev pub decreases-loop-line : goal.decreases-loop-line

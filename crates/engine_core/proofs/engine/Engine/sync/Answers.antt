@@ -1,7 +1,7 @@
 use Rattle.std.proofs.Common.{◌≡◌, ◌∙◌, length, refl, ap, Err, inl, inr, arith, rules}
 use Rattle.disk_model.proofs.Moments.{and_then, at_last, at_each, weaker}
 use Rattle.engine_core.specs.declared.fault.EngineFault.TheVariants.{DiskFault}
-use Rattle.engine_core.specs.Layer.{IsCrashSafe, Moment}
+use Rattle.engine_core.specs.Layer.{IsCrashSafe, PlainMoment}
 use Rattle.engine_core.proofs.Events.{ready_moment, moment_safe}
 use Rattle.engine_core.proofs.Keeping.{sound_after, failed_of}
 use Rattle.engine_core.proofs.engine.Engine.sync.Goals as goal
@@ -35,7 +35,7 @@ invariant_of-self-in-Err-tell_acked g c =
     let told = c.in-Err-tell_acked.ensures.step in
     let moments = and_then (IsCrashSafe blocks) _ _ _ c.in_default.ensures.step.moments (weaker (moment_safe blocks n acked) told.moments) in
     sound_after g.D.Disk.past g.D.Disk.may_fail_to_tell _ blocks c.tell_acked.new.disk n acked c.write_out.new.turns c.after_fault-state-in-Err-tell_acked.result.0
-    c.self.invariant moments (omega (arith, long, c.self.invariant.count)) (at_last (Moment blocks n acked) _ _ told.moments)
+    c.self.invariant moments (omega (arith, long, c.self.invariant.count)) (at_last (PlainMoment blocks n acked) _ _ told.moments)
     (λ up. absurd (c.after_fault-state-in-Err-tell_acked.ensures.down up)) (λ up. absurd (c.after_fault-state-in-Err-tell_acked.ensures.down up))
     (λ fed. inr (c.write_out.new.disk, c.in-Err-tell_acked.ensures.tells (failed_of {T = Unit {0}} c.in-Err-tell_acked.e _ c.after_fault-state-in-Err-tell_acked.ensures.refused fed)))
     (omega (arith, long, c.self.invariant.told, c.self.invariant.order, c.self.invariant.count))

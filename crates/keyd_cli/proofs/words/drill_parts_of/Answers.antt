@@ -1,6 +1,6 @@
 use Rattle.std.proofs.Common.{◌≡◌, ◌++◌, codes, rules}
 use Rattle.keyd_cli.proofs.Spaces.{no_cut, behind_one, behind_two, behind_three}
-use Rattle.keyd_cli.proofs.words.parts_of.Goals as goal
+use Rattle.keyd_cli.proofs.words.drill_parts_of.Goals as goal
 
 pub returns-in_err-space : goal.returns-in_err-space
 returns-in_err-space c = rw c.from_residual.ensures (λ a b d are. no_cut c.args.value.now a _ c.in_err-space.ensures are.is)
