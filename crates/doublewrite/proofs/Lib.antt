@@ -1,0 +1,12 @@
+pub mod CopyLemmas
+pub mod HomeSteps
+pub mod Lifts
+pub mod NewestCopy
+pub mod RestoreSteps
+pub mod SlotParts
+pub mod SlotSteps
+pub mod SpaceSteps
+pub mod GroupLifts
+pub mod RestoreLifts
+pub mod ImageSteps
+pub mod ChosenLaw

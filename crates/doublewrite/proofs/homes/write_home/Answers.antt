@@ -1,0 +1,32 @@
+use Rattle.std.proofs.Common.{◌≡◌, ℕ, List, ◌*◌, ap, ◌∙◌, subst, arith, length, OnOk, OnErr}
+use Rattle.disk_model.specs.Event.{Write}
+use Rattle.disk_model.specs.Past.{grow, MayGrow, IsWrite}
+use Rattle.disk_model.specs.declared.names.FileName.TheVariants.{Space}
+use Rattle.disk_model.proofs.Layers.{does_write}
+use Rattle.places.proofs.Batches.{write_is_of}
+use Rattle.doublewrite.specs.Text.{IsPageText, page_number_of}
+use Rattle.doublewrite.specs.Batch.{text_at, home_batch}
+use Rattle.doublewrite.proofs.HomeSteps.{homes_now, home_each, home_wrote}
+use Rattle.doublewrite.proofs.homes.write_home.Goals as goal
+
+pub write-requires : goal.write-requires
+write-requires g c =
+    let place : c.from-at.result ≡ page_number_of (text_at c.args.batch.now c.args.i) = c.from-at.ensures ∙ c.number.ensures ∙ ap page_number_of c.get-text.ensures in
+    let long : length c.bytes.result.now ≡ 16384 = ap length c.bytes.ensures.bytes ∙ c.bytes.ensures.text.long in
+    rw (place, long) c.requires.inside
+
+pub returns-clause-does : goal.returns-clause-does
+returns-clause-does g c = λ first at.
+    let batch = c.args.batch.now in
+    let i = c.args.i in
+    let text = text_at batch i in
+    let is : IsPageText text = subst IsPageText c.get-text.ensures c.bytes.ensures.text in
+    let same : c.bytes.result.now ≡ text = c.bytes.ensures.bytes ∙ c.get-text.ensures in
+    let place : c.from-at.result * 16384 ≡ page_number_of text * 16384 = ap (λ (p : ℕ). p * 16384) (c.from-at.ensures ∙ c.number.ensures ∙ ap page_number_of c.get-text.ensures) in
+    let old = g.D.Disk.past c.args.disk.now in
+    let new = g.D.Disk.past c.write.new.self in
+    let f = Space batch.space in
+    does_write f (page_number_of text * 16384) text at (homes_now batch i (omega (arith, c.requires.more)) first) (home_each batch i c.requires.more c.requires.distinct is first)
+    (write_is_of f 16384 (home_batch batch) i (length batch.pages) c.requires.more) (home_wrote batch i c.requires.more c.requires.distinct is first)
+    (subst (λ (p : ℕ). OnOk c.write.result (new ≡ grow (Write f p text text) old)) place (subst (λ (w : List ℕ). OnOk c.write.result (new ≡ grow (Write f (c.from-at.result * 16384) w w) old)) same c.write.ensures.ok))
+    (subst (λ (p : ℕ). OnErr c.write.result (MayGrow (IsWrite f p text) old new)) place (subst (λ (w : List ℕ). OnErr c.write.result (MayGrow (IsWrite f (c.from-at.result * 16384) w) old new)) same c.write.ensures.err))

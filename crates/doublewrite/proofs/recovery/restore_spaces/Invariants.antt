@@ -1,0 +1,14 @@
+use Rattle.std.proofs.Common.{◌≡◌, length}
+use Rattle.disk_model.specs.Does.{SoFar}
+use Rattle.places.specs.Batches.{From}
+use Rattle.doublewrite.specs.Restore.{IsRestoreEvent, SpacesFilling, AreRestored}
+use Rattle.doublewrite.proofs.recovery.restore_spaces.Given as goal
+
+abbrev pub invariant-loop-i : goal.invariant-loop-i
+invariant-loop-i g l = record {
+  so_far : SoFar (From (SpacesFilling l.copies l.spaces) (g.D.Disk.past l.fn.disk)) (IsRestoreEvent l.spaces) (From (AreRestored l.copies l.spaces l.i) (g.D.Disk.past l.fn.disk)) (g.D.Disk.past l.fn.disk) (g.D.Disk.past l.disk);
+  size : length l.page ≡ 16384;
+  faults : g.D.Disk.faults l.disk ≡ g.D.Disk.faults l.fn.disk;
+  memory : g.D.Disk.memory_refusals l.disk ≡ g.D.Disk.memory_refusals l.fn.disk;
+  later : g.D.Disk.is_later l.fn.disk l.disk;
+}

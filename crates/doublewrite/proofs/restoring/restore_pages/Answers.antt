@@ -1,0 +1,53 @@
+use Rattle.std.proofs.Common.{◌≡◌, ◌∙◌, Ok, ap, sym, refl, subst, arith, true≢false}
+use Rattle.disk_model.proofs.Layers.{does_err, so_far_none, so_far_more, so_far_then, so_far_done}
+use Rattle.places.proofs.Batches.{at_end}
+use Rattle.places.specs.Batches.{From}
+use Rattle.doublewrite.specs.Restore.{PagesFilled}
+use Rattle.doublewrite.proofs.RestoreSteps.{pages_begin, pages_now}
+use Rattle.doublewrite.proofs.restoring.restore_pages.Goals as goal
+use Rattle.doublewrite.proofs.restoring.restore_pages.Goals.{then-branch, else-branch}
+
+pub loop-number-init : goal.loop-number-init
+loop-number-init g c =
+    let copies = c.args.copies.now in
+    let info = c.args.info.now in
+    let first = g.D.Disk.past c.args.disk.now in
+    record {
+      so_far = so_far_none (pages_now copies info 0 (omega arith) first) (pages_begin copies info first c.requires.places);
+      clean = λ is. refl;
+      size = c.requires.size;
+      faults = refl;
+      memory = refl;
+      later = g.met.D.Disk.is_later_reflexive c.args.disk.now;
+    }
+
+pub restore_page-requires-clause-places : goal.restore_page-requires-clause-places
+restore_page-requires-clause-places g c =
+    at_end (λ s m u w. w.filling.places) c.loop-number.invariant.so_far.moments.later c.requires.places c.loop-number.invariant.so_far.at
+
+pub returns-in_err-restore_page-clause-does : goal.returns-in_err-restore_page-clause-does
+returns-in_err-restore_page-clause-does g c =
+    let first = g.D.Disk.past c.args.disk.now in
+    does_err _ _ c.from_residual.ensures.1 (so_far_then c.loop-number.invariant.so_far (c.in_err-restore_page.ensures.does first c.loop-number.invariant.so_far.at))
+
+pub loop-number-preserved : goal.loop-number-preserved
+loop-number-preserved g c =
+    let first = g.D.Disk.past c.args.disk.now in
+    record {
+      so_far = so_far_more c.loop-number.invariant.so_far (c.in_ok-restore_page.ensures.does first c.loop-number.invariant.so_far.at);
+      clean = λ is. elim c.if-branch.branch [
+        | then-branch w ↦ absurd (true≢false (sym w.is_written-is ∙ is))
+        | else-branch w ↦ c.in_ok-restore_page.ensures.same (ap Ok w.if-branch.false) ∙ c.loop-number.invariant.clean (sym w.is_written-is ∙ is)
+      ];
+      size = c.in_ok-restore_page.ensures.size;
+      faults = c.in_ok-restore_page.ensures.no_fault ∙ c.loop-number.invariant.faults;
+      memory = c.in_ok-restore_page.ensures.no_refusal ∙ c.loop-number.invariant.memory;
+      later = g.met.D.Disk.is_later_transitive _ _ _ c.loop-number.invariant.later c.in_ok-restore_page.ensures.later;
+    }
+
+pub returns-clause-does : goal.returns-clause-does
+returns-clause-does g c =
+    let copies = c.args.copies.now in
+    let info = c.args.info.now in
+    let all : c.loop-number.number ≡ info.pages = omega (arith, c.loop-number.auto.number-end, c.loop-number-test.false) in
+    so_far_done (λ es r. subst (λ n. From (PagesFilled copies info n) (g.D.Disk.past c.args.disk.now) es) all r) c.loop-number.invariant.so_far

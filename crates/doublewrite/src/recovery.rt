@@ -1,0 +1,112 @@
+// The homes of all spaces are restored from the doublewrite file.
+ghost use Rattle.std.specs.Prelude.{◌≡◌, ◌+◌, ◌<◌, ◌≤◌, length, OnOk, IfErr};
+ghost use Rattle.cause_core.specs.Cause.{HasCauseOf};
+ghost use Rattle.disk_model.specs.Does.{Does};
+ghost use Rattle.disk_model.specs.Past.{Past, At, HasDiskCause, HasDiskMemoryCause};
+ghost use Rattle.disk_model.specs.declared.names.FileName.TheVariants.{Double};
+ghost use Rattle.places.specs.Batches.{From};
+ghost use Rattle.places.specs.Places.{HasPlaces};
+ghost use Rattle.page_places.specs.Texts.{slots};
+ghost use Rattle.doublewrite.specs.Restore.{AreSpacesApart, AreRestored, HaveAll, IsRestoreEvent, HomesRestored, HomesRestoring, SpacesFilling, SpacesRestored, space_at};
+ghost use Rattle.doublewrite.specs.Refuse.{IsDiskRefuse};
+ghost use Rattle.doublewrite.specs.declared.refuse.OpenRefuse.TheVariants.{DiskFault};
+
+use crate::reading::copies;
+use crate::restoring::restore_space;
+use crate::texts::PAGE;
+use crate::{Copies, OpenRefuse};
+use disk_model::{Disk, DiskError};
+use space_head::SpaceInfo;
+use std::alloc::Global;
+
+// Restores one of the spaces.
+fn restore_next<D: Disk>(
+    disk: &mut D,
+    spaces: &[SpaceInfo],
+    i: usize,
+    copies: &Copies,
+    page: &mut [u8],
+) -> Result<(), DiskError>
+    requires more { i < length spaces.now }
+    requires apart { AreSpacesApart spaces.now }
+    requires size { length page.old ≡ 16384 }
+    requires places { At (HaveAll spaces.now) (D.past disk.old) }
+    ensures does { (first : Past) → At (From (AreRestored copies.now spaces.now i) first) (D.past disk.old) → Does (From (SpacesFilling copies.now spaces.now) first) (IsRestoreEvent spaces.now) (From (AreRestored copies.now spaces.now (i + 1)) first) (D.past disk.old) (D.past disk.new) result }
+    ensures size { length page.new ≡ 16384 }
+    ensures later { D.is_later disk.old disk.new }
+    ensures cause { HasDiskCause (D.faults disk.old) (D.faults disk.new) result }
+    ensures memory { HasDiskMemoryCause (D.memory_refusals disk.old) (D.memory_refusals disk.new) result }
+    ensures no_fault { OnOk result (D.faults disk.new ≡ D.faults disk.old) }
+    ensures no_refusal { OnOk result (D.memory_refusals disk.new ≡ D.memory_refusals disk.old) }
+{
+    restore_space(disk, &spaces[i], copies, page)
+}
+
+fn restore_spaces<D: Disk>(
+    disk: &mut D,
+    spaces: &[SpaceInfo],
+    copies: &Copies,
+    page: &mut [u8],
+) -> Result<(), DiskError>
+    requires apart { AreSpacesApart spaces.now }
+    requires size { length page.old ≡ 16384 }
+    requires places { At (HaveAll spaces.now) (D.past disk.old) }
+    ensures does { Does (From (SpacesFilling copies.now spaces.now) (D.past disk.old)) (IsRestoreEvent spaces.now) (From (SpacesRestored copies.now spaces.now) (D.past disk.old)) (D.past disk.old) (D.past disk.new) result }
+    ensures later { D.is_later disk.old disk.new }
+    ensures cause { HasDiskCause (D.faults disk.old) (D.faults disk.new) result }
+    ensures memory { HasDiskMemoryCause (D.memory_refusals disk.old) (D.memory_refusals disk.new) result }
+    ensures no_fault { OnOk result (D.faults disk.new ≡ D.faults disk.old) }
+    ensures no_refusal { OnOk result (D.memory_refusals disk.new ≡ D.memory_refusals disk.old) }
+{
+    for i in 0..spaces.len() {
+        restore_next(disk, spaces, i, copies, page)?;
+    }
+    Ok(())
+}
+
+// Reads the copies, and restores each space from them.
+fn restore_from_copies<D: Disk>(
+    alloc: Global,
+    disk: &mut D,
+    spaces: &[SpaceInfo],
+) -> Result<(), DiskError>
+    requires apart { AreSpacesApart spaces.now }
+    requires double { At (HasPlaces Double slots) (D.past disk.old) }
+    requires places { At (HaveAll spaces.now) (D.past disk.old) }
+    ensures does { Does (From (HomesRestoring spaces.now) (D.past disk.old)) (IsRestoreEvent spaces.now) (From (HomesRestored spaces.now) (D.past disk.old)) (D.past disk.old) (D.past disk.new) result }
+    ensures later { D.is_later disk.old disk.new }
+    ensures cause { HasDiskCause (D.faults disk.old) (D.faults disk.new) result }
+    ensures memory { D.memory_refusals disk.old ≤ D.memory_refusals disk.new }
+    ensures no_fault { OnOk result (D.faults disk.new ≡ D.faults disk.old) }
+    ensures no_refusal { OnOk result (D.memory_refusals disk.new ≡ D.memory_refusals disk.old) }
+{
+    let copies = copies(alloc, disk)?;
+    let mut page = [0; PAGE];
+    restore_spaces(disk, spaces, &copies, &mut page)
+}
+
+/// Writes each home that holds no text of its page from the newest copy of the page in the
+/// doublewrite file, where there is one, and syncs each space that was written.
+///
+/// # Errors
+/// [`OpenRefuse::DiskFault`] only where the disk's count of faults rose, [`OpenRefuse::OutOfMemory`]
+/// where there was no memory. A home that was to be written then holds what it held, its copy's text,
+/// or is torn.
+pub fn restore<D: Disk>(alloc: Global, disk: &mut D, spaces: &[SpaceInfo]) -> Result<(), OpenRefuse>
+    requires apart { AreSpacesApart spaces.now }
+    requires double { At (HasPlaces Double slots) (D.past disk.old) }
+    requires places { At (HaveAll spaces.now) (D.past disk.old) }
+    ensures does { Does (From (HomesRestoring spaces.now) (D.past disk.old)) (IsRestoreEvent spaces.now) (From (HomesRestored spaces.now) (D.past disk.old)) (D.past disk.old) (D.past disk.new) result }
+    ensures refuses { IfErr result IsDiskRefuse }
+    ensures later { D.is_later disk.old disk.new }
+    ensures cause { HasCauseOf DiskFault (D.faults disk.old) (D.faults disk.new) result }
+    ensures memory { D.memory_refusals disk.old ≤ D.memory_refusals disk.new }
+    ensures no_fault { OnOk result (D.faults disk.new ≡ D.faults disk.old) }
+    ensures no_refusal { OnOk result (D.memory_refusals disk.new ≡ D.memory_refusals disk.old) }
+{
+    match restore_from_copies(alloc, disk, spaces) {
+        Ok(()) => Ok(()),
+        Err(DiskError::Failed) => Err(OpenRefuse::DiskFault),
+        Err(DiskError::NoMemory) => Err(OpenRefuse::OutOfMemory),
+    }
+}

@@ -1,0 +1,104 @@
+// The slots of a batch, one device call to a function.
+ghost use Rattle.std.specs.Prelude.{◌≡◌, ◌+◌, ◌<◌, ◌≤◌, length, OnOk};
+ghost use Rattle.disk_model.specs.Does.{Does};
+ghost use Rattle.disk_model.specs.Past.{Past, At, HasDiskCause, HasDiskMemoryCause};
+ghost use Rattle.disk_model.specs.declared.names.FileName.TheVariants.{Double};
+ghost use Rattle.places.specs.Batches.{From};
+ghost use Rattle.places.specs.Places.{HasPlaces};
+ghost use Rattle.page_places.specs.Texts.{slots};
+ghost use Rattle.doublewrite.specs.Images.{AreSlotsHonest, SlotsHold, SlotsMay};
+ghost use Rattle.doublewrite.specs.Layer.{IsSlotEvent, SlotsSettled, SlotsWriting, SlotsWrote};
+
+use crate::Texts;
+use crate::slot::{SLOT, SLOT_BYTES, fill_slot};
+use disk_model::{Disk, DiskError, FileName};
+
+// Writes one slot. Its bytes are made in a buffer.
+fn write_slot<D: Disk>(
+    disk: &mut D,
+    batch: &Texts,
+    i: usize,
+    slot: &mut [u8],
+) -> Result<(), DiskError>
+    requires more { i < length batch.now.pages }
+    requires most { length batch.now.pages ≤ 64 }
+    requires size { length slot.old ≡ 16896 }
+    requires places { At (HasPlaces Double slots) (D.past disk.old) }
+    ensures does { (first : Past) → At (From (SlotsWrote batch.now i) first) (D.past disk.old) → Does (From (SlotsWriting batch.now) first) (IsSlotEvent batch.now) (From (SlotsWrote batch.now (i + 1)) first) (D.past disk.old) (D.past disk.new) result }
+    ensures size { length slot.new ≡ 16896 }
+    ensures later { D.is_later disk.old disk.new }
+    ensures cause { HasDiskCause (D.faults disk.old) (D.faults disk.new) result }
+    ensures memory { HasDiskMemoryCause (D.memory_refusals disk.old) (D.memory_refusals disk.new) result }
+    ensures no_fault { OnOk result (D.faults disk.new ≡ D.faults disk.old) }
+    ensures no_refusal { OnOk result (D.memory_refusals disk.new ≡ D.memory_refusals disk.old) }
+{
+    let text = batch.pages.get(i).bytes();
+    fill_slot(slot, batch.space, batch.batch, text);
+    disk.write(FileName::Double, i as u64 * SLOT_BYTES, slot)
+}
+
+fn write_slots<D: Disk>(disk: &mut D, batch: &Texts, slot: &mut [u8]) -> Result<(), DiskError>
+    requires most { length batch.now.pages ≤ 64 }
+    requires size { length slot.old ≡ 16896 }
+    requires places { At (HasPlaces Double slots) (D.past disk.old) }
+    ensures does { Does (From (SlotsWriting batch.now) (D.past disk.old)) (IsSlotEvent batch.now) (From (SlotsWrote batch.now (length batch.now.pages)) (D.past disk.old)) (D.past disk.old) (D.past disk.new) result }
+    ensures later { D.is_later disk.old disk.new }
+    ensures cause { HasDiskCause (D.faults disk.old) (D.faults disk.new) result }
+    ensures memory { HasDiskMemoryCause (D.memory_refusals disk.old) (D.memory_refusals disk.new) result }
+    ensures no_fault { OnOk result (D.faults disk.new ≡ D.faults disk.old) }
+    ensures no_refusal { OnOk result (D.memory_refusals disk.new ≡ D.memory_refusals disk.old) }
+{
+    for i in 0..batch.pages.len() {
+        write_slot(disk, batch, i, slot)?;
+    }
+    Ok(())
+}
+
+fn sync_slots<D: Disk>(disk: &mut D, batch: &Texts) -> Result<(), DiskError>
+    ensures does { (first : Past) → At (From (SlotsWrote batch.now (length batch.now.pages)) first) (D.past disk.old) → Does (From (SlotsWriting batch.now) first) (IsSlotEvent batch.now) (From (SlotsSettled batch.now) first) (D.past disk.old) (D.past disk.new) result }
+    ensures later { D.is_later disk.old disk.new }
+    ensures cause { HasDiskCause (D.faults disk.old) (D.faults disk.new) result }
+    ensures memory { HasDiskMemoryCause (D.memory_refusals disk.old) (D.memory_refusals disk.new) result }
+    ensures no_fault { OnOk result (D.faults disk.new ≡ D.faults disk.old) }
+    ensures no_refusal { OnOk result (D.memory_refusals disk.new ≡ D.memory_refusals disk.old) }
+{
+    let _ = batch;
+    disk.sync(FileName::Double)
+}
+
+// Writes the slots, and syncs them.
+fn store_slots<D: Disk>(disk: &mut D, batch: &Texts) -> Result<(), DiskError>
+    requires most { length batch.now.pages ≤ 64 }
+    requires places { At (HasPlaces Double slots) (D.past disk.old) }
+    ensures does { Does (From (SlotsWriting batch.now) (D.past disk.old)) (IsSlotEvent batch.now) (From (SlotsSettled batch.now) (D.past disk.old)) (D.past disk.old) (D.past disk.new) result }
+    ensures later { D.is_later disk.old disk.new }
+    ensures cause { HasDiskCause (D.faults disk.old) (D.faults disk.new) result }
+    ensures memory { HasDiskMemoryCause (D.memory_refusals disk.old) (D.memory_refusals disk.new) result }
+    ensures no_fault { OnOk result (D.faults disk.new ≡ D.faults disk.old) }
+    ensures no_refusal { OnOk result (D.memory_refusals disk.new ≡ D.memory_refusals disk.old) }
+{
+    let mut slot = [0; SLOT];
+    write_slots(disk, batch, &mut slot)?;
+    sync_slots(disk, batch)
+}
+
+/// Writes text i of a batch to slot i, in order, and syncs the doublewrite file.
+///
+/// # Errors
+/// [`DiskError::Failed`] only where the disk's count of faults rose, [`DiskError::NoMemory`] only
+/// where its count of refused memory rose. Each slot then holds what it held, its text, or is torn.
+pub fn store<D: Disk>(disk: &mut D, batch: &Texts) -> Result<(), DiskError>
+    requires most { length batch.now.pages ≤ 64 }
+    requires places { At (HasPlaces Double slots) (D.past disk.old) }
+    ensures does { Does (From (SlotsWriting batch.now) (D.past disk.old)) (IsSlotEvent batch.now) (From (SlotsSettled batch.now) (D.past disk.old)) (D.past disk.old) (D.past disk.new) result }
+    ensures images { At AreSlotsHonest (D.past disk.old) → Does (From (SlotsMay batch.now) (D.past disk.old)) (IsSlotEvent batch.now) (From (SlotsHold batch.now) (D.past disk.old)) (D.past disk.old) (D.past disk.new) result }
+    ensures later { D.is_later disk.old disk.new }
+    ensures cause { HasDiskCause (D.faults disk.old) (D.faults disk.new) result }
+    ensures memory { HasDiskMemoryCause (D.memory_refusals disk.old) (D.memory_refusals disk.new) result }
+    ensures no_fault { OnOk result (D.faults disk.new ≡ D.faults disk.old) }
+    ensures no_refusal { OnOk result (D.memory_refusals disk.new ≡ D.memory_refusals disk.old) }
+{
+    batch.pages.are_texts();
+    let _space = batch.space;
+    store_slots(disk, batch)
+}
