@@ -43,11 +43,6 @@ pub record RingState : Type 0 where
   -- the bytes of each block, also of those that aren't written yet
   pub block : ℕ → List ℕ
 
--- the numbers of a journal, of 1 to 16 blocks a mini-transaction
-abbrev pub AreNumberedMtrs : {M : Type 0} → ℕ → List (Logged M) → ℕ → Type 0
-AreNumberedMtrs number [] next = number ≡ next
-AreNumberedMtrs number (e ∷ es) next = (blocks : ℕ) × (0 < blocks) × (blocks ≤ 16) × (e.first ≡ number) × (e.lsn ≡ (number + blocks) * block_bytes) × AreNumberedMtrs (number + blocks) es next
-
 module _ {M : Type 0} (N : ℕ) (F : Form M) where
   open F use {is_block, starts, ends, IsMtr, checkpoint, passes}
 
