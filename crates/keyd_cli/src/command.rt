@@ -66,7 +66,11 @@ fn read_input<S: Source>(alloc: Global, input: &mut S) -> Result<Vec<u8>, Status
 }
 
 // The statements of a schedule.
-fn statements_of(alloc: Global, text: &[u8], space: &SpaceWords) -> Result<Vec<DrillStatement>, Status>
+fn statements_of(
+    alloc: Global,
+    text: &[u8],
+    space: &SpaceWords,
+) -> Result<Vec<DrillStatement>, Status>
     requires pages { 2 ≤ space.now.pages }
     requires size { length text.now ≤ schedule_bytes }
     ensures ok { IfOk result (λ s. IsSchedule space.now.space space.now.pages text.now s.items) }

@@ -55,11 +55,11 @@ returns-in_default-counted-clause-not_built c line same =
     let plan = c.args.plan.now in
     let text = c.args.text.now in
     let at = at_line (schedule_lines text) c.loop-line.number c.in-Some.line.now c.next.new.self c.loop-line.lines i.left c.in-Some.ensures i.low in
-    let read = as_found plan.space plan.pages c.in-Some.line.now c.in-Ok.line (line_kind.Act c.in-DrillAct.act) c.in-DrillAct.is c.in-Ok.ensures in
+    let read = as_found plan.space plan.pages c.in-Some.line.now c.in-Ok.line (line_kind.Act c.in-Act.act) c.in-Act.is c.in-Ok.ensures in
     let none = c.in_default-counted.ensures.none in
     let refused : (act : DrillAct) → IsAct plan.space plan.pages c.in-Some.line.now act → HasRoom (mtr_count c.loop-line.statements.items) act → ⊥ =
     λ act is room.
-    let mtr : is_mtr act ≡ true = one_act plan.space plan.pages c.in-Some.line.now act c.in-DrillAct.act is read.0 ∙ none.0 in
+    let mtr : is_mtr act ≡ true = one_act plan.space plan.pages c.in-Some.line.now act c.in-Act.act is read.0 ∙ none.0 in
     omega (arith, room mtr, none.1, i.count) in
     subst (λ n. IsNotBuilt plan.space plan.pages text n) (same_number (c.loop-line.number + 1) line same)
     (refused_at plan.space plan.pages text c.loop-line.number c.in-Some.line.now c.next.new.self c.loop-line.statements.items at i.reads read.1 refused)
@@ -70,16 +70,16 @@ loop-line-preserved c =
     let plan = c.args.plan.now in
     let all = schedule_lines c.args.text.now in
     let at = at_line all c.loop-line.number c.in-Some.line.now c.next.new.self c.loop-line.lines i.left c.in-Some.ensures i.low in
-    let read = as_found plan.space plan.pages c.in-Some.line.now c.in-Ok.line (line_kind.Act c.in-DrillAct.act) c.in-DrillAct.is c.in-Ok.ensures in
+    let read = as_found plan.space plan.pages c.in-Some.line.now c.in-Ok.line (line_kind.Act c.in-Act.act) c.in-Act.is c.in-Ok.ensures in
     let some = c.in-Some-counted.ensures.some in
     let statements = c.loop-line.statements.items in
     let more = c.push.new.self.items in
-    let room : HasRoom (mtr_count statements) c.in-DrillAct.act = subst (λ n. HasRoom n c.in-DrillAct.act) i.count some.1 in
+    let room : HasRoom (mtr_count statements) c.in-Act.act = subst (λ n. HasRoom n c.in-Act.act) i.count some.1 in
     record {
       left = sym at.left;
       low = omega (arith, at.low);
-      reads = act_more plan.space plan.pages all c.loop-line.number c.in-Some.line.now c.next.new.self statements more c.in-DrillAct.act at i.reads read.0 room c.in-Ok-push.ensures.items;
-      count = some.0 ∙ ap (λ n. n + (if is_mtr c.in-DrillAct.act then 1 else 0)) i.count ∙ sym (count_more statements more (c.loop-line.number + 1) c.in-DrillAct.act c.in-Ok-push.ensures.items);
+      reads = act_more plan.space plan.pages all c.loop-line.number c.in-Some.line.now c.next.new.self statements more c.in-Act.act at i.reads read.0 room c.in-Ok-push.ensures.items;
+      count = some.0 ∙ ap (λ n. n + (if is_mtr c.in-Act.act then 1 else 0)) i.count ∙ sym (count_more statements more (c.loop-line.number + 1) c.in-Act.act c.in-Ok-push.ensures.items);
       room = some.2;
     }
 
