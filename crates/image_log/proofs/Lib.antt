@@ -1,0 +1,7 @@
+pub mod WholeMtrs
+pub mod MtrTexts
+pub mod ChangeLists
+pub mod Entries
+pub mod Headers
+pub mod Clear
+pub mod Checkpoints

@@ -1,0 +1,48 @@
+use Rattle.std.proofs.Common.{◌≡◌, ◌∙◌, ◌+◌, ◌∷◌, ◌<◌, ap, sym, subst, suc, drop, get_or, length, List, ℕ, Option, Some, None, arith, add-one}
+use Rattle.std.proofs.Math.Seq.{drop-cons}
+use Rattle.redo_text.specs.declared.change.Change.{Change}
+use Rattle.store_image.specs.View.{Logged}
+use Rattle.store_files.specs.Run.{MakeWholeMtrs}
+use Rattle.image_log.specs.Logs.{IsEntryIn}
+use Rattle.image_log.proofs.Entries.{Gathers, head_whole, gathers_more, gathers_all, gathers_lacks}
+use Rattle.image_log.proofs.Headers.{drop_none}
+use Rattle.image_log.proofs.log.entries_of.Goals as goal
+
+left_of : (xs ys : List ℕ) (i : ℕ) → ys ≡ xs → i < length ys → drop i xs ≡ get_or ys i 0 ∷ drop (suc i) xs
+left_of xs ys i same lt = subst (λ (l : List ℕ). drop i l ≡ get_or ys i 0 ∷ drop (suc i) l) same (drop-cons ys i 0 lt)
+
+pub entry_of-requires-clause-small : goal.entry_of-requires-clause-small
+entry_of-requires-clause-small c =
+    let xs = c.args.run.now.sizes.items in
+    let i = c.loop-size.size-index in
+    let left = left_of xs c.deref-size-items.result.now i c.deref-size-items.ensures.value c.loop-size-test.true in
+    let head = head_whole c.args.header.now c.args.keys.now c.args.log.now c.loop-size.first (get_or c.deref-size-items.result.now i 0) (drop (suc i) xs) c.args.run.now.end (subst (λ (l : List ℕ). MakeWholeMtrs c.args.header.now.blocks c.args.log.now c.loop-size.first l c.args.run.now.end) left c.loop-size.invariant.rest) in
+    let within = head.1 in
+    let small = c.requires.small in
+    omega (arith, within, small)
+
+pub returns-in_default-clause-fault : goal.returns-in_default-clause-fault
+returns-in_default-clause-fault c =
+    let xs = c.args.run.now.sizes.items in
+    let i = c.loop-size.size-index in
+    let size = get_or c.deref-size-items.result.now i 0 in
+    let left = left_of xs c.deref-size-items.result.now i c.deref-size-items.ensures.value c.loop-size-test.true in
+    gathers_lacks c.args.header.now c.args.keys.now c.args.log.now c.args.from xs c.args.run.now.end c.loop-size.entries.items c.loop-size.first i size c.loop-size.invariant left
+    (subst (λ (o : Option (Logged (List Change))). IsEntryIn c.args.header.now c.args.keys.now c.args.log.now c.loop-size.first size o) c.in_default.is c.in_ok-entry.ensures)
+
+pub loop-size-preserved : goal.loop-size-preserved
+loop-size-preserved c =
+    let xs = c.args.run.now.sizes.items in
+    let i = c.loop-size.size-index in
+    let size = get_or c.deref-size-items.result.now i 0 in
+    let left = left_of xs c.deref-size-items.result.now i c.deref-size-items.ensures.value c.loop-size-test.true in
+    let more = gathers_more c.args.header.now c.args.keys.now c.args.log.now c.args.from xs c.args.run.now.end c.loop-size.entries.items c.loop-size.first i size c.in-Some.entry c.loop-size.invariant left
+    (subst (λ (o : Option (Logged (List Change))). IsEntryIn c.args.header.now c.args.keys.now c.args.log.now c.loop-size.first size o) c.in-Some.is c.in_ok-entry.ensures) in
+    subst (λ (n : ℕ). Gathers c.args.header.now c.args.keys.now c.args.log.now c.args.from xs c.args.run.now.end c.push.new.self.items (c.loop-size.first + size) n) (sym (add-one i))
+    (subst (λ (es : List (Logged (List Change))). Gathers c.args.header.now c.args.keys.now c.args.log.now c.args.from xs c.args.run.now.end es (c.loop-size.first + size) (suc i)) (sym c.in_ok-push.ensures.items) more)
+
+pub returns-clause-ok : goal.returns-clause-ok
+returns-clause-ok c =
+    let xs = c.args.run.now.sizes.items in
+    let e = ap length c.deref-size-items.ensures.value in
+    gathers_all c.args.header.now c.args.keys.now c.args.log.now c.args.from xs c.args.run.now.end c.loop-size.entries.items c.loop-size.first c.loop-size.size-index c.loop-size.invariant (drop_none xs c.loop-size.size-index (omega (arith, e)))

@@ -1,0 +1,83 @@
+// Ring blocks at their places.
+ghost use Rattle.std.specs.Prelude.{◌≡◌, ℕ, ◌≤◌, ◌<◌, ◌+◌, ◌*◌, ◌^◌, length, true, false};
+ghost use Rattle.byte_list.specs.Bytes.{AreBytes};
+ghost use Rattle.places.specs.Places.{place};
+ghost use Rattle.store_files.specs.RingBlock.{is_ring_block, begins_mtr, ends_mtr};
+ghost use Rattle.store_files.specs.Run.{block_at, IsClear};
+
+use byte_list::fields::{be16_at, be64_at};
+use redo_text::read_block;
+
+/// The bytes of a place, in places of this size.
+#[tactic(auto, unfolding(places::specs::Places::place))]
+pub fn place(file: &[u8], size: usize, index: usize) -> &[u8]
+    requires { index * size + size ≤ length file.now }
+    ensures bytes { result.now ≡ place size index file.now }
+    ensures long { length result.now ≡ size }
+{
+    let at = index * size;
+    &file[at..at + size]
+}
+
+/// The block at the place of this number, in a ring of so many blocks.
+#[tactic(auto, unfolding(store_files::specs::Run::block_at))]
+pub fn block_at(log: &[u8], blocks: u32, number: u64) -> &[u8]
+    requires long { length log.now ≡ (3 + blocks) * 4096 }
+    requires some { 0 < blocks }
+    ensures bytes { result.now ≡ block_at blocks log.now number }
+    ensures long { length result.now ≡ 4096 }
+{
+    place(log, 4096, 3 + (number % u64::from(blocks)) as usize)
+}
+
+// Each element of a block is a byte.
+#[inline(always)]
+fn known_bytes(block: &[u8])
+    ensures { AreBytes block.now }
+{
+    let _ = block.len();
+}
+
+// Whether the block is a valid one of this number.
+pub(crate) fn is_ring_block(number: u64, block: &[u8]) -> bool
+    requires { length block.now ≡ 4096 }
+    ensures { result ≡ is_ring_block number block.now }
+{
+    known_bytes(block);
+    match read_block(block, number) {
+        Ok(_view) => true,
+        Err(_fault) => false,
+    }
+}
+
+// Whether it is the first of its mini-transaction.
+pub(crate) fn begins_mtr(block: &[u8]) -> bool
+    requires { length block.now ≡ 4096 }
+    ensures { result ≡ begins_mtr block.now }
+{
+    be16_at(block, 14) % 2 == 1
+}
+
+// Whether it is the last.
+pub(crate) fn ends_mtr(block: &[u8]) -> bool
+    requires { length block.now ≡ 4096 }
+    ensures { result ≡ ends_mtr block.now }
+{
+    be16_at(block, 14) / 2 % 2 == 1
+}
+
+/// Whether no place of the ring has a valid block of this number or a later one.
+pub fn is_clear(log: &[u8], blocks: u32, number: u64) -> bool
+    requires long { length log.now ≡ (3 + blocks) * 4096 }
+    ensures yes { result ≡ true → IsClear blocks log.now number }
+    ensures no { result ≡ false → IsClear blocks log.now number → ⊥ }
+{
+    for i in 0..blocks {
+        let block = place(log, 4096, 3 + i as usize);
+        let found = be64_at(block, 0);
+        if number <= found && is_ring_block(found, block) {
+            return false;
+        }
+    }
+    true
+}

@@ -1,0 +1,257 @@
+// The header of a store, block 0 of its log's file.
+ghost use Rattle.std.specs.Prelude.{◌≡◌, ◌≤◌, ◌<◌, ◌+◌, ◌*◌, ◌&&◌, ◌||◌, ◌∷◌, true, false, length, nat_eq, nat_le, nat_lt, codes, Some, IfOk};
+ghost use Rattle.std.specs.Str.{bytes_eq};
+ghost use Rattle.byte_list.specs.Bytes.{range};
+ghost use Rattle.byte_list.specs.Fields.{be32_at};
+ghost use Rattle.page_places.specs.Texts.{ends_in_sum};
+ghost use Rattle.store_files.specs.Header.{are_allowed, are_in_order, header_fields, header_in, is_header, pages_together, spaces_at};
+ghost use Rattle.image_log.specs.Headers.{is_front};
+
+use aes_core::Algorithm;
+use byte_list::fields::be32_at;
+use bytes_core::ends_in_crc32c;
+use cause_core::OutOfMemory;
+use std::alloc::Global;
+use std::marker::Model;
+
+/// A space, as a store's header names it. In contracts it is a `HeaderSpace`.
+#[derive(Debug, Drop)]
+pub struct StoreSpace {
+    space: u32,
+    pages: u32,
+    key_id: u32,
+}
+
+impl Model for StoreSpace {
+    ghost use Rattle.store_files.specs.Header.{HeaderSpace};
+
+    ghost Value = { HeaderSpace };
+
+    ghost view = { λ s. record { space = s.space; pages = s.pages; key_id = s.key_id } };
+}
+
+impl StoreSpace {
+    /// The space's id.
+    pub fn space(&self) -> u32
+        ensures { result ≡ self.now.space }
+    {
+        self.space
+    }
+
+    /// Its size in pages, page 0 included.
+    pub fn pages(&self) -> u32
+        ensures { result ≡ self.now.pages }
+    {
+        self.pages
+    }
+
+    /// The id of the key that its pages are ciphered with.
+    pub fn key_id(&self) -> u32
+        ensures { result ≡ self.now.key_id }
+    {
+        self.key_id
+    }
+}
+
+/// What a header says. In contracts it is a `Header`.
+#[derive(Debug, Drop)]
+pub struct StoreHeader {
+    algorithm: Algorithm,
+    blocks: u32,
+    salt: [u8; 16],
+    spaces: Vec<StoreSpace>,
+}
+
+impl Model for StoreHeader {
+    ghost use Rattle.store_files.specs.Header.{Header};
+
+    ghost Value = { Header };
+
+    ghost view = { λ h. record { algorithm = h.algorithm; blocks = h.blocks; salt = h.salt; spaces = h.spaces.items } };
+}
+
+impl StoreHeader {
+    /// The mode that the store's texts are ciphered in.
+    pub fn algorithm(&self) -> Algorithm
+        ensures { result ≡ self.now.algorithm }
+    {
+        self.algorithm
+    }
+
+    /// The number of ring blocks.
+    pub fn blocks(&self) -> u32
+        ensures { result ≡ self.now.blocks }
+    {
+        self.blocks
+    }
+
+    /// What the log's local keys are made from.
+    pub fn salt(&self) -> &[u8; 16]
+        ensures { result.now ≡ self.now.salt }
+    {
+        &self.salt
+    }
+
+    /// The spaces, in order of id.
+    pub fn spaces(&self) -> &[StoreSpace]
+        ensures { result.now ≡ self.now.spaces }
+    {
+        &self.spaces
+    }
+}
+
+fn has_magic(block: &[u8]) -> bool
+    requires { length block.now ≡ 4096 }
+    ensures { result ≡ bytes_eq (range 0 8 block.now) (codes "KEYSTOR1") }
+{
+    let wanted: &[u8] = b"KEYSTOR1";
+    &block[0..8] == wanted
+}
+
+// Whether the block ends in its checksum.
+pub(crate) fn ends_in_sum(block: &[u8]) -> bool
+    ensures { result ≡ ends_in_sum block.now }
+{
+    ends_in_crc32c(block)
+}
+
+// Whether all is right but what the fields say of spaces and blocks.
+#[tactic(auto, unfolding(crate::specs::Headers::is_front))]
+fn is_front(block: &[u8]) -> bool
+    requires { length block.now ≡ 4096 }
+    ensures { result ≡ is_front block.now }
+{
+    let algorithm = be32_at(block, 240);
+    ends_in_sum(block)
+        && has_magic(block)
+        && be32_at(block, 8) == 2
+        && be32_at(block, 12) == 16384
+        && (algorithm == 1 || algorithm == 2)
+}
+
+// A space's 12 bytes from a place on.
+fn space_at(block: &[u8], at: usize) -> StoreSpace
+    requires { at + 12 ≤ length block.now }
+    ensures { result ≡ record { space = be32_at block.now at; pages = be32_at block.now (at + 4); key_id = be32_at block.now (at + 8) } }
+{
+    StoreSpace {
+        space: be32_at(block, at),
+        pages: be32_at(block, at + 4),
+        key_id: be32_at(block, at + 8),
+    }
+}
+
+fn spaces_in(alloc: Global, block: &[u8], count: usize) -> Result<Vec<StoreSpace>, OutOfMemory>
+    requires size { length block.now ≡ 4096 }
+    requires few { count ≤ 16 }
+    ensures { IfOk result (λ spaces. spaces.items ≡ spaces_at block.now 40 count) }
+{
+    let mut spaces = Vec::new(alloc);
+    for i in 0..count {
+        spaces.push(space_at(block, 40 + 12 * i))?;
+    }
+    Ok(spaces)
+}
+
+fn salt_in(block: &[u8]) -> [u8; 16]
+    requires { length block.now ≡ 4096 }
+    ensures { result ≡ range 24 16 block.now }
+{
+    let mut salt = [0; 16];
+    salt.copy_from_slice(&block[24..40]);
+    salt
+}
+
+#[tactic(auto, unfolding(store_files::specs::Header::header_fields))]
+fn algorithm_in(block: &[u8]) -> Algorithm
+    requires { length block.now ≡ 4096 }
+    ensures { result ≡ (header_fields block.now).algorithm }
+{
+    if be32_at(block, 240) == 1 {
+        Algorithm::Cbc
+    } else {
+        Algorithm::Ctr
+    }
+}
+
+// What the fields of a header say.
+#[tactic(auto, unfolding(store_files::specs::Header::header_fields))]
+fn header_fields(alloc: Global, block: &[u8]) -> Result<StoreHeader, OutOfMemory>
+    requires size { length block.now ≡ 4096 }
+    requires few { be32_at block.now 20 ≤ 16 }
+    ensures { IfOk result (λ header. header ≡ header_fields block.now) }
+{
+    let spaces = spaces_in(alloc, block, be32_at(block, 20) as usize)?;
+    Ok(StoreHeader {
+        algorithm: algorithm_in(block),
+        blocks: be32_at(block, 16),
+        salt: salt_in(block),
+        spaces,
+    })
+}
+
+// Whether a space may stand behind one of this id.
+fn may_follow(id: u32, space: &StoreSpace) -> bool
+    ensures { result ≡ (nat_lt id space.now.space && (nat_le space.now.space 4294967279 && (nat_le 2 space.now.pages && nat_le 1 space.now.key_id))) }
+{
+    id < space.space && space.space <= 4_294_967_279 && 2 <= space.pages && 1 <= space.key_id
+}
+
+fn are_in_order(spaces: &[StoreSpace]) -> bool
+    ensures { result ≡ are_in_order 0 spaces.now }
+{
+    let mut id = 0;
+    for space in spaces {
+        if !may_follow(id, space) {
+            return false;
+        }
+        id = space.space();
+    }
+    true
+}
+
+fn pages_together(spaces: &[StoreSpace]) -> u64
+    requires { length spaces.now ≤ 16 }
+    ensures { result ≡ pages_together spaces.now }
+{
+    let mut pages = 0;
+    for space in spaces {
+        pages += u64::from(space.pages());
+    }
+    pages
+}
+
+// Whether what a header says is within the limits.
+#[tactic(auto, unfolding(store_files::specs::Header::are_allowed))]
+fn are_allowed(header: &StoreHeader) -> bool
+    ensures { result ≡ are_allowed header.now }
+{
+    let spaces = header.spaces();
+    32 <= header.blocks
+        && header.blocks <= 4096
+        && 1 <= spaces.len()
+        && spaces.len() <= 16
+        && are_in_order(spaces)
+        && pages_together(spaces) <= 16384
+}
+
+/// The header in the 4096 bytes of block 0, or none where it isn't valid.
+///
+/// # Errors
+/// Where the machine has no memory for its spaces.
+pub fn read_header(alloc: Global, block: &[u8]) -> Result<Option<StoreHeader>, OutOfMemory>
+    requires { length block.now ≡ 4096 }
+    ensures { IfOk result (λ header. header ≡ header_in block.now) }
+{
+    if !is_front(block) {
+        return Ok(None);
+    }
+    if 16 < be32_at(block, 20) {
+        return Ok(None);
+    }
+    let header = header_fields(alloc, block)?;
+    if !are_allowed(&header) {
+        return Ok(None);
+    }
+    Ok(Some(header))
+}

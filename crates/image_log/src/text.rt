@@ -1,0 +1,84 @@
+// The text of a mini-transaction, in its blocks.
+ghost use Rattle.std.specs.Prelude.{◌≡◌, ℕ, List, ◌≤◌, ◌<◌, ◌+◌, ◌*◌, ◌^◌, length, take, MatchOption, IfOk, IfSome, IfNone, None, Some};
+ghost use Rattle.aes_core.specs.Algorithm.{deciphered};
+ghost use Rattle.key_ring.specs.Local.{local_key};
+ghost use Rattle.redo_text.specs.Block.{log_iv};
+ghost use Rattle.redo_text.specs.Reading.{block_version};
+ghost use Rattle.store_files.specs.RingBlock.{block_text};
+ghost use Rattle.store_files.specs.Run.{HasText, block_at};
+ghost use Rattle.image_log.specs.Logs.{IsBlockText, IsTextIn};
+
+use crate::blocks::block_at;
+use crate::header::StoreHeader;
+use aes_core::{Algorithm, BlockKey};
+use byte_list::fields::{be16_at, be32_at, be64_at};
+use cause_core::OutOfMemory;
+use key_ring::Ring;
+use redo_text::Piece;
+use std::alloc::Global;
+
+// The IV of a block, or its first counter.
+#[tactic(auto, unfolding(redo_text::specs::Block::log_iv))]
+fn log_iv(number: u64) -> [u8; 16]
+    ensures { result ≡ log_iv number }
+{
+    let n = number.to_le_bytes();
+    [
+        0xf0, 0xff, 0xff, 0xff, 0, 0, 0, 0, n[0], n[1], n[2], n[3], n[4], n[5], n[6], n[7],
+    ]
+}
+
+// Deciphers the body of the block of this number.
+fn decipher(body: &mut [u8], algorithm: Algorithm, local: &[u8; 16], number: u64)
+    ensures { body.new ≡ deciphered algorithm local.now (log_iv number) body.old }
+{
+    if let Some(key) = BlockKey::new(local) {
+        algorithm.decrypt(&key, &log_iv(number), body);
+    } else {
+        unreachable!()
+    }
+}
+
+// The text in a block, where the key of its version is there.
+fn block_text(
+    alloc: Global,
+    header: &StoreHeader,
+    keys: &Ring,
+    block: &[u8],
+) -> Result<Option<Piece>, OutOfMemory>
+    requires { length block.now ≡ 4096 }
+    ensures { IfOk result (IsBlockText header.now keys.now block.now) }
+{
+    let Some(local) = keys.local(1, be32_at(block, 8), header.salt()) else {
+        return Ok(None);
+    };
+    let mut body = block[16..4092].to_vec(alloc)?;
+    decipher(&mut body, header.algorithm(), &local, be64_at(block, 0));
+    body.truncate(be16_at(block, 12) as usize);
+    Ok(Some(Piece::of(body)))
+}
+
+// The text in so many blocks from this number on, where the keys of all are there.
+pub(crate) fn text_of(
+    alloc: Global,
+    header: &StoreHeader,
+    keys: &Ring,
+    log: &[u8],
+    number: u64,
+    count: u64,
+) -> Result<Option<Piece>, OutOfMemory>
+    requires long { length log.now ≡ (3 + header.now.blocks) * 4096 }
+    requires some { 0 < header.now.blocks }
+    requires small { number + count < 2 ^ 64 }
+    ensures { IfOk result (IsTextIn header.now keys.now log.now number count) }
+{
+    let mut text = Vec::new(alloc);
+    for i in 0..count {
+        let block = block_at(log, header.blocks(), number + i);
+        let Some(part) = block_text(alloc, header, keys, block)? else {
+            return Ok(None);
+        };
+        text.extend_from_slice(part.bytes())?;
+    }
+    Ok(Some(Piece::of(text)))
+}
