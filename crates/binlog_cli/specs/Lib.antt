@@ -1,0 +1,7 @@
+pub mod EventLines
+pub mod Stops
+pub mod EndLines
+pub mod Printed
+pub mod Listing
+pub mod Keys
+pub mod Words

@@ -1,0 +1,118 @@
+// What the program ends with.
+
+ghost use Rattle.std.specs.Prelude.{◌≡◌, [], IfOk, string_bytes};
+ghost use Rattle.binlog_cli.specs.Stops.{list_exit_code};
+ghost use Rattle.binlog_cli.specs.EndLines.{key_fault_text, log_fault_text, list_status_line};
+
+use crate::ListStatus;
+use binlog_text::BinlogFault;
+use key_file::{KeyFault, LoadFault};
+use std::alloc::{AllocError, Global};
+
+/// What the program ends with.
+#[derive(Drop)]
+pub struct ListEnd {
+    /// The number for the system.
+    pub number: u8,
+    /// The line for standard error, empty where there is none.
+    pub line: String,
+}
+
+// The variant of a fault of a log, and its numbers.
+fn log_fault_text(alloc: Global, fault: BinlogFault) -> Result<String, AllocError>
+    ensures { IfOk result (λ text. string_bytes text ≡ log_fault_text fault) }
+{
+    match fault {
+        BinlogFault::Missing => String::from_str(alloc, "Missing"),
+        BinlogFault::BadMagic => String::from_str(alloc, "BadMagic"),
+        BinlogFault::ShortEvent { at, wanted, found } => {
+            format!(in alloc; "ShortEvent {at} {wanted} {found}")
+        }
+        BinlogFault::BadLength { at, length } => format!(in alloc; "BadLength {at} {length}"),
+        BinlogFault::NoFormat { kind } => format!(in alloc; "NoFormat {kind}"),
+        BinlogFault::Algorithm(number) => format!(in alloc; "Algorithm {number}"),
+        BinlogFault::Scheme(number) => format!(in alloc; "Scheme {number}"),
+        BinlogFault::MissingKey { version } => format!(in alloc; "MissingKey {version}"),
+        BinlogFault::Checksum {
+            at,
+            stored,
+            computed,
+        } => format!(in alloc; "Checksum {at} {stored} {computed}"),
+        BinlogFault::FileFault => String::from_str(alloc, "FileFault"),
+        BinlogFault::OutOfMemory => String::from_str(alloc, "OutOfMemory"),
+    }
+}
+
+// The variant of a fault of a key file, and its numbers.
+fn key_fault_text(alloc: Global, fault: KeyFault) -> Result<String, AllocError>
+    ensures { IfOk result (λ text. string_bytes text ≡ key_fault_text fault) }
+{
+    match fault {
+        KeyFault::NoDigits(line) => format!(in alloc; "NoDigits {line}"),
+        KeyFault::IdRange(line) => format!(in alloc; "IdRange {line}"),
+        KeyFault::NoSemicolon(line) => format!(in alloc; "NoSemicolon {line}"),
+        KeyFault::KeyLength(line, digits) => format!(in alloc; "KeyLength {line} {digits}"),
+        KeyFault::NoKeyOne => String::from_str(alloc, "NoKeyOne"),
+        KeyFault::TooLarge => String::from_str(alloc, "TooLarge"),
+        KeyFault::NoSecret => String::from_str(alloc, "NoSecret"),
+        KeyFault::SecretTooLarge => String::from_str(alloc, "SecretTooLarge"),
+        KeyFault::BadSecret(bytes) => format!(in alloc; "BadSecret {bytes}"),
+        KeyFault::ShortSalted(bytes) => format!(in alloc; "ShortSalted {bytes}"),
+        KeyFault::CipherLength(bytes) => format!(in alloc; "CipherLength {bytes}"),
+        KeyFault::Padding => String::from_str(alloc, "Padding"),
+        KeyFault::OutOfMemory => String::from_str(alloc, "OutOfMemory"),
+    }
+}
+
+// The line of a fault of a log.
+fn log_line(alloc: Global, fault: BinlogFault, name: &str) -> Result<String, AllocError>
+    ensures { IfOk result (λ line. string_bytes line ≡ list_status_line (ListStatus.Log fault) name.now) }
+{
+    if let BinlogFault::Missing = fault {
+        return format!(in alloc; "binlog: missing {name}\n");
+    }
+    let text = log_fault_text(alloc, fault)?;
+    format!(in alloc; "binlog: log {text}\n")
+}
+
+// The line of a fault of the key files.
+fn key_line(alloc: Global, fault: &LoadFault) -> Result<String, AllocError>
+    ensures { IfOk result (λ line. string_bytes line ≡ list_status_line (ListStatus.Key fault.now) []) }
+{
+    match fault {
+        LoadFault::Missing(name) => format!(in alloc; "binlog: missing {name}\n"),
+        LoadFault::FileFault => String::from_str(alloc, "binlog: file fault\n"),
+        LoadFault::KeyFile { index, fault } => {
+            let text = key_fault_text(alloc, *fault)?;
+            format!(in alloc; "binlog: key file {index}: {text}\n")
+        }
+        LoadFault::OutOfMemory => String::from_str(alloc, "binlog: out of memory\n"),
+    }
+}
+
+// The line of a status, `name` being the log's.
+fn status_line(alloc: Global, status: &ListStatus, name: &str) -> Result<String, AllocError>
+    ensures { IfOk result (λ line. string_bytes line ≡ list_status_line status.now name.now) }
+{
+    match status {
+        ListStatus::Done => Ok(String::new(alloc)),
+        ListStatus::Log(fault) => log_line(alloc, *fault, name),
+        ListStatus::Usage => String::from_str(alloc, "binlog: usage\n"),
+        ListStatus::Key(fault) => key_line(alloc, fault),
+        ListStatus::FileFault => String::from_str(alloc, "binlog: file fault\n"),
+        ListStatus::OutFault => String::from_str(alloc, "binlog: output fault\n"),
+        ListStatus::OutOfMemory => String::from_str(alloc, "binlog: out of memory\n"),
+    }
+}
+
+/// What a status comes to, `name` being the log's. `Done` has no line.
+pub fn end_with(alloc: Global, status: &ListStatus, name: &str) -> Result<ListEnd, AllocError>
+    ensures number { IfOk result (λ ended. ended.number ≡ list_exit_code status.now) }
+    ensures line { IfOk result (λ ended. string_bytes ended.line ≡ list_status_line status.now name.now) }
+{
+    let line = status_line(alloc, status, name)?;
+    Ok(ListEnd {
+        number: status.number(),
+        line,
+    })
+}

@@ -1,0 +1,85 @@
+// The listing of one log.
+
+ghost use Rattle.std.specs.Prelude.{◌≡◌, ◌≢◌, ◌⊎◌, ◌++◌, ℕ, List, Ok, Err, Option, IfErr, IsErrAnd, IsErrOf, MatchResult, string_bytes};
+ghost use Rattle.io_core.specs.Told.{Told};
+ghost use Rattle.io_core.specs.Stream.{IsPartlyGiven, extended};
+ghost use Rattle.binlog_cli.specs.EventLines.{end_line};
+ghost use Rattle.binlog_cli.specs.Printed.{IsPrinted};
+ghost use Rattle.binlog_cli.specs.Listing.{HasLogListing};
+ghost use Rattle.binlog_cli.specs.Stops.{FileCauses, IsListStop, IsLogStop, PrintCauses, list_status_of, log_stop};
+
+use crate::ListStatus;
+use crate::lines::{end_line, event_lines};
+use crate::printing::{give_text, print_lines};
+use crate::status::log_stop;
+use binlog_text::{BinlogFault, LogReader};
+use io_core::{Library, Sink};
+use key_ring::Ring;
+use std::alloc::Global;
+
+/// Where the first event of a log begins.
+const FIRST_EVENT: u64 = 4;
+
+// Gives what is left of the text, and the line of the end.
+fn end_of_log<K: Sink>(
+    alloc: Global,
+    text: &mut String,
+    length: u64,
+    out: &mut K,
+) -> Result<(), ListStatus>
+    ensures printed { (before : Option (List ℕ)) (front : List ℕ) → IsPrinted front before (K.given out.old) (string_bytes text.old)
+        → MatchResult result (λ _. K.given out.new ≡ extended (front ++ end_line length) before) (λ _. IsPartlyGiven (front ++ end_line length) before (K.given out.new)) }
+    ensures stop { IfErr result IsListStop }
+    ensures cause { PrintCauses (K.faults out.old) (K.faults out.new) result }
+    ensures inside { result ≢ Err ListStatus.FileFault }
+{
+    let line = end_line(alloc, length)?;
+    text.push_str(line.as_str())?;
+    give_text(out, text.as_str())
+}
+
+// Gives what is left of the text, and answers the fault.
+fn end_by_fault<K: Sink>(text: &str, fault: BinlogFault, out: &mut K) -> Result<(), ListStatus>
+    ensures printed { (before : Option (List ℕ)) (front : List ℕ) → IsPrinted front before (K.given out.old) text.now
+        → ((result ≡ Err (log_stop fault)) × (K.given out.new ≡ extended front before)) ⊎ (IsErrAnd result IsListStop × IsPartlyGiven front before (K.given out.new)) }
+    ensures answer { (result ≡ Err (log_stop fault)) ⊎ (result ≡ Err ListStatus.OutFault) ⊎ (result ≡ Err ListStatus.OutOfMemory) }
+    ensures cause { PrintCauses (K.faults out.old) (K.faults out.new) result }
+{
+    give_text(out, text)?;
+    Err(log_stop(fault))
+}
+
+/// Lists the events of the log of a name, with their bytes where `is_hex` says so.
+///
+/// # Errors
+/// `Log`, `FileFault`, `OutFault`, `OutOfMemory`.
+pub(crate) fn list_log<L: Library, K: Sink>(
+    alloc: Global,
+    is_hex: bool,
+    name: &str,
+    ring: &Ring,
+    files: &mut L,
+    out: &mut K,
+) -> Result<(), ListStatus>
+    ensures answer { Told (λ fs. HasLogListing is_hex ring.now (fs name.now) (K.given out.old) (K.given out.new) (list_status_of result)) (L.files files.old) }
+    ensures stop { IfErr result IsLogStop }
+    ensures same { L.files files.new ≡ L.files files.old }
+    ensures library { FileCauses (L.faults files.old) (L.faults files.new) (L.absences files.old) (L.absences files.new) result }
+    ensures sink { PrintCauses (K.faults out.old) (K.faults out.new) result }
+    ensures due { IsErrOf result ListStatus.FileFault → L.failed_last files.new name.now }
+{
+    let mut reader = LogReader::new(alloc);
+    let mut text = String::new(alloc);
+    let mut end = FIRST_EVENT;
+    'events: loop {
+        match reader.next(files, name, ring) {
+            Ok(Some(view)) => {
+                end = view.end();
+                let lines = event_lines(alloc, &view, is_hex)?;
+                print_lines(&mut text, lines.as_str(), out)?;
+            }
+            Ok(None) => return end_of_log(alloc, &mut text, end, out),
+            Err(fault) => return end_by_fault(text.as_str(), fault, out),
+        }
+    }
+}
