@@ -1,0 +1,58 @@
+//! Lists a binary log: the program over `binlog_cli`. Its words name the log and key files of the current
+//! folder. It prints on standard output, says how it ended in a line on standard error where that isn't by
+//! being done, and ends with the status' number.
+#![tactic(auto)]
+
+use binlog_cli::{ListStatus, binlog, end_with, read_words};
+use io_core::{Folder, StdSink};
+use std::io::ErrorKind;
+use std::process::ExitCode;
+use std::rt::Env;
+use std::{env, io};
+
+fn main(rt: HostRuntime) -> ExitCode {
+    let words = match words(&rt) {
+        Ok(words) => words,
+        Err(e) if e.kind() == ErrorKind::OutOfMemory => {
+            return end(&rt, &ListStatus::OutOfMemory, "");
+        }
+        Err(_) => return end(&rt, &ListStatus::Usage, ""),
+    };
+    let mut files = Folder::new(rt.alloc(), &rt);
+    let mut out = StdSink::new(io::writer(&rt));
+    let status = binlog(rt.alloc(), &words, &mut files, &mut out);
+    match read_words(rt.alloc(), &words) {
+        Ok(asked) => end(&rt, &status, asked.name),
+        Err(e) if status.number() == ListStatus::Usage.number() => explain(&rt, &e),
+        Err(_) => end(&rt, &status, ""),
+    }
+}
+
+// The words without the program's name.
+fn words(rt: &(impl Env + AllocGlobal)) -> io::Result<Vec<String>> {
+    let words = env::args(rt)?.skip(1).collect(rt.alloc())?;
+    Ok(words)
+}
+
+// Prints the status' line, and answers its number.
+fn end(rt: &(impl Eprint + AllocGlobal), status: &ListStatus, name: &str) -> ExitCode {
+    match end_with(rt.alloc(), status, name) {
+        Ok(ended) => {
+            let _ = rt.eprint(ended.line.as_str());
+            ExitCode::from(ended.number)
+        }
+        Err(_) => ExitCode::from(ListStatus::OutOfMemory.number()),
+    }
+}
+
+// Prints the text on a mistake in the words, on help or on the version, and answers its number.
+fn explain(rt: &(impl Print + Eprint), e: &clap::Error) -> ExitCode {
+    if e.print(rt).is_err() {
+        return ExitCode::from(ListStatus::OutFault.number());
+    }
+    if e.use_stderr() {
+        ExitCode::from(ListStatus::Usage.number())
+    } else {
+        ExitCode::SUCCESS
+    }
+}
