@@ -20,7 +20,7 @@ use Rattle.store_image.specs.View.{Logged}
 use Rattle.redo_text.specs.declared.change.Change.{Change}
 use Rattle.redo_text.specs.Reading.{block_version}
 use Rattle.store_files.specs.Checkpoint.{checkpoint_in, is_checkpoint}
-use Rattle.store_files.specs.Header.{Header}
+use Rattle.store_files.specs.Header.{HeldHeader}
 use Rattle.store_files.specs.RingBlock.{is_ring_block, begins_mtr, ends_mtr, block_text, IsMtrText}
 use Rattle.store_files.specs.Run.{block_at, MakeWholeMtr, MakeWholeMtrs, HasText, AreLogEntries, IsRun, IsLogOf, IsClear}
 use Rattle.store_files.proofs.RingBlocks.{block_number, block_sum}
@@ -46,7 +46,7 @@ checkpoint_parts i b valid =
     let placed : nat_eq i (side_of (be64_at b 8)) ≡ true = and_left _ _ (and_right (bytes_eq (range 0 8 b) (codes "KEYCHK01")) _ (and_right (ends_in_sum b) _ valid)) in
     (and_left _ _ valid, grind (arith, nat_tests))
 
-module _ (header : Header) (keys : List RingEntry) where
+module _ (header : HeldHeader) (keys : List RingEntry) where
   texts_one : (bs : List (List ℕ)) (t u : List ℕ) → AreTexts header keys bs t → AreTexts header keys bs u → t ≡ u
   texts_one [] t u a b = a ∙ sym b
   texts_one (x ∷ xs) t u (l, r, kl, hr, et) (m, s, km, hs, eu) =
@@ -66,7 +66,7 @@ module _ (header : Header) (keys : List RingEntry) where
     mtr_one = λ n bs x y (t, ht, rx) (u, hu, ry). changes_one u x y (subst (λ (l : List ℕ). IsMtrText l x) (texts_one bs t u ht hu) rx) ry;
   }
 
-module _ (header : Header) (keys : List RingEntry) (file : List ℕ) where
+module _ (header : HeldHeader) (keys : List RingEntry) (file : List ℕ) where
   abbrev F : Form (List Change)
   F = log_form header keys
 

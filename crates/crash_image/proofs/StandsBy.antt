@@ -14,7 +14,7 @@ use Rattle.store_image.specs.View.{Text, View, Logged, IsLive}
 use Rattle.store_model.specs.Fold.{fold}
 use Rattle.redo_text.specs.declared.change.Change.{Change}
 use Rattle.store_model.specs.declared.contents.SpaceContents.{SpaceContents}
-use Rattle.store_files.specs.Header.{Header}
+use Rattle.store_files.specs.Header.{HeldHeader}
 use Rattle.store_files.specs.Pages.{Page, has_page, pages_of, salts_of, is_used, floor_of, is_ciphered, HaveSpaces}
 use Rattle.store_files.specs.Run.{IsLogOf, IsClear}
 use Rattle.store_files.proofs.Folds.{pages_after, spaces_after, spaces_folded, salts_folded}
@@ -45,7 +45,7 @@ module _ (T : pages.Theory) (v : View T.M) (c d : pages.PageContents T) (same : 
 
 -- ---- journals
 
-module _ (header : Header) (keys : List RingEntry) (salts : ℕ → List ℕ) where
+module _ (header : HeldHeader) (keys : List RingEntry) (salts : ℕ → List ℕ) where
   abbrev T : pages.Theory
   T = store_theory header keys salts
 
@@ -62,7 +62,7 @@ module _ (header : Header) (keys : List RingEntry) (salts : ℕ → List ℕ) wh
       ∙ ap (λ (x : Page). pages.fold_page T es s p x) (sym (pages_after e.mtr header.spaces base have s p there))
       ∙ folded es (fold (e.mtr ∷ []) base) (spaces_after e.mtr header.spaces base have) (pages_of (fold (e.mtr ∷ []) base)) (λ r q is. refl) s p there
 
-module _ (image : Image) (keys : List RingEntry) (header : Header) (log : LogView (List Change)) where
+module _ (image : Image) (keys : List RingEntry) (header : HeldHeader) (log : LogView (List Change)) where
   -- what the files say beside the pages
   pub record Reading (spaces_of : List SpaceContents) : Type 0 where
     pub is_header : HasHeader image header

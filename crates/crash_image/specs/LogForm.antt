@@ -7,10 +7,10 @@ use Rattle.ring_log.specs.Ring.{Form}
 use Rattle.redo_text.specs.declared.change.Change.{Change}
 use Rattle.redo_text.specs.Reading.{block_version}
 use Rattle.store_files.specs.Checkpoint.{checkpoint_in}
-use Rattle.store_files.specs.Header.{Header}
+use Rattle.store_files.specs.Header.{HeldHeader}
 use Rattle.store_files.specs.RingBlock.{is_ring_block, begins_mtr, ends_mtr, block_text, IsMtrText}
 
-module _ (header : Header) (keys : List RingEntry) where
+module _ (header : HeldHeader) (keys : List RingEntry) where
   -- the text in these blocks, each under the local key of id 1 at its version
   abbrev pub AreTexts : List (List ℕ) → List ℕ → Type 0
   AreTexts [] text = text ≡ []

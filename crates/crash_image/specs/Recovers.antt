@@ -12,46 +12,46 @@ use Rattle.store_image.specs.View.{Logged}
 use Rattle.redo_text.specs.declared.change.Change.{Change}
 use Rattle.redo_text.specs.declared.change.Change.TheVariants.{Put, Kind, Touch, Floor, Encrypt}
 use Rattle.store_model.specs.declared.contents.SpaceContents.{SpaceContents}
-use Rattle.store_files.specs.Header.{Header, HeaderSpace, header_in}
+use Rattle.store_files.specs.Header.{HeldHeader, HeldSpace, header_in}
 use Rattle.store_files.specs.Pages.{has_page, pages_of, salts_of, HaveSpaces}
 use Rattle.store_files.specs.Run.{IsLogOf, IsClear}
 use Rattle.crash_image.specs.StoreTheory.{store_theory}
 
 -- The header is block 0 of the log's file, where that is valid. A copy of it elsewhere would be looked for here alone.
-abbrev pub HasHeader : Image → Header → Type 0
+abbrev pub HasHeader : Image → HeldHeader → Type 0
 HasHeader image header = header_in (place 4096 0 (image.bytes Log)) ≡ Some header
 
 -- each space has as many bytes as its pages
-abbrev pub SpacesLong : Image → List HeaderSpace → Type 0
+abbrev pub SpacesLong : Image → List HeldSpace → Type 0
 SpacesLong image [] = Unit {0}
 SpacesLong image (s ∷ ss) = (length (image.bytes (Space s.space)) ≡ s.pages * 16384) × SpacesLong image ss
 
 -- each file is as long as the header says
-pub record AreLong (image : Image) (header : Header) : Type 0 where
+pub record AreLong (image : Image) (header : HeldHeader) : Type 0 where
   pub log : length (image.bytes Log) ≡ (3 + header.blocks) * 4096
   pub double : length (image.bytes Double) ≡ 64 * 16896
   pub spaces : SpacesLong image header.spaces
 
 -- the change is one of the store's pages
-abbrev pub IsOfStore : List HeaderSpace → Change → Type 0
+abbrev pub IsOfStore : List HeldSpace → Change → Type 0
 IsOfStore spaces (Put s page at bytes) = has_page spaces s page ≡ true
 IsOfStore spaces (Kind s page kind) = has_page spaces s page ≡ true
 IsOfStore spaces (Touch s page) = has_page spaces s page ≡ true
 IsOfStore spaces (Floor s version) = has_page spaces s 0 ≡ true
 IsOfStore spaces (Encrypt s) = has_page spaces s 0 ≡ true
 
-abbrev pub AreOfStore : List HeaderSpace → List Change → Type 0
+abbrev pub AreOfStore : List HeldSpace → List Change → Type 0
 AreOfStore spaces [] = Unit {0}
 AreOfStore spaces (c ∷ cs) = IsOfStore spaces c × AreOfStore spaces cs
 
 -- each change of the run is one of the store's pages
-abbrev pub RunIsOfStore : List HeaderSpace → List (Logged (List Change)) → Type 0
+abbrev pub RunIsOfStore : List HeldSpace → List (Logged (List Change)) → Type 0
 RunIsOfStore spaces [] = Unit {0}
 RunIsOfStore spaces (e ∷ es) = AreOfStore spaces e.mtr × RunIsOfStore spaces es
 
 module _ (image : Image) (keys : List RingEntry) where
   -- Under this header and with this run the image recovers to these contents.
-  pub record RecoversBy (header : Header) (log : LogView (List Change)) (c : List SpaceContents) : Type 0 where
+  pub record RecoversBy (header : HeldHeader) (log : LogView (List Change)) (c : List SpaceContents) : Type 0 where
     pub long : AreLong image header
     pub run : IsLogOf header keys (image.bytes Log) log
     pub of_store : RunIsOfStore header.spaces log.run
@@ -65,7 +65,7 @@ module _ (image : Image) (keys : List RingEntry) where
 
   -- The image recovers to these contents; last is the number of the run's last block, or that before the run where it is empty.
   pub record Recovers (c : List SpaceContents) (last : ℕ) : Type 0 where
-    pub header : Header
+    pub header : HeldHeader
     pub is_header : HasHeader image header
     pub log : LogView (List Change)
     pub is_last : last + 1 ≡ log.end

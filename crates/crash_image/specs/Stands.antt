@@ -13,7 +13,7 @@ use Rattle.store_image.specs.View.{Text, Logged, IsChosen, IsLive}
 use Rattle.store_model.specs.Fold.{fold}
 use Rattle.redo_text.specs.declared.change.Change.{Change}
 use Rattle.store_model.specs.declared.contents.SpaceContents.{SpaceContents}
-use Rattle.store_files.specs.Header.{Header, HeaderSpace}
+use Rattle.store_files.specs.Header.{HeldHeader, HeldSpace}
 use Rattle.store_files.specs.Pages.{has_page, key_id_of, pages_of, salts_of}
 use Rattle.redo_text.specs.Reading.{block_version}
 use Rattle.store_files.specs.Run.{block_at}
@@ -31,7 +31,7 @@ abbrev pub Lucky : Image → Type 0
 Lucky image = IsLucky place_test image
 
 -- a key, by its id and version, that reading the image needs: that of a chosen text, of a live slot, of a block of the run, or the active version of the log or of a space
-pub data Named (image : Image) (header : Header) (log : LogView (List Change)) (active id version : ℕ) : Type 0 where
+pub data Named (image : Image) (header : HeldHeader) (log : LogView (List Change)) (active id version : ℕ) : Type 0 where
   OfChosen : (s p : ℕ) (t : Text) → has_page header.spaces s p ≡ true → IsChosen (view log image) s p (Some t) → t.version ≢ 0 → id ≡ key_id_of header.spaces s → version ≡ t.version → Named image header log active id version
   OfSlot : (s p i : ℕ) (t : Text) → has_page header.spaces s p ≡ true → IsLive (view log image) s p i t → t.version ≢ 0 → id ≡ key_id_of header.spaces s → version ≡ t.version → Named image header log active id version
   OfBlock : (n : ℕ) → log.from ≤ n → n < log.end → id ≡ 1 → version ≡ block_version (block_at header.blocks (image.bytes Log) n) → Named image header log active id version
@@ -43,7 +43,7 @@ abbrev pub mtrs_of : List (Logged (List Change)) → List (List Change)
 mtrs_of journal = map (λ e. e.mtr) journal
 
 -- no page of a space that was told to be at a version needs an older key, also once a live slot was taken for its home
-abbrev pub Rotated : Image → List RingEntry → Header → LogView (List Change) → List SpaceContents → Type 0
+abbrev pub Rotated : Image → List RingEntry → HeldHeader → LogView (List Change) → List SpaceContents → Type 0
 Rotated image keys header log c = ViewRotated (store_theory header keys (salts_of c)) (view log image) (pages_of c)
 
 -- how many entries of the journal have an LSN of at most this

@@ -3,12 +3,12 @@ use Rattle.std.specs.Prelude.{ℕ, List}
 use Rattle.key_ring.specs.Ring.{RingEntry}
 use Rattle.store_image.specs.Recovers.{Theory}
 use Rattle.redo_text.specs.declared.change.Change.{Change}
-use Rattle.store_files.specs.Header.{Header}
+use Rattle.store_files.specs.Header.{HeldHeader}
 use Rattle.store_files.specs.Pages.{Page, Unused, has_page, is_used, mtr_names, mtr_acts, MeansPage, floor_of, is_ciphered}
 use Rattle.store_files.proofs.PageLaws.{has_head_page, unused_blank, mtr_idle, mtr_uses, means_one, means_used, means_text}
 
 -- the theory of a store with this header, these keys and these salts of its spaces
-abbrev pub store_theory : Header → List RingEntry → (ℕ → List ℕ) → Theory
+abbrev pub store_theory : HeldHeader → List RingEntry → (ℕ → List ℕ) → Theory
 store_theory header keys salts = record {
   X = Page;
   M = List Change;

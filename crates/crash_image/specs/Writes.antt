@@ -12,7 +12,7 @@ use Rattle.store_image.specs.Record.{Item, PageText, RingBlock}
 use Rattle.store_image.specs.View.{Slot}
 use Rattle.redo_text.specs.declared.change.Change.{Change}
 use Rattle.store_model.specs.declared.contents.SpaceContents.{SpaceContents}
-use Rattle.store_files.specs.Header.{Header}
+use Rattle.store_files.specs.Header.{HeldHeader}
 use Rattle.store_files.specs.Pages.{pages_of, salts_of}
 use Rattle.store_files.specs.RingBlock.{is_ring_block}
 use Rattle.redo_text.specs.Reading.{number_of, block_version}
@@ -34,9 +34,9 @@ written_items [] = []
 written_items (w ∷ ws) = written_item w.0 w.1 w.2 ++ written_items ws
 
 -- Of one page at one LSN only texts of one plain page were written, of one version only one text; and of one number only one ring block.
-abbrev pub Once : Header → List RingEntry → (ℕ → List ℕ) → List (FileName × ℕ × List ℕ) → Type 0
+abbrev pub Once : HeldHeader → List RingEntry → (ℕ → List ℕ) → List (FileName × ℕ × List ℕ) → Type 0
 Once header keys salts writes = items.ItemsOnce (store_theory header keys salts) (written_items writes)
 
 -- What was written is behind the image's run by less than a ring, agrees with the contents at each page's last LSN, and has each text that the image holds.
-abbrev pub Settled : List (FileName × ℕ × List ℕ) → Image → Header → List RingEntry → LogView (List Change) → List SpaceContents → Type 0
+abbrev pub Settled : List (FileName × ℕ × List ℕ) → Image → HeldHeader → List RingEntry → LogView (List Change) → List SpaceContents → Type 0
 Settled writes image header keys log c = items.ItemsSettled (store_theory header keys (salts_of c)) header.blocks (written_items writes) (view log image) (pages_of c)

@@ -7,7 +7,7 @@ use Rattle.store_image.specs.Checkpoint.{HeldCheckpoint}
 use Rattle.store_image.specs.Places.{LogView}
 use Rattle.store_image.specs.View.{Logged}
 use Rattle.store_files.specs.Checkpoint.{IsNewestCheckpoint}
-use Rattle.store_files.specs.Header.{Header}
+use Rattle.store_files.specs.Header.{HeldHeader}
 use Rattle.store_files.specs.RingBlock.{IsMtrText}
 use Rattle.store_files.specs.Run.{HasText, MakeWholeMtr, MakeWholeMtrs, AreLogEntries, IsLogOf}
 use Rattle.store_files.proofs.RunsOnce.{newest_one, text_one, whole_one}
@@ -16,7 +16,7 @@ use Rattle.image_log.specs.declared.fault.LogTextFault.TheVariants.{NoCheckpoint
 use Rattle.image_log.specs.Logs.{HasChanges, IsEntryIn, LacksChanges, IsEntryFault, IsLogTextFault}
 use Rattle.image_log.proofs.WholeMtrs.{mtrs_ascend}
 
-module _ (header : Header) (keys : List RingEntry) (file : List ℕ) where
+module _ (header : HeldHeader) (keys : List RingEntry) (file : List ℕ) where
   -- the first i mini-transactions of a run were read
   pub record Gathers (from : ℕ) (sizes : List ℕ) (end : ℕ) (entries : List (Logged (List Change))) (first i : ℕ) : Type 0 where
     pub rest : MakeWholeMtrs header.blocks file first (drop i sizes) end

@@ -9,7 +9,7 @@ use Rattle.byte_list.specs.Bytes.{range}
 use Rattle.byte_list.specs.Fields.{be32_at}
 use Rattle.page_places.specs.Texts.{ends_in_sum}
 use Rattle.page_places.proofs.Sums.{and_left, and_right, not_true, ends_in_sum-ends, ends-ends_in_sum}
-use Rattle.store_files.specs.Header.{Header, HeaderSpace, are_allowed, header_fields, are_in_order, pages_together, header_in, is_header, spaces_at}
+use Rattle.store_files.specs.Header.{HeldHeader, HeldSpace, are_allowed, header_fields, are_in_order, pages_together, header_in, is_header, spaces_at}
 use Rattle.image_log.specs.Headers.{is_front}
 
 five : (a b c d e f : Bool) → (a && (b && (c && (d && (e && f))))) ≡ ((a && (b && (c && (d && e)))) && f)
@@ -46,7 +46,7 @@ unfolding spaces_at
 length-spaces b at zero = refl
 length-spaces b at (suc n) = ap suc (length-spaces b (at + 12) n)
 
-count_of : (h : Header) → are_allowed h ≡ true → length h.spaces ≤ 16
+count_of : (h : HeldHeader) → are_allowed h ≡ true → length h.spaces ≤ 16
 unfolding are_allowed
 count_of h is =
     let few : nat_le (length h.spaces) 16 ≡ true = and_left _ _ (and_right (nat_le 1 (length h.spaces)) _ (and_right (nat_le h.blocks 4096) _ (and_right (nat_le 32 h.blocks) _ is))) in
@@ -60,7 +60,7 @@ pub too_many : (b : List ℕ) → 16 < be32_at b 20 → header_in b ≡ None
 too_many b many = not_allowed b (not_true _ (λ is. let few = count_of (header_fields b) is in omega (arith, many, few, fields_count b)))
 
 -- one space more is read
-pub space_more : (xs : List HeaderSpace) (b : List ℕ) (at n m : ℕ) → n ≡ suc m
+pub space_more : (xs : List HeldSpace) (b : List ℕ) (at n m : ℕ) → n ≡ suc m
     → (xs ++ record { space = be32_at b at; pages = be32_at b (at + 4); key_id = be32_at b (at + 8) } ∷ []) ++ spaces_at b (at + 12) m ≡ xs ++ spaces_at b at n
 unfolding spaces_at
 space_more xs b at n m is = append_assoc xs (record { space = be32_at b at; pages = be32_at b (at + 4); key_id = be32_at b (at + 8) } ∷ []) (spaces_at b (at + 12) m) ∙ ap (λ (k : ℕ). xs ++ spaces_at b at k) (sym is)
@@ -89,7 +89,7 @@ four true true false d r = refl
 four true false c d r = refl
 four false b c d r = refl
 
-pub order_cons : (id : ℕ) (s : HeaderSpace) (ss : List HeaderSpace)
+pub order_cons : (id : ℕ) (s : HeldSpace) (ss : List HeldSpace)
     → are_in_order id (s ∷ ss) ≡ ((nat_lt id s.space && (nat_le s.space 4294967279 && (nat_le 2 s.pages && nat_le 1 s.key_id))) && are_in_order s.space ss)
 unfolding are_in_order
 order_cons id s ss = four (nat_lt id s.space) (nat_le s.space 4294967279) (nat_le 2 s.pages) (nat_le 1 s.key_id) (are_in_order s.space ss)
@@ -98,7 +98,7 @@ pub order_none : (id : ℕ) → are_in_order id [] ≡ true
 unfolding are_in_order
 order_none id = refl
 
-pub pages_cons : (s : HeaderSpace) (ss : List HeaderSpace) → pages_together (s ∷ ss) ≡ s.pages + pages_together ss
+pub pages_cons : (s : HeldSpace) (ss : List HeldSpace) → pages_together (s ∷ ss) ≡ s.pages + pages_together ss
 unfolding pages_together
 pages_cons s ss = refl
 

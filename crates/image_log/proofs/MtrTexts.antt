@@ -4,12 +4,12 @@ use Rattle.std.proofs.lemmas.List.{append-nil}
 use Rattle.key_ring.specs.Ring.{RingEntry}
 use Rattle.key_ring.specs.Local.{local_key}
 use Rattle.redo_text.specs.Reading.{block_version}
-use Rattle.store_files.specs.Header.{Header}
+use Rattle.store_files.specs.Header.{HeldHeader}
 use Rattle.store_files.specs.RingBlock.{block_text}
 use Rattle.store_files.specs.Run.{block_at, HasText}
 use Rattle.image_log.specs.Logs.{IsBlockText, IsTextIn}
 
-module _ (header : Header) (keys : List RingEntry) (file : List ℕ) where
+module _ (header : HeldHeader) (keys : List RingEntry) (file : List ℕ) where
   -- the text of the first i of so many blocks: what the rest has, behind it, is the text of all, and the text of all has such a rest
   pub record Reads (number count : ℕ) (text : List ℕ) (i : ℕ) : Type 0 where
     pub more : (rest : List ℕ) → HasText header keys file (number + i) (count - i) rest → HasText header keys file number count (text ++ rest)

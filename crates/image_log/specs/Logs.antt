@@ -7,7 +7,7 @@ use Rattle.store_image.specs.View.{Logged}
 use Rattle.redo_text.specs.declared.change.Change.{Change}
 use Rattle.redo_text.specs.Reading.{block_version}
 use Rattle.store_files.specs.Checkpoint.{IsNewestCheckpoint}
-use Rattle.store_files.specs.Header.{Header}
+use Rattle.store_files.specs.Header.{HeldHeader}
 use Rattle.store_files.specs.RingBlock.{block_text, IsMtrText}
 use Rattle.store_files.specs.Run.{MakeWholeMtr, HasText, AreLogEntries}
 use Rattle.image_log.specs.declared.checkpoint.RunStart.{RunStart}
@@ -26,13 +26,13 @@ abbrev pub AreChangesOf : List ℕ → Option (List Change) → Type 0
 AreChangesOf text (Some changes) = IsMtrText text changes
 AreChangesOf text None = (changes : List Change) → IsMtrText text changes → ⊥
 
-module _ (header : Header) (keys : List RingEntry) where
+module _ (header : HeldHeader) (keys : List RingEntry) where
   -- the text in a block under the key of its version, or that this key is missing
   abbrev pub IsBlockText : List ℕ → Option (List ℕ) → Type 0
   IsBlockText block (Some text) = (local : List ℕ) × (local_key keys 1 (block_version block) header.salt ≡ Some local) × (text ≡ block_text header.algorithm local block)
   IsBlockText block None = local_key keys 1 (block_version block) header.salt ≡ None
 
-module _ (header : Header) (keys : List RingEntry) (file : List ℕ) where
+module _ (header : HeldHeader) (keys : List RingEntry) (file : List ℕ) where
   -- the text in so many blocks, or that there is none under the keys
   abbrev pub IsTextIn : ℕ → ℕ → Option (List ℕ) → Type 0
   IsTextIn number count (Some text) = HasText header keys file number count text

@@ -14,7 +14,7 @@ use cause_core::OutOfMemory;
 use std::alloc::Global;
 use std::marker::Model;
 
-/// A space, as a store's header names it. In contracts it is a `HeaderSpace`.
+/// A space, as a store's header names it. In contracts it is a `HeldSpace`.
 #[derive(Debug, Drop)]
 pub struct StoreSpace {
     space: u32,
@@ -23,9 +23,9 @@ pub struct StoreSpace {
 }
 
 impl Model for StoreSpace {
-    ghost use Rattle.store_files.specs.Header.{HeaderSpace};
+    ghost use Rattle.store_files.specs.Header.{HeldSpace};
 
-    ghost Value = { HeaderSpace };
+    ghost Value = { HeldSpace };
 
     ghost view = { λ s. record { space = s.space; pages = s.pages; key_id = s.key_id } };
 }
@@ -53,7 +53,7 @@ impl StoreSpace {
     }
 }
 
-/// What a header says. In contracts it is a `Header`.
+/// What a header says. In contracts it is a `HeldHeader`.
 #[derive(Debug, Drop)]
 pub struct StoreHeader {
     algorithm: Algorithm,
@@ -63,9 +63,9 @@ pub struct StoreHeader {
 }
 
 impl Model for StoreHeader {
-    ghost use Rattle.store_files.specs.Header.{Header};
+    ghost use Rattle.store_files.specs.Header.{HeldHeader};
 
-    ghost Value = { Header };
+    ghost Value = { HeldHeader };
 
     ghost view = { λ h. record { algorithm = h.algorithm; blocks = h.blocks; salt = h.salt; spaces = h.spaces.items } };
 }

@@ -8,11 +8,11 @@ use Rattle.places.specs.Places.{Layout, place}
 use Rattle.ring_log.specs.Ring.{Form}
 use Rattle.redo_text.specs.declared.change.Change.{Change}
 use Rattle.redo_text.specs.declared.key.RedoKey.{RedoKey}
-use Rattle.store_files.specs.Header.{Header}
+use Rattle.store_files.specs.Header.{HeldHeader}
 
 -- what tells the log's key of each version: the store's header, which has the salt and the algorithm, and the keys of its ring
 pub record Keys : Type 0 where
-  pub header : Header
+  pub header : HeldHeader
   pub ring : List RingEntry
 
 -- the form of the store's log under these keys

@@ -11,7 +11,7 @@ use Rattle.store_model.specs.declared.contents.SpaceContents.{SpaceContents}
 use Rattle.space_head.specs.declared.space.SpaceInfo.{SpaceInfo}
 use Rattle.page_places.specs.Texts.{ends_in_sum}
 use Rattle.page_places.proofs.Sums.{and_left, and_right}
-use Rattle.store_files.specs.Header.{Header, HeaderSpace, header_in, header_fields, is_header, are_in_order, are_allowed, pages_together}
+use Rattle.store_files.specs.Header.{HeldHeader, HeldSpace, header_in, header_fields, is_header, are_in_order, are_allowed, pages_together}
 use Rattle.store_files.specs.Pages.{Page, Head, Unused, Used, page_held, page_in, pages_of, salts_of, has_page, HaveSpaces}
 
 one_some : {A : Type 0} (x y : A) → Some x ≡ Some y → x ≡ y
@@ -19,7 +19,7 @@ one_some x y e = cc
 
 -- ---- a header that is read
 
-order_of : (h : Header) → are_allowed h ≡ true → are_in_order 0 h.spaces ≡ true
+order_of : (h : HeldHeader) → are_allowed h ≡ true → are_in_order 0 h.spaces ≡ true
 unfolding are_allowed
 order_of h is = and_left _ _ (and_right (nat_le (length h.spaces) 16) _ (and_right (nat_le 1 (length h.spaces)) _ (and_right (nat_le h.blocks 4096) _ (and_right (nat_le 32 h.blocks) _ is))))
 
@@ -29,22 +29,22 @@ fields_order b valid =
     order_of (header_fields b) (and_right (nat_eq (be32_at b 240) 1 || nat_eq (be32_at b 240) 2) _ (and_right (nat_eq (be32_at b 12) 16384) _ (and_right (nat_eq (be32_at b 8) 2) _
     (and_right (bytes_eq (range 0 8 b) (codes "KEYSTOR1")) _ (and_right (ends_in_sum b) _ valid)))))
 
-pub header_order : (b : List ℕ) (h : Header) → header_in b ≡ Some h → are_in_order 0 h.spaces ≡ true
+pub header_order : (b : List ℕ) (h : HeldHeader) → header_in b ≡ Some h → are_in_order 0 h.spaces ≡ true
 unfolding header_in
 header_order b h is = by (is_header b) refl is
   where
     by : (v : Bool) → is_header b ≡ v → (if v then Some (header_fields b) else None) ≡ Some h → are_in_order 0 h.spaces ≡ true
-    by true valid e = subst (λ (x : Header). are_in_order 0 x.spaces ≡ true) (one_some _ _ e) (fields_order b valid)
+    by true valid e = subst (λ (x : HeldHeader). are_in_order 0 x.spaces ≡ true) (one_some _ _ e) (fields_order b valid)
     by false valid e = absurd (cc)
 
 -- ---- spaces in order
 
-record Ordered (id : ℕ) (h : HeaderSpace) (hs : List HeaderSpace) : Type 0 where
+record Ordered (id : ℕ) (h : HeldSpace) (hs : List HeldSpace) : Type 0 where
   lower : id < h.space
   some : 2 ≤ h.pages
   rest : are_in_order h.space hs ≡ true
 
-ordered : (id : ℕ) (h : HeaderSpace) (hs : List HeaderSpace) → are_in_order id (h ∷ hs) ≡ true → Ordered id h hs
+ordered : (id : ℕ) (h : HeldSpace) (hs : List HeldSpace) → are_in_order id (h ∷ hs) ≡ true → Ordered id h hs
 unfolding are_in_order
 ordered id h hs order =
     let first : nat_lt id h.space ≡ true = and_left _ _ order in
@@ -54,7 +54,7 @@ ordered id h hs order =
     record { lower = grind (arith, nat_tests); some = grind (arith, nat_tests); rest = and_right (nat_le 1 h.key_id) _ (and_right (nat_le 2 h.pages) _ b) }
 
 -- a space of a list in order is above the id before the list
-above : (id : ℕ) (hs : List HeaderSpace) (s p : ℕ) → are_in_order id hs ≡ true → has_page hs s p ≡ true → id < s
+above : (id : ℕ) (hs : List HeldSpace) (s p : ℕ) → are_in_order id hs ≡ true → has_page hs s p ≡ true → id < s
 above id [] s p order is = absurd (true≢false (sym is))
 above id (h ∷ hs) s p order is =
     let o = ordered id h hs order in
@@ -64,7 +64,7 @@ above id (h ∷ hs) s p order is =
     by true same lower later is = let e : h.space ≡ s = grind (arith, nat_tests) in omega (arith, lower, e)
     by false same lower later is = omega (arith, lower, later is)
 
-other : (h : HeaderSpace) (hs : List HeaderSpace) (s p : ℕ) → are_in_order h.space hs ≡ true → has_page hs s p ≡ true → nat_eq h.space s ≡ false
+other : (h : HeldSpace) (hs : List HeldSpace) (s p : ℕ) → are_in_order h.space hs ≡ true → has_page hs s p ≡ true → nat_eq h.space s ≡ false
 other h hs s p order is = let lt = above h.space hs s p order is in grind (arith, nat_tests)
 
 if_true : {A : Type 0} (b : Bool) (x y : A) → b ≡ true → (if b then x else y) ≡ x
@@ -74,10 +74,10 @@ if_false : {A : Type 0} (b : Bool) (x y : A) → b ≡ false → (if b then x el
 if_false b x y is = ap (λ (t : Bool). if t then x else y) is
 
 -- what is asked of two contents of the same spaces: equal pages, p being below some bound
-abbrev Same : (ℕ → Type 0) → List HeaderSpace → List SpaceContents → List SpaceContents → Type 0
+abbrev Same : (ℕ → Type 0) → List HeldSpace → List SpaceContents → List SpaceContents → Type 0
 Same P hs c d = (s p : ℕ) → P p → has_page hs s p ≡ true → pages_of c s p ≡ pages_of d s p
 
-same_rest : (P : ℕ → Type 0) (h : HeaderSpace) (hs : List HeaderSpace) (x y : SpaceContents) (xs ys : List SpaceContents) → are_in_order h.space hs ≡ true → x.info.space ≡ h.space → y.info.space ≡ h.space → Same P (h ∷ hs) (x ∷ xs) (y ∷ ys) → Same P hs xs ys
+same_rest : (P : ℕ → Type 0) (h : HeldSpace) (hs : List HeldSpace) (x y : SpaceContents) (xs ys : List SpaceContents) → are_in_order h.space hs ≡ true → x.info.space ≡ h.space → y.info.space ≡ h.space → Same P (h ∷ hs) (x ∷ xs) (y ∷ ys) → Same P hs xs ys
 same_rest P h hs x y xs ys order ex ey same s p ok is =
     let o : nat_eq h.space s ≡ false = other h hs s p order is in
     let there : has_page (h ∷ hs) s p ≡ true = if_false (nat_eq h.space s) (nat_lt p h.pages) (has_page hs s p) o ∙ is in
@@ -85,7 +85,7 @@ same_rest P h hs x y xs ys order ex ey same s p ok is =
     ∙ same s p ok there
     ∙ if_false (nat_eq y.info.space s) (page_in y p) (pages_of ys s p) (ap (λ (n : ℕ). nat_eq n s) ey ∙ o)
 
-same_first : (P : ℕ → Type 0) (h : HeaderSpace) (hs : List HeaderSpace) (x y : SpaceContents) (xs ys : List SpaceContents) (p : ℕ) → x.info.space ≡ h.space → y.info.space ≡ h.space → P p → p < h.pages → Same P (h ∷ hs) (x ∷ xs) (y ∷ ys) → page_in x p ≡ page_in y p
+same_first : (P : ℕ → Type 0) (h : HeldSpace) (hs : List HeldSpace) (x y : SpaceContents) (xs ys : List SpaceContents) (p : ℕ) → x.info.space ≡ h.space → y.info.space ≡ h.space → P p → p < h.pages → Same P (h ∷ hs) (x ∷ xs) (y ∷ ys) → page_in x p ≡ page_in y p
 same_first P h hs x y xs ys p ex ey ok lt same =
     let own : nat_eq h.space h.space ≡ true = grind (arith, nat_tests) in
     let below : nat_lt p h.pages ≡ true = grind (arith, nat_tests) in
@@ -110,7 +110,7 @@ one_space x y long same =
     (λ i. record { info = info i; pages = pages i })
 
 -- contents of these spaces with equal pages are equal
-pub contents_one : (id : ℕ) (hs : List HeaderSpace) (c d : List SpaceContents) → are_in_order id hs ≡ true → HaveSpaces hs c → HaveSpaces hs d → ((s p : ℕ) → has_page hs s p ≡ true → pages_of c s p ≡ pages_of d s p) → c ≡ d
+pub contents_one : (id : ℕ) (hs : List HeldSpace) (c d : List SpaceContents) → are_in_order id hs ≡ true → HaveSpaces hs c → HaveSpaces hs d → ((s p : ℕ) → has_page hs s p ≡ true → pages_of c s p ≡ pages_of d s p) → c ≡ d
 contents_one id [] [] [] order hc hd same = refl
 contents_one id [] [] (y ∷ ys) order hc hd same = absurd hd
 contents_one id [] (x ∷ xs) d order hc hd same = absurd hc
@@ -124,7 +124,7 @@ contents_one id (h ∷ hs) (x ∷ xs) (y ∷ ys) order (ex, nx, kx, lx, rx) (ey,
     (λ i. first i ∷ rest i)
 
 -- and contents with equal pages 0 have equal salts
-pub salts_one : (id : ℕ) (hs : List HeaderSpace) (c d : List SpaceContents) → are_in_order id hs ≡ true → HaveSpaces hs c → HaveSpaces hs d → ((s : ℕ) → has_page hs s 0 ≡ true → pages_of c s 0 ≡ pages_of d s 0) → (s : ℕ) → salts_of c s ≡ salts_of d s
+pub salts_one : (id : ℕ) (hs : List HeldSpace) (c d : List SpaceContents) → are_in_order id hs ≡ true → HaveSpaces hs c → HaveSpaces hs d → ((s : ℕ) → has_page hs s 0 ≡ true → pages_of c s 0 ≡ pages_of d s 0) → (s : ℕ) → salts_of c s ≡ salts_of d s
 salts_one id [] [] [] order hc hd same s = refl
 salts_one id [] [] (y ∷ ys) order hc hd same s = absurd hd
 salts_one id [] (x ∷ xs) d order hc hd same s = absurd hc

@@ -9,7 +9,7 @@ use Rattle.redo_text.specs.declared.change.Change.TheVariants.{Put, Kind, Touch,
 use Rattle.store_model.specs.declared.contents.PlainPage.{PlainPage}
 use Rattle.store_model.specs.declared.contents.SpaceContents.{SpaceContents}
 use Rattle.space_head.specs.declared.space.SpaceInfo.{SpaceInfo}
-use Rattle.store_files.specs.Header.{HeaderSpace}
+use Rattle.store_files.specs.Header.{HeldSpace}
 use Rattle.store_files.specs.Pages.{Page, Head, Unused, Used, change_names, plain_in, page_after, mtr_acts, page_held, page_in, pages_of, salts_of, has_page, HaveSpaces}
 
 -- ---- one page of one space
@@ -143,7 +143,7 @@ keeps c x = by (nat_eq x.info.space (space_of c))
     by true = keeps_change c x
     by false = record { space = refl; pages = refl; key_id = refl; salt = refl; long = refl }
 
-pub spaces_changed : (c : Change) (hs : List HeaderSpace) (xs : List SpaceContents) → HaveSpaces hs xs → HaveSpaces hs (changed c xs)
+pub spaces_changed : (c : Change) (hs : List HeldSpace) (xs : List SpaceContents) → HaveSpaces hs xs → HaveSpaces hs (changed c xs)
 spaces_changed c [] [] have = tt
 spaces_changed c [] (x ∷ xs) have = absurd have
 spaces_changed c (h ∷ hs) [] have = absurd have
@@ -153,7 +153,7 @@ pub salts_changed : (c : Change) (xs : List SpaceContents) (s : ℕ) → salts_o
 salts_changed c [] s = refl
 salts_changed c (x ∷ xs) s = let e = keeps c x in (λ i. if nat_eq (e.space i) s then e.salt i else salts_changed c xs s i)
 
-pub pages_changed : (c : Change) (hs : List HeaderSpace) (xs : List SpaceContents) → HaveSpaces hs xs → (s p : ℕ) → has_page hs s p ≡ true → pages_of (changed c xs) s p ≡ acted c s p (pages_of xs s p)
+pub pages_changed : (c : Change) (hs : List HeldSpace) (xs : List SpaceContents) → HaveSpaces hs xs → (s p : ℕ) → has_page hs s p ≡ true → pages_of (changed c xs) s p ≡ acted c s p (pages_of xs s p)
 pages_changed c [] xs have s p there = absurd (true≢false (sym there))
 pages_changed c (h ∷ hs) [] have s p there = absurd have
 pages_changed c (h ∷ hs) (x ∷ xs) (e, n, k, l, rest) s p there = by (nat_eq h.space s) refl (pages_changed c hs xs rest s p) there
@@ -182,7 +182,7 @@ pages_changed c (h ∷ hs) (x ∷ xs) (e, n, k, l, rest) s p there = by (nat_eq 
 
 -- ---- a mini-transaction, and a journal
 
-pub spaces_after : (m : List Change) (hs : List HeaderSpace) (xs : List SpaceContents) → HaveSpaces hs xs → HaveSpaces hs (after m xs)
+pub spaces_after : (m : List Change) (hs : List HeldSpace) (xs : List SpaceContents) → HaveSpaces hs xs → HaveSpaces hs (after m xs)
 spaces_after [] hs xs have = have
 spaces_after (c ∷ cs) hs xs have = spaces_after cs hs (changed c xs) (spaces_changed c hs xs have)
 
@@ -190,11 +190,11 @@ pub salts_after : (m : List Change) (xs : List SpaceContents) (s : ℕ) → salt
 salts_after [] xs s = refl
 salts_after (c ∷ cs) xs s = salts_after cs (changed c xs) s ∙ salts_changed c xs s
 
-pub pages_after : (m : List Change) (hs : List HeaderSpace) (xs : List SpaceContents) → HaveSpaces hs xs → (s p : ℕ) → has_page hs s p ≡ true → pages_of (after m xs) s p ≡ mtr_acts m s p (pages_of xs s p)
+pub pages_after : (m : List Change) (hs : List HeldSpace) (xs : List SpaceContents) → HaveSpaces hs xs → (s p : ℕ) → has_page hs s p ≡ true → pages_of (after m xs) s p ≡ mtr_acts m s p (pages_of xs s p)
 pages_after [] hs xs have s p there = refl
 pages_after (c ∷ cs) hs xs have s p there = pages_after cs hs (changed c xs) (spaces_changed c hs xs have) s p there ∙ ap (mtr_acts cs s p) (pages_changed c hs xs have s p there)
 
-pub spaces_folded : (ms : List (List Change)) (hs : List HeaderSpace) (xs : List SpaceContents) → HaveSpaces hs xs → HaveSpaces hs (fold ms xs)
+pub spaces_folded : (ms : List (List Change)) (hs : List HeldSpace) (xs : List SpaceContents) → HaveSpaces hs xs → HaveSpaces hs (fold ms xs)
 spaces_folded [] hs xs have = have
 spaces_folded (m ∷ ms) hs xs have = spaces_folded ms hs (after m xs) (spaces_after m hs xs have)
 

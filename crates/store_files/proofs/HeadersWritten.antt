@@ -18,16 +18,16 @@ use Rattle.byte_list.proofs.RangeLaws.{range_at}
 use Rattle.page_places.specs.Texts.{ends_in_sum}
 use Rattle.page_places.proofs.Sums.{and_left, and_right, and_both, not_true, ends-ends_in_sum, torn_page}
 use Rattle.byte_list.proofs.RangeLaws.{length-zeros}
-use Rattle.store_files.specs.Header.{HeaderSpace, Header, spaces_at, are_in_order, pages_together, are_allowed, algorithm_code, header_fields, is_header, header_in, space_words, header_words, header_front, header_bytes, KeyIdsFit, IsWritableHeader}
+use Rattle.store_files.specs.Header.{HeldSpace, HeldHeader, spaces_at, are_in_order, pages_together, are_allowed, algorithm_code, header_fields, is_header, header_in, space_words, header_words, header_front, header_bytes, KeyIdsFit, IsWritableHeader}
 
 -- ---- spaces
 
 -- the numbers of each space have four bytes
-abbrev Fit : List HeaderSpace → Type 0
+abbrev Fit : List HeldSpace → Type 0
 Fit [] = Unit {0}
 Fit (s ∷ ss) = (s.space < 2 ^ 32) × (s.pages < 2 ^ 32) × (s.key_id < 2 ^ 32) × Fit ss
 
-fits : (id : ℕ) (ss : List HeaderSpace) → are_in_order id ss ≡ true → pages_together ss ≤ 16384 → KeyIdsFit ss → Fit ss
+fits : (id : ℕ) (ss : List HeldSpace) → are_in_order id ss ≡ true → pages_together ss ≤ 16384 → KeyIdsFit ss → Fit ss
 unfolding are_in_order pages_together
 fits id [] order few keys = tt
 fits id (s ∷ ss) order few keys =
@@ -37,13 +37,13 @@ fits id (s ∷ ss) order few keys =
     let limit : s.space ≤ 4294967279 = grind (arith, nat_tests) in
     (omega (arith, limit), omega (arith, few), keys.0, fits s.space ss rest (omega (arith, few)) keys.1)
 
-length-space_words : (ss : List HeaderSpace) → length (space_words ss) ≡ 12 * length ss
+length-space_words : (ss : List HeldSpace) → length (space_words ss) ≡ 12 * length ss
 unfolding space_words
 length-space_words [] = refl
 length-space_words (s ∷ ss) = omega (arith, length-space_words ss)
 
 -- the spaces are read where their words stand
-spaces_read : (b front : List ℕ) (ss : List HeaderSpace) (rest : List ℕ) (at : ℕ) → length front ≡ at → b ≡ front ++ (space_words ss ++ rest) → Fit ss → spaces_at b at (length ss) ≡ ss
+spaces_read : (b front : List ℕ) (ss : List HeldSpace) (rest : List ℕ) (at : ℕ) → length front ≡ at → b ≡ front ++ (space_words ss ++ rest) → Fit ss → spaces_at b at (length ss) ≡ ss
 unfolding spaces_at space_words
 spaces_read b front [] rest at long is fit = refl
 spaces_read b front (s ∷ ss) rest at long is fit =
@@ -65,13 +65,13 @@ spaces_read b front (s ∷ ss) rest at long is fit =
 
 -- ---- the header
 
-record Limits (h : Header) : Type 0 where
+record Limits (h : HeldHeader) : Type 0 where
   blocks : h.blocks ≤ 4096
   count : length h.spaces ≤ 16
   order : are_in_order 0 h.spaces ≡ true
   few : pages_together h.spaces ≤ 16384
 
-limits : (h : Header) → are_allowed h ≡ true → Limits h
+limits : (h : HeldHeader) → are_allowed h ≡ true → Limits h
 unfolding are_allowed
 limits h is =
     let a = and_right (nat_le 32 h.blocks) _ is in
@@ -107,7 +107,7 @@ pub no_header : (b : List ℕ) → ends_in_sum b ≡ false → header_in b ≡ N
 unfolding header_in
 no_header b isnt = ap (λ (v : Bool). if v then Some (header_fields b) else None) (not_true (is_header b) (λ valid. true≢false (sym (header_ends b valid) ∙ isnt)))
 
-module _ (h : Header) (is : IsWritableHeader h) where
+module _ (h : HeldHeader) (is : IsWritableHeader h) where
   abbrev b : List ℕ
   b = header_bytes h
 

@@ -9,12 +9,12 @@ use Rattle.redo_text.specs.declared.change.Change.{Change}
 use Rattle.redo_text.specs.declared.change.Change.TheVariants.{Put, Kind, Touch, Floor, Encrypt}
 use Rattle.store_model.specs.declared.contents.PlainPage.{PlainPage}
 use Rattle.space_head.specs.declared.space.SpaceInfo.{SpaceInfo}
-use Rattle.store_files.specs.Header.{Header, HeaderSpace}
+use Rattle.store_files.specs.Header.{HeldHeader, HeldSpace}
 use Rattle.store_files.specs.Pages.{Page, Head, Unused, Used, change_names, mtr_names, page_after, mtr_acts, is_used, has_page, key_at, head_page, HasKeyBytes, IsTypedInfo, MeansPage}
 use Rattle.store_files.proofs.HeadsOnce.{head_one}
 use Rattle.store_files.proofs.TextsOnce.{plain_one}
 
-pub has_head_page : (spaces : List HeaderSpace) (s p : ℕ) → has_page spaces s p ≡ true → has_page spaces s 0 ≡ true
+pub has_head_page : (spaces : List HeldSpace) (s p : ℕ) → has_page spaces s p ≡ true → has_page spaces s 0 ≡ true
 has_head_page [] s p is = absurd (true≢false (sym is))
 has_head_page (x ∷ xs) s p is = by (nat_eq x.space s) (has_head_page xs s p) is
   where
@@ -85,7 +85,7 @@ one_text t u a b c = λ i. record { lsn = a i; version = b i; bytes = c i }
 one_page : (a b : PlainPage) → ◌≡◌ {A = Plain} (record { kind = a.kind; bytes = a.body }) (record { kind = b.kind; bytes = b.body }) → a ≡ b
 one_page a b same = λ i. record { kind = (same i).kind; body = (same i).bytes }
 
-module _ (header : Header) (keys : List RingEntry) (salts : ℕ → List ℕ) where
+module _ (header : HeldHeader) (keys : List RingEntry) (salts : ℕ → List ℕ) where
   pub means_one : (s p : ℕ) (t : Text) (x y : Page) → MeansPage header keys salts s p t x → MeansPage header keys salts s p t y → x ≡ y
   means_one s p t (Head a) (Head b) (z, na, ta, xa) (z', nb, tb, xb) =
       ap Head (head_one a b ta tb (plain_one 16384 s 0 t.lsn t.version None (head_page a) (head_page b) t.bytes tt xa xb))

@@ -11,7 +11,7 @@ use Rattle.store_image.specs.Checkpoint.{HeldCheckpoint, side_of}
 use Rattle.redo_text.specs.declared.change.Change.{Change}
 use Rattle.redo_text.proofs.ChangeLaws.{one_list}
 use Rattle.store_files.specs.Checkpoint.{checkpoint_in, IsNewestCheckpoint}
-use Rattle.store_files.specs.Header.{Header}
+use Rattle.store_files.specs.Header.{HeldHeader}
 use Rattle.store_files.specs.RingBlock.{block_text, IsMtrText}
 use Rattle.store_files.specs.Run.{block_at, MakeWholeMtr, HasText, AreLogEntries, IsRun, IsLogOf}
 
@@ -47,7 +47,7 @@ whole_one blocks file n k j wk wj = by (cases_lt k j) (cases_lt j k)
 pub changes_one : (text : List ℕ) (cs ds : List Change) → IsMtrText text cs → IsMtrText text ds → cs ≡ ds
 changes_one text cs ds a b = one_list cs ds a.allowed b.allowed (sym a.is ∙ b.is)
 
-module _ (header : Header) (keys : List RingEntry) (file : List ℕ) where
+module _ (header : HeldHeader) (keys : List RingEntry) (file : List ℕ) where
   pub text_one : (n k : ℕ) (t u : List ℕ) → HasText header keys file n k t → HasText header keys file n k u → t ≡ u
   text_one n zero t u ht hu = ht ∙ sym hu
   text_one n (suc k) t u (l, r, kl, hr, et) (m, s, km, hs, eu) =

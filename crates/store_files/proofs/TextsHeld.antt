@@ -17,7 +17,7 @@ use Rattle.page_places.proofs.Sums.{and_both, ends-ends_in_sum, torn_page}
 use Rattle.page_places.proofs.Texts.{held-text, held-torn, slot-holds}
 use Rattle.store_image.specs.View.{Text, Held, Holds, Slot}
 use Rattle.store_model.specs.declared.contents.PlainPage.{PlainPage}
-use Rattle.store_files.specs.Header.{Header}
+use Rattle.store_files.specs.Header.{HeldHeader}
 use Rattle.store_files.specs.Pages.{Head, Used, key_at, head_page, HasKeyBytes, IsTypedInfo, MeansPage}
 
 -- what the head of a text says in clear, and the text
@@ -57,7 +57,7 @@ module _ (size space page lsn version : ℕ) (key : Option PageKey) (plain : Pla
   sealed_slot batch fits = slot-holds space page batch bytes fits small sealed_is ∙ ap (λ (u : Text). Some (record { space = space; page = page; text = u })) sealed_text
 
 -- A text that was sealed for a page under the key of its version is that page's.
-module _ (header : Header) (keys : List RingEntry) (salts : ℕ → List ℕ) where
+module _ (header : HeldHeader) (keys : List RingEntry) (salts : ℕ → List ℕ) where
   pub sealed_means : (s p lsn version : ℕ) (page : PlainPage) (bytes : List ℕ) → p ≢ 0 → IfSome (key_at header keys salts s version) HasKeyBytes
       → IsText 16384 s p lsn version (key_at header keys salts s version) (record { kind = page.kind; bytes = page.body }) bytes → MeansPage header keys salts s p (text_at lsn version bytes) (Used page)
   sealed_means s p lsn version page bytes some key text = (some, key, text)

@@ -11,35 +11,35 @@ use Rattle.byte_list.specs.Bytes.{range, zeros}
 use Rattle.page_places.specs.Texts.{ends_in_sum}
 
 -- a space, as the header names it: its id, its pages, and the id of its key
-pub record HeaderSpace : Type 0 where
+pub record HeldSpace : Type 0 where
   pub space : ℕ
   pub pages : ℕ
   pub key_id : ℕ
 
 -- what a header says: the mode of the store, the number of ring blocks, the salt of the log's keys, and the spaces in order of id
-pub record Header : Type 0 where
+pub record HeldHeader : Type 0 where
   pub algorithm : Algorithm
   pub blocks : ℕ
   pub salt : List ℕ
-  pub spaces : List HeaderSpace
+  pub spaces : List HeldSpace
 
 -- n spaces from a byte on, 12 bytes each
-unfoldable pub spaces_at : List ℕ → ℕ → ℕ → List HeaderSpace
+unfoldable pub spaces_at : List ℕ → ℕ → ℕ → List HeldSpace
 spaces_at b at zero = []
 spaces_at b at (suc n) = record { space = be32_at b at; pages = be32_at b (at + 4); key_id = be32_at b (at + 8) } ∷ spaces_at b (at + 12) n
 
 -- each id is above the one before it, and ids, pages and key ids are within their limits
-unfoldable pub are_in_order : ℕ → List HeaderSpace → Bool
+unfoldable pub are_in_order : ℕ → List HeldSpace → Bool
 are_in_order id [] = true
 are_in_order id (s ∷ ss) = nat_lt id s.space && (nat_le s.space 4294967279 && (nat_le 2 s.pages && (nat_le 1 s.key_id && are_in_order s.space ss)))
 
 -- the pages of all spaces together
-unfoldable pub pages_together : List HeaderSpace → ℕ
+unfoldable pub pages_together : List HeldSpace → ℕ
 pages_together [] = 0
 pages_together (s ∷ ss) = s.pages + pages_together ss
 
 -- what a header says is within the limits: 32 to 4096 ring blocks, 1 to 16 spaces in order, and at most 16384 pages
-unfoldable pub are_allowed : Header → Bool
+unfoldable pub are_allowed : HeldHeader → Bool
 are_allowed h =
     nat_le 32 h.blocks && (nat_le h.blocks 4096 && (nat_le 1 (length h.spaces) && (nat_le (length h.spaces) 16
     && (are_in_order 0 h.spaces && nat_le (pages_together h.spaces) 16384))))
@@ -50,7 +50,7 @@ algorithm_code Cbc = 1
 algorithm_code Ctr = 2
 
 -- what the bytes say, were they a header
-unfoldable pub header_fields : List ℕ → Header
+unfoldable pub header_fields : List ℕ → HeldHeader
 header_fields b = record {
   algorithm = if nat_eq (be32_at b 240) 1 then Cbc else Ctr;
   blocks = be32_at b 16;
@@ -65,35 +65,35 @@ is_header b =
     && ((nat_eq (be32_at b 240) 1 || nat_eq (be32_at b 240) 2) && are_allowed (header_fields b)))))
 
 -- the header in a block of 4096 bytes, where it is valid
-unfoldable pub header_in : List ℕ → Option Header
+unfoldable pub header_in : List ℕ → Option HeldHeader
 header_in b = if is_header b then Some (header_fields b) else None
 
 -- the bytes of a header's spaces
-unfoldable pub space_words : List HeaderSpace → List ℕ
+unfoldable pub space_words : List HeldSpace → List ℕ
 space_words [] = []
 space_words (s ∷ ss) = (to_be_bytes w32 s.space ++ (to_be_bytes w32 s.pages ++ to_be_bytes w32 s.key_id)) ++ space_words ss
 
 -- the first 40 bytes of a header
-unfoldable pub header_words : Header → List ℕ
+unfoldable pub header_words : HeldHeader → List ℕ
 header_words h =
     codes "KEYSTOR1" ++ (to_be_bytes w32 2 ++ (to_be_bytes w32 16384 ++ (to_be_bytes w32 h.blocks ++ (to_be_bytes w32 (length h.spaces) ++ h.salt))))
 
 -- all bytes of a header before its checksum
-unfoldable pub header_front : Header → List ℕ
+unfoldable pub header_front : HeldHeader → List ℕ
 header_front h =
     header_words h ++ ((space_words h.spaces ++ zeros (200 - length (space_words h.spaces))) ++ (to_be_bytes w32 (algorithm_code h.algorithm) ++ zeros 3848))
 
 -- the block of a header
-unfoldable pub header_bytes : Header → List ℕ
+unfoldable pub header_bytes : HeldHeader → List ℕ
 header_bytes h = header_front h ++ to_be_bytes w32 (crc32c (header_front h))
 
 -- each key id has four bytes
-abbrev pub KeyIdsFit : List HeaderSpace → Type 0
+abbrev pub KeyIdsFit : List HeldSpace → Type 0
 KeyIdsFit [] = Unit {0}
 KeyIdsFit (s ∷ ss) = (s.key_id < 2 ^ 32) × KeyIdsFit ss
 
 -- a header that can be written: within the limits, with a salt of 16 bytes and key ids of four bytes
-pub record IsWritableHeader (h : Header) : Type 0 where
+pub record IsWritableHeader (h : HeldHeader) : Type 0 where
   pub allowed : are_allowed h ≡ true
   pub salt_long : length h.salt ≡ 16
   pub salt_bytes : AreBytes h.salt

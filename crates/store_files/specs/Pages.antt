@@ -17,7 +17,7 @@ use Rattle.redo_text.specs.declared.change.Change.TheVariants.{Put, Kind, Touch,
 use Rattle.store_model.specs.declared.contents.PlainPage.{PlainPage}
 use Rattle.space_head.specs.declared.space.SpaceInfo.{SpaceInfo}
 use Rattle.store_model.specs.declared.contents.SpaceContents.{SpaceContents}
-use Rattle.store_files.specs.Header.{Header, HeaderSpace}
+use Rattle.store_files.specs.Header.{HeldHeader, HeldSpace}
 
 -- what a page holds: page 0 the head of its space, any other page nothing yet, or a plain page
 pub data Page : Type 0 where
@@ -107,17 +107,17 @@ salts_of (x ∷ xs) s = if nat_eq x.info.space s then x.info.salt else salts_of 
 -- ---- the spaces of a header
 
 -- the store has this page
-abbrev pub has_page : List HeaderSpace → ℕ → ℕ → Bool
+abbrev pub has_page : List HeldSpace → ℕ → ℕ → Bool
 has_page [] s p = false
 has_page (x ∷ xs) s p = if nat_eq x.space s then nat_lt p x.pages else has_page xs s p
 
 -- the id of the key of a space
-abbrev pub key_id_of : List HeaderSpace → ℕ → ℕ
+abbrev pub key_id_of : List HeldSpace → ℕ → ℕ
 key_id_of [] s = 0
 key_id_of (x ∷ xs) s = if nat_eq x.space s then x.key_id else key_id_of xs s
 
 -- the contents have the header's spaces, with their ids, pages and key ids
-abbrev pub HaveSpaces : List HeaderSpace → List SpaceContents → Type 0
+abbrev pub HaveSpaces : List HeldSpace → List SpaceContents → Type 0
 HaveSpaces [] [] = Unit {0}
 HaveSpaces [] (x ∷ xs) = ⊥
 HaveSpaces (h ∷ hs) [] = ⊥
@@ -151,7 +151,7 @@ pub record HasKeyBytes (key : PageKey) : Type 0 where
   pub long : length key.local ≡ 16
   pub bytes : AreBytes key.local
 
-module _ (header : Header) (keys : List RingEntry) (salts : ℕ → List ℕ) where
+module _ (header : HeldHeader) (keys : List RingEntry) (salts : ℕ → List ℕ) where
   -- the key of a space's pages at a version
   abbrev pub key_at : ℕ → ℕ → Option PageKey
   key_at s version = option_map (λ local. record { local = local; algorithm = header.algorithm }) (local_key keys (key_id_of header.spaces s) version (salts s))

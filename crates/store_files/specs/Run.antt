@@ -8,7 +8,7 @@ use Rattle.store_image.specs.View.{Logged}
 use Rattle.redo_text.specs.declared.change.Change.{Change}
 use Rattle.redo_text.specs.Reading.{block_version}
 use Rattle.store_files.specs.Checkpoint.{IsNewestCheckpoint}
-use Rattle.store_files.specs.Header.{Header}
+use Rattle.store_files.specs.Header.{HeldHeader}
 use Rattle.store_files.specs.RingBlock.{is_ring_block, begins_mtr, ends_mtr, block_text, IsMtrText}
 
 -- the block at the place of number n, in a ring of so many blocks
@@ -41,7 +41,7 @@ module _ (blocks : ℕ) (file : List ℕ) where
   abbrev pub IsClear : ℕ → Type 0
   IsClear n = (i m : ℕ) → i < blocks → n ≤ m → is_ring_block m (place 4096 (3 + i) file) ≡ true → ⊥
 
-module _ (header : Header) (keys : List RingEntry) (file : List ℕ) where
+module _ (header : HeldHeader) (keys : List RingEntry) (file : List ℕ) where
   -- the text in the k blocks from n on, each under the local key of id 1 at its version
   abbrev pub HasText : ℕ → ℕ → List ℕ → Type 0
   HasText n zero text = text ≡ []

@@ -1,5 +1,5 @@
 use Rattle.std.proofs.Common.{◌≡◌, ◌∙◌, ◌&&◌, ◌+◌, ap, sym, drop, true, Bool, ℕ, List, nat_le, nat_lt, arith}
-use Rattle.store_files.specs.Header.{HeaderSpace, are_in_order}
+use Rattle.store_files.specs.Header.{HeldSpace, are_in_order}
 use Rattle.image_log.proofs.Headers.{drop_item, drop_none, order_cons, order_none}
 use Rattle.image_log.proofs.header.are_in_order.Goals as goal
 
@@ -8,7 +8,7 @@ returns-then-not-may_follow c =
     let x = c.space-item.result in
     let rest = drop (c.loop-space.space-index + 1) c.args.spaces.now in
     let left = drop_item c.args.spaces.now c.loop-space.space-index x (omega arith) c.space-item.is in
-    sym (sym c.loop-space.invariant ∙ ap (λ (l : List HeaderSpace). are_in_order c.loop-space.id l) left ∙ order_cons c.loop-space.id x rest
+    sym (sym c.loop-space.invariant ∙ ap (λ (l : List HeldSpace). are_in_order c.loop-space.id l) left ∙ order_cons c.loop-space.id x rest
     ∙ ap (λ (b : Bool). b && are_in_order x.space rest) (sym c.may_follow.ensures ∙ c.if-not-may_follow.true))
 
 pub loop-space-preserved : goal.loop-space-preserved
@@ -17,10 +17,10 @@ loop-space-preserved c =
     let rest = drop (c.loop-space.space-index + 1) c.args.spaces.now in
     let left = drop_item c.args.spaces.now c.loop-space.space-index x (omega arith) c.space-item.is in
     ap (λ (n : ℕ). are_in_order n rest) c.space-id.ensures
-    ∙ sym (ap (λ (l : List HeaderSpace). are_in_order c.loop-space.id l) left ∙ order_cons c.loop-space.id x rest
+    ∙ sym (ap (λ (l : List HeldSpace). are_in_order c.loop-space.id l) left ∙ order_cons c.loop-space.id x rest
     ∙ ap (λ (b : Bool). b && are_in_order x.space rest) (sym c.may_follow.ensures ∙ c.if-not-may_follow.false))
     ∙ c.loop-space.invariant
 
 pub returns : goal.returns
 returns c =
-    sym (order_none c.loop-space.id) ∙ ap (λ (l : List HeaderSpace). are_in_order c.loop-space.id l) (sym (drop_none c.args.spaces.now c.loop-space.space-index (omega arith))) ∙ c.loop-space.invariant
+    sym (order_none c.loop-space.id) ∙ ap (λ (l : List HeldSpace). are_in_order c.loop-space.id l) (sym (drop_none c.args.spaces.now c.loop-space.space-index (omega arith))) ∙ c.loop-space.invariant

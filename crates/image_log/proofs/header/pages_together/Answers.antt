@@ -1,5 +1,5 @@
 use Rattle.std.proofs.Common.{◌≡◌, ◌∙◌, ◌+◌, ap, sym, drop, List, arith}
-use Rattle.store_files.specs.Header.{HeaderSpace, pages_together}
+use Rattle.store_files.specs.Header.{HeldSpace, pages_together}
 use Rattle.image_log.proofs.Headers.{drop_item, drop_none, pages_cons, pages_none}
 use Rattle.image_log.proofs.header.pages_together.Goals as goal
 

@@ -1,12 +1,12 @@
 use Rattle.std.proofs.Common.{◌≡◌, ℕ, List, Option, Some, None, ap, sym, subst}
 use Rattle.key_ring.specs.Ring.{RingEntry}
 use Rattle.redo_text.specs.declared.change.Change.{Change}
-use Rattle.store_files.specs.Header.{Header}
+use Rattle.store_files.specs.Header.{HeldHeader}
 use Rattle.image_log.specs.Logs.{AreChangesOf, HasChanges, IsTextIn}
 use Rattle.image_log.proofs.Entries.{no_changes}
 use Rattle.image_log.proofs.log.entry_of.Goals as goal
 
-none_there : (header : Header) (keys : List RingEntry) (file : List ℕ) (n k : ℕ) (o : Option (List ℕ)) (text bytes : List ℕ) (p : Option (List Change)) → IsTextIn header keys file n k o → o ≡ Some text → bytes ≡ text → AreChangesOf bytes p → p ≡ None
+none_there : (header : HeldHeader) (keys : List RingEntry) (file : List ℕ) (n k : ℕ) (o : Option (List ℕ)) (text bytes : List ℕ) (p : Option (List Change)) → IsTextIn header keys file n k o → o ≡ Some text → bytes ≡ text → AreChangesOf bytes p → p ≡ None
     → (changes : List Change) → HasChanges header keys file n k changes → ⊥
 none_there header keys file n k o text bytes p is some same are none =
     no_changes header keys file n k text (subst (IsTextIn header keys file n k) some is) (subst (λ (q : Option (List Change)). AreChangesOf text q) none (subst (λ (b : List ℕ). AreChangesOf b p) same are))

@@ -1,12 +1,12 @@
 use Rattle.std.proofs.Common.{◌≡◌, ◌∙◌, ◌+◌, ◌++◌, ap, sym, subst, List, ℕ, Option, Some, None, arith}
 use Rattle.key_ring.specs.Ring.{RingEntry}
-use Rattle.store_files.specs.Header.{Header}
+use Rattle.store_files.specs.Header.{HeldHeader}
 use Rattle.store_files.specs.Run.{block_at, HasText}
 use Rattle.image_log.specs.Logs.{IsBlockText}
 use Rattle.image_log.proofs.MtrTexts.{Reads, reads_none, reads_more, reads_all, reads_missing}
 use Rattle.image_log.proofs.text.text_of.Goals as goal
 
-moved : (header : Header) (keys : List RingEntry) (file block : List ℕ) (n blocks : ℕ) (o p : Option (List ℕ)) → IsBlockText header keys block o → block ≡ block_at blocks file n → blocks ≡ header.blocks → o ≡ p → IsBlockText header keys (block_at header.blocks file n) p
+moved : (header : HeldHeader) (keys : List RingEntry) (file block : List ℕ) (n blocks : ℕ) (o p : Option (List ℕ)) → IsBlockText header keys block o → block ≡ block_at blocks file n → blocks ≡ header.blocks → o ≡ p → IsBlockText header keys (block_at header.blocks file n) p
 moved header keys file block n blocks o p is at same found = subst (λ (b : List ℕ). IsBlockText header keys b p) (at ∙ ap (λ (k : ℕ). block_at k file n) same) (subst (λ (q : Option (List ℕ)). IsBlockText header keys block q) found is)
 
 pub loop-i-init : goal.loop-i-init
