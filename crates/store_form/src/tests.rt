@@ -1,0 +1,50 @@
+// Headers by their bytes. The checksums are those of a CRC-32C bit by bit.
+use crate::{Header, read_header};
+use aes_core::Algorithm;
+use byte_list::fields::{put, put_be32};
+use std::process::Abort;
+use std::test::Fail;
+
+// The header of a store of 256 ring blocks and one space, 5, of 4 pages under key 1, salts of bytes 11 hex.
+fn block_of(algorithm: u32, pages: u32, sum: u32) -> [u8; 4096] {
+    let mut block = [0; 4096];
+    put(&mut block, 0, b"KEYSTOR1");
+    put_be32(&mut block, 8, 2);
+    put_be32(&mut block, 12, 16384);
+    put_be32(&mut block, 16, 256);
+    put_be32(&mut block, 20, 1);
+    put(&mut block, 24, &[0x11; 16]);
+    put_be32(&mut block, 40, 5);
+    put_be32(&mut block, 44, pages);
+    put_be32(&mut block, 48, 1);
+    put_be32(&mut block, 240, algorithm);
+    put_be32(&mut block, 4092, sum);
+    block
+}
+
+#[test]
+fn a_header_is_read(rt: HostRuntime) -> Result<(), Fail> {
+    let Some(header) = read_header(&block_of(1, 4, 0xf721_fcef)) else {
+        return Err(Fail::new("no header"));
+    };
+    assert!(rt; header.format == 2 && header.algorithm == Algorithm::Cbc);
+    assert!(rt; header.blocks == 256 && header.salt == [0x11; 16]);
+    assert!(rt; header.count == 1 && header.spaces[0].space == 5);
+    assert!(rt; header.spaces[0].pages == 4 && header.spaces[0].key_id == 1);
+    let Some(header) = read_header(&block_of(2, 16384, 0x6e5e_9b3e)) else {
+        return Err(Fail::new("no header"));
+    };
+    assert!(rt; header.algorithm == Algorithm::Ctr);
+    Ok(())
+}
+
+// Each has a right checksum but the last two.
+#[test]
+fn another_header_is_not_read(rt: HostRuntime) {
+    assert!(rt; read_header(&block_of(3, 4, 0x53bc_2cd9)).is_none());
+    assert!(rt; read_header(&block_of(0, 4, 0xa56f_14f4)).is_none());
+    assert!(rt; read_header(&block_of(1, 16385, 0x9388_2b02)).is_none());
+    assert!(rt; read_header(&block_of(1, 1, 0xd032_54ba)).is_none());
+    assert!(rt; read_header(&block_of(1, 5, 0xf721_fcef)).is_none());
+    assert!(rt; read_header(&[0; 4096]).is_none());
+}
