@@ -6,3 +6,4 @@ pub mod Restore
 pub mod Group
 pub mod Refuse
 pub mod Images
+pub mod Chosen

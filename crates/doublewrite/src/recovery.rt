@@ -8,6 +8,10 @@ ghost use Rattle.places.specs.Batches.{From};
 ghost use Rattle.places.specs.Places.{HasPlaces};
 ghost use Rattle.page_places.specs.Texts.{slots};
 ghost use Rattle.doublewrite.specs.Restore.{AreSpacesApart, AreRestored, HaveAll, IsRestoreEvent, HomesRestored, HomesRestoring, SpacesFilling, SpacesRestored, space_at};
+ghost use Rattle.store_image.specs.Places.{log_of};
+ghost use Rattle.store_image.specs.View.{View};
+ghost use Rattle.page_places.specs.Views.{IsReadAs};
+ghost use Rattle.doublewrite.specs.Chosen.{ChosenHold, ChosenMay};
 ghost use Rattle.doublewrite.specs.Refuse.{IsDiskRefuse};
 ghost use Rattle.doublewrite.specs.declared.refuse.OpenRefuse.TheVariants.{DiskFault};
 
@@ -85,14 +89,12 @@ fn restore_from_copies<D: Disk>(
     restore_spaces(disk, spaces, &copies, &mut page)
 }
 
-/// Writes each home that holds no text of its page from the newest copy of the page in the
-/// doublewrite file, where there is one, and syncs each space that was written.
-///
-/// # Errors
-/// [`OpenRefuse::DiskFault`] only where the disk's count of faults rose, [`OpenRefuse::OutOfMemory`]
-/// where there was no memory. A home that was to be written then holds what it held, its copy's text,
-/// or is torn.
-pub fn restore<D: Disk>(alloc: Global, disk: &mut D, spaces: &[SpaceInfo]) -> Result<(), OpenRefuse>
+// Restores, and names the refusal.
+fn restore_or_refuse<D: Disk>(
+    alloc: Global,
+    disk: &mut D,
+    spaces: &[SpaceInfo],
+) -> Result<(), OpenRefuse>
     requires apart { AreSpacesApart spaces.now }
     requires double { At (HasPlaces Double slots) (D.past disk.old) }
     requires places { At (HaveAll spaces.now) (D.past disk.old) }
@@ -109,4 +111,27 @@ pub fn restore<D: Disk>(alloc: Global, disk: &mut D, spaces: &[SpaceInfo]) -> Re
         Err(DiskError::Failed) => Err(OpenRefuse::DiskFault),
         Err(DiskError::NoMemory) => Err(OpenRefuse::OutOfMemory),
     }
+}
+
+/// Writes each home that holds no text of its page from the newest copy of the page in the
+/// doublewrite file, where there is one, and syncs each space that was written.
+///
+/// # Errors
+/// [`OpenRefuse::DiskFault`] only where the disk's count of faults rose, [`OpenRefuse::OutOfMemory`]
+/// where there was no memory. A home that was to be written then holds what it held, its copy's text,
+/// or is torn.
+pub fn restore<D: Disk>(alloc: Global, disk: &mut D, spaces: &[SpaceInfo]) -> Result<(), OpenRefuse>
+    requires apart { AreSpacesApart spaces.now }
+    requires double { At (HasPlaces Double slots) (D.past disk.old) }
+    requires places { At (HaveAll spaces.now) (D.past disk.old) }
+    ensures does { Does (From (HomesRestoring spaces.now) (D.past disk.old)) (IsRestoreEvent spaces.now) (From (HomesRestored spaces.now) (D.past disk.old)) (D.past disk.old) (D.past disk.new) result }
+    ensures chosen { (v : View (Unit {0})) → At (IsReadAs (λ l. l ≡ log_of v) v) (D.past disk.old) → Does (ChosenMay v) (IsRestoreEvent spaces.now) (ChosenHold v spaces.now) (D.past disk.old) (D.past disk.new) result }
+    ensures refuses { IfErr result IsDiskRefuse }
+    ensures later { D.is_later disk.old disk.new }
+    ensures cause { HasCauseOf DiskFault (D.faults disk.old) (D.faults disk.new) result }
+    ensures memory { D.memory_refusals disk.old ≤ D.memory_refusals disk.new }
+    ensures no_fault { OnOk result (D.faults disk.new ≡ D.faults disk.old) }
+    ensures no_refusal { OnOk result (D.memory_refusals disk.new ≡ D.memory_refusals disk.old) }
+{
+    restore_or_refuse(alloc, disk, spaces)
 }
