@@ -1,5 +1,8 @@
 use Rattle.std.proofs.lemmas.Result.{on_ok_weaker}
 use Rattle.places.proofs.Batches.{at_end}
+use Rattle.disk_model.proofs.Moments.{at_each}
+use Rattle.redo_log.specs.Events.{side_batch}
+use Rattle.redo_log.proofs.BlockSteps.{places_after}
 use Rattle.redo_log.proofs.FreshLog.{fresh_ready}
 use Rattle.redo_log.proofs.checkpoint.write_first_checkpoint.Goals as goal
 
@@ -7,3 +10,6 @@ pub returns-clause-ready : goal.returns-clause-ready
 returns-clause-ready g c = λ keys.
     let does = c.settle_check.ensures.does in
     on_ok_weaker c.settle_check.result (λ at. at_end (λ s m made t. fresh_ready keys c.args.blocks c.requires.least s m made t) does.moments.later c.requires.made at) does.next
+
+pub returns-clause-places : goal.returns-clause-places
+returns-clause-places g c = places_after {b = side_batch 1 2} {k = 1} c.args.blocks (at_each (λ es fresh. fresh.places) c.requires.made) c.settle_check.ensures.does

@@ -1,0 +1,315 @@
+// Copies of a disk that stop at each turn of a call, and the three crashes of each.
+ghost use Rattle.std.specs.Prelude.{◌≡◌, ℕ, ◌+◌, ◌*◌, ◌<◌, ◌≤◌, Some, OnOk, IfOk, length};
+ghost use Rattle.disk_model.specs.Contents.{events};
+ghost use Rattle.disk_model.specs.Past.{At};
+ghost use Rattle.disk_model.specs.declared.names.FileName.TheVariants.{Log as LogFile};
+ghost use Rattle.places.specs.Places.{HasPlaces};
+ghost use Rattle.redo_log.specs.Blocks.{file_layout};
+
+use crate::reading::{has_blocks, read_run};
+use crate::session::{
+    DrillHalt, RING_BLOCKS, append_eight, halt_of, make_log, move_from, whole_of, write_all,
+};
+use disk_model::{Choice, Disk, MemDisk};
+use redo_log::{Checkpoint, Log, scan};
+use std::alloc::Global;
+
+/// Eight blocks are appended in each.
+const ROUNDS: u64 = 12;
+
+/// How many images were looked at, and in how many of them the log is as it must be.
+#[derive(Clone, Copy, Debug, PartialEq, Eq)]
+pub struct CrashTally {
+    pub rows: u64,
+    pub sound: u64,
+}
+
+// What the log of an image must say: its newest checkpoint, and the number behind its run.
+#[derive(Clone, Copy)]
+struct Expected {
+    checkpoint: Checkpoint,
+    end: u64,
+}
+
+// What the log has on the disk for certain.
+fn settled(log: &Log) -> Expected {
+    Expected {
+        checkpoint: Checkpoint {
+            sequence: log.sequence(),
+            from: log.from(),
+        },
+        end: log.durable(),
+    }
+}
+
+// The disk after a crash in which each unsynced write has this choice.
+fn crashed(disk: &MemDisk, choice: Choice) -> Result<MemDisk, DrillHalt>
+    requires { HasPlaces LogFile (file_layout 32) (events disk.now.contents) }
+    ensures { IfOk result (λ after. HasPlaces LogFile (file_layout 32) (events after.contents)) }
+{
+    let Ok(after) = disk.crash(&[choice]) else {
+        return Err(DrillHalt::OutOfMemory);
+    };
+    Ok(after)
+}
+
+// Whether the log of a crashed disk says this, and its run has the blocks of the session.
+fn is_sound<D: Disk>(
+    alloc: Global,
+    disk: &mut D,
+    blocks: &[u8],
+    expected: Expected,
+) -> Result<bool, DrillHalt>
+    requires { At (HasPlaces LogFile (file_layout 32)) (D.past disk.old) }
+{
+    let held = match read_run(alloc, disk) {
+        Ok(Some(held)) => held,
+        Ok(None) => return Ok(false),
+        Err(error) => return Err(halt_of(error)),
+    };
+    let from = held.checkpoint.from;
+    let end = held.run.last.saturating_add(1);
+    if held.checkpoint != expected.checkpoint || end != expected.end {
+        return Ok(false);
+    }
+    if from < 2 || end > 1000 {
+        return Ok(false);
+    }
+    match has_blocks(disk, blocks, from, end) {
+        Ok(same) => Ok(same),
+        Err(error) => Err(halt_of(error)),
+    }
+}
+
+// Crashes the disk with each unsynced write lost, kept and torn.
+fn crash_rows(
+    alloc: Global,
+    disk: &MemDisk,
+    blocks: &[u8],
+    settled: Expected,
+    kept: Expected,
+    tally: &mut CrashTally,
+) -> Result<(), DrillHalt>
+    requires { HasPlaces LogFile (file_layout 32) (events disk.now.contents) }
+{
+    for choice in [Choice::Lost, Choice::Kept, Choice::Torn] {
+        let expected = match choice {
+            Choice::Kept => kept,
+            _ => settled,
+        };
+        let mut after = crashed(disk, choice)?;
+        tally.rows = tally.rows.saturating_add(1);
+        if is_sound(alloc, &mut after, blocks, expected)? {
+            tally.sound = tally.sound.saturating_add(1);
+        }
+    }
+    Ok(())
+}
+
+// A call was to meet the stop of its disk.
+fn stopped(done: Result<(), DrillHalt>) -> Result<(), DrillHalt> {
+    match done {
+        Ok(()) => Err(DrillHalt::NotStopped),
+        Err(DrillHalt::DiskFault) => Ok(()),
+        Err(halt) => Err(halt),
+    }
+}
+
+// Writes the eight pending blocks out on a copy of the disk that stops at this turn. The log stays.
+fn stop_out(
+    alloc: Global,
+    disk: &MemDisk,
+    log: &mut Log,
+    blocks: &[u8],
+    turn: u64,
+    tally: &mut CrashTally,
+) -> Result<(), DrillHalt>
+    requires ring { log.old.blocks ≡ 32 }
+    requires places { HasPlaces LogFile (file_layout 32) (events disk.now.contents) }
+    ensures ring { log.new.blocks ≡ 32 }
+{
+    let mut copy = crashed(disk, Choice::Kept)?;
+    copy.stop_at(turn);
+    stopped(write_all(&mut copy, log))?;
+    let settled = settled(log);
+    let kept = Expected {
+        checkpoint: settled.checkpoint,
+        end: settled.end.saturating_add(whole_of(turn)),
+    };
+    crash_rows(alloc, &copy, blocks, settled, kept, tally)
+}
+
+// Writes the next checkpoint on a copy of the disk that stops at this turn. The log stays.
+fn stop_checkpoint(
+    alloc: Global,
+    disk: &MemDisk,
+    log: &mut Log,
+    blocks: &[u8],
+    from: u64,
+    turn: u64,
+    tally: &mut CrashTally,
+) -> Result<(), DrillHalt>
+    requires ring { log.old.blocks ≡ 32 }
+    requires places { HasPlaces LogFile (file_layout 32) (events disk.now.contents) }
+    ensures ring { log.new.blocks ≡ 32 }
+{
+    let mut copy = crashed(disk, Choice::Kept)?;
+    copy.stop_at(turn);
+    stopped(move_from(&mut copy, log, from))?;
+    let settled = settled(log);
+    let kept = Expected {
+        checkpoint: Checkpoint {
+            sequence: settled.checkpoint.sequence.saturating_add(1),
+            from,
+        },
+        end: settled.end,
+    };
+    crash_rows(alloc, &copy, blocks, settled, kept, tally)
+}
+
+// Writes the eight pending blocks out, once for each turn with a stop there, and then without one.
+fn drill_out(
+    alloc: Global,
+    disk: &mut MemDisk,
+    log: &mut Log,
+    blocks: &[u8],
+    tally: &mut CrashTally,
+) -> Result<(), DrillHalt>
+    requires ring { log.old.blocks ≡ 32 }
+    requires places { HasPlaces LogFile (file_layout 32) (events disk.old.contents) }
+    ensures ring { log.new.blocks ≡ 32 }
+    ensures places { HasPlaces LogFile (file_layout 32) (events disk.new.contents) }
+{
+    for turn in 1..10u64 {
+        stop_out(alloc, disk, log, blocks, turn, tally)?;
+    }
+    write_all(disk, log)?;
+    crash_rows(alloc, disk, blocks, settled(log), settled(log), tally)
+}
+
+// Writes the next checkpoint in the same way: of its two turns one is a write and one a sync.
+fn drill_checkpoint(
+    alloc: Global,
+    disk: &mut MemDisk,
+    log: &mut Log,
+    blocks: &[u8],
+    from: u64,
+    tally: &mut CrashTally,
+) -> Result<(), DrillHalt>
+    requires ring { log.old.blocks ≡ 32 }
+    requires places { HasPlaces LogFile (file_layout 32) (events disk.old.contents) }
+    ensures ring { log.new.blocks ≡ 32 }
+    ensures places { HasPlaces LogFile (file_layout 32) (events disk.new.contents) }
+{
+    for turn in 1..3u64 {
+        stop_checkpoint(alloc, disk, log, blocks, from, turn, tally)?;
+    }
+    move_from(disk, log, from)?;
+    crash_rows(alloc, disk, blocks, settled(log), settled(log), tally)
+}
+
+// Eight blocks more. Where the checkpoint moves, the run then begins with them.
+fn drill_round(
+    alloc: Global,
+    disk: &mut MemDisk,
+    log: &mut Log,
+    blocks: &mut Vec<u8>,
+    moves: bool,
+    tally: &mut CrashTally,
+) -> Result<(), DrillHalt>
+    requires ring { log.old.blocks ≡ 32 }
+    requires places { HasPlaces LogFile (file_layout 32) (events disk.old.contents) }
+    ensures ring { log.new.blocks ≡ 32 }
+    ensures places { OnOk result (HasPlaces LogFile (file_layout 32) (events disk.new.contents)) }
+{
+    let from = log.next();
+    append_eight(alloc, log, blocks)?;
+    drill_out(alloc, disk, log, blocks, tally)?;
+    if moves {
+        drill_checkpoint(alloc, disk, log, blocks, from, tally)?;
+    }
+    *disk = crashed(disk, Choice::Kept)?;
+    Ok(())
+}
+
+// The same with no crash on the way.
+fn plain_round(
+    alloc: Global,
+    disk: &mut MemDisk,
+    log: &mut Log,
+    blocks: &mut Vec<u8>,
+    moves: bool,
+) -> Result<(), DrillHalt>
+    requires ring { log.old.blocks ≡ 32 }
+    requires places { HasPlaces LogFile (file_layout 32) (events disk.old.contents) }
+    ensures ring { log.new.blocks ≡ 32 }
+    ensures places { OnOk result (HasPlaces LogFile (file_layout 32) (events disk.new.contents)) }
+{
+    let from = log.next();
+    append_eight(alloc, log, blocks)?;
+    write_all(disk, log)?;
+    if moves {
+        move_from(disk, log, from)?;
+    }
+    *disk = crashed(disk, Choice::Kept)?;
+    Ok(())
+}
+
+/// Goes three times round a ring of 32 blocks: 96 blocks are appended in twelve rounds, and the run
+/// begins anew in each third one, before three of which the ring is full. In one of the three turns of
+/// the ring, from 0, each call of the log is made on a copy of the disk for each of the call's turns,
+/// stops there, and the copy crashes with each unsynced write lost, kept and torn; then it is made on
+/// the disk itself, which crashes in the same three ways.
+///
+/// # Errors
+/// A refusal that is no stop of a disk.
+pub fn drill_log(alloc: Global, ring_turn: u64) -> Result<CrashTally, DrillHalt> {
+    let mut disk = MemDisk::new(alloc, Vec::new(alloc));
+    make_log(&mut disk)?;
+    let Ok(mut log) = Log::new(alloc, RING_BLOCKS, 2, 1) else {
+        return Err(DrillHalt::OutOfMemory);
+    };
+    let mut blocks = Vec::new(alloc);
+    let mut tally = CrashTally { rows: 0, sound: 0 };
+    for round in 0..ROUNDS {
+        let moves = round % 3 == 2;
+        if round / 4 == ring_turn {
+            drill_round(alloc, &mut disk, &mut log, &mut blocks, moves, &mut tally)?;
+        } else {
+            plain_round(alloc, &mut disk, &mut log, &mut blocks, moves)?;
+        }
+    }
+    Ok(tally)
+}
+
+/// How many blocks the run of a log has, and how many calls of the disk its scan made.
+#[derive(Clone, Copy, Debug, PartialEq, Eq)]
+pub struct ScanCount {
+    pub blocks: u64,
+    pub calls: usize,
+}
+
+/// Appends and writes out eight blocks in each of so many rounds, and scans the log.
+///
+/// # Errors
+/// The first refusal.
+pub fn count_scan(alloc: Global, rounds: u64) -> Result<ScanCount, DrillHalt> {
+    let mut disk = MemDisk::new(alloc, Vec::new(alloc));
+    make_log(&mut disk)?;
+    let Ok(mut log) = Log::new(alloc, RING_BLOCKS, 2, 1) else {
+        return Err(DrillHalt::OutOfMemory);
+    };
+    let mut blocks = Vec::new(alloc);
+    for _ in 0..rounds {
+        plain_round(alloc, &mut disk, &mut log, &mut blocks, false)?;
+    }
+    let before = disk.calls().len();
+    let run = match scan(alloc, &mut disk, RING_BLOCKS, 2) {
+        Ok(run) => run,
+        Err(error) => return Err(halt_of(error)),
+    };
+    Ok(ScanCount {
+        blocks: run.last.saturating_sub(1),
+        calls: disk.calls().len().saturating_sub(before),
+    })
+}
