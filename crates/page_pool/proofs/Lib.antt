@@ -1,0 +1,7 @@
+pub mod Bodies
+pub mod Cleans
+pub mod Counts
+pub mod Entries
+pub mod HeadChanges
+pub mod Lists
+pub mod Named

@@ -1,0 +1,134 @@
+-- What the calls of a pool change.
+use Rattle.std.specs.Prelude.{◌≡◌, ℕ, zero, suc, ◌+◌, ◌<◌, ◌≤◌, ◌⊎◌, Bool, false, nat_eq, ◌||◌, if◌then◌else◌, List, [], ◌∷◌, length, take, slice_get, Some, MatchBool}
+use Rattle.std.specs.Int.{to_be_bytes, w32}
+use Rattle.std.specs.Map.{lookup, remove_entry}
+use Rattle.lru.specs.LruCache.{promoted}
+use Rattle.redo_text.specs.declared.change.Change.{Change}
+use Rattle.redo_text.specs.declared.change.Change.TheVariants.{Put, Kind, Touch, Floor, Encrypt}
+use Rattle.space_head.specs.Sizes.{record_place}
+use Rattle.store_model.specs.Fold.{used, written}
+use Rattle.store_model.specs.declared.contents.PlainPage.{PlainPage}
+use Rattle.page_pool.specs.declared.names.DirtyPage.{DirtyPage}
+use Rattle.page_pool.specs.declared.names.PageName.{PageName}
+use Rattle.page_pool.specs.declared.fault.PoolFault.{PoolFault}
+use Rattle.page_pool.specs.declared.fault.PoolFault.TheVariants.{Full, OutOfMemory}
+use Rattle.page_pool.specs.Pages.{DirtyList, PoolState, entered, is_dirty, is_held, is_name, is_named, place_of, without}
+
+abbrev pub body_written : ℕ → List ℕ → PlainPage → PlainPage
+body_written at bytes p = record { kind = p.kind; body = written at bytes p.body }
+
+abbrev pub kind_set : ℕ → PlainPage → PlainPage
+kind_set kind p = record { kind = kind; body = p.body }
+
+-- The page as a change of it leaves it, by the fold's words. In page 0 a floor is the least version of the crypt record, and a ciphered space has the record's type 1 and its mode 1.
+abbrev pub page_changed_by : Change → PlainPage → PlainPage
+page_changed_by (Put s page at bytes) p = body_written at bytes p
+page_changed_by (Kind s page kind) p = kind_set kind p
+page_changed_by (Touch s page) p = p
+page_changed_by (Floor s version) p = body_written (record_place 16384 + 24) (to_be_bytes w32 version) p
+page_changed_by (Encrypt s) p = body_written (record_place 16384 + 32) (1 ∷ []) (body_written (record_place 16384 + 6) (1 ∷ []) p)
+
+-- the page that a change names, page 0 for a change of the space itself
+abbrev pub page_of_change : Change → PageName
+page_of_change (Put s page at bytes) = record { space = s; page = page }
+page_of_change (Kind s page kind) = record { space = s; page = page }
+page_of_change (Touch s page) = record { space = s; page = page }
+page_of_change (Floor s version) = record { space = s; page = 0 }
+page_of_change (Encrypt s) = record { space = s; page = 0 }
+
+-- ---- a change
+
+-- the dirty pages with this LSN at the page of a name
+abbrev pub stamped : PageName → ℕ → List DirtyPage → List DirtyPage
+stamped name lsn [] = []
+stamped name lsn (d ∷ ds) = if is_named name d then (record { space = d.space; page = d.page; first = d.first; lsn = lsn }) ∷ ds else d ∷ stamped name lsn ds
+
+-- one of the pages changed
+abbrev pub changed_at : ℕ → (PlainPage → PlainPage) → List PlainPage → List PlainPage
+changed_at i f [] = []
+changed_at zero f (p ∷ ps) = f p ∷ ps
+changed_at (suc i) f (p ∷ ps) = p ∷ changed_at i f ps
+
+-- a page that is dirty is changed, and this is its LSN; its first block stays
+abbrev pub changed_again : PageName → ℕ → Change → DirtyList → DirtyList
+changed_again name lsn c list = record { entries = stamped name lsn list.entries; pages = changed_at (place_of name list.entries) (page_changed_by c) list.pages }
+
+-- a page that wasn't dirty is entered with its first block
+abbrev pub made_dirty : PageName → ℕ → ℕ → PlainPage → DirtyList → DirtyList
+made_dirty name lsn first page list = entered (record { space = name.space; page = name.page; first = first; lsn = lsn }) page list
+
+-- A pool after one change. The page is dirty; if it wasn't, it is the clean page that was held, which is clean no more, or one that nothing was written to.
+abbrev pub pool_changed : ℕ → ℕ → Change → PoolState → PoolState
+pool_changed lsn first c s = let name = page_of_change c in
+    if is_dirty name s.dirty then record { dirty = changed_again name lsn c s.dirty; clean = s.clean }
+    else record { dirty = made_dirty name lsn first (page_changed_by c (used (lookup (is_name name) s.clean))) s.dirty; clean = remove_entry (is_name name) s.clean }
+
+-- and after those of a mini-transaction, in order
+abbrev pub pool_after : ℕ → ℕ → List Change → PoolState → PoolState
+pool_after lsn first [] s = s
+pool_after lsn first (c ∷ cs) s = pool_after lsn first cs (pool_changed lsn first c s)
+
+-- one of the changes names this page
+abbrev pub name_page : List Change → PageName → Bool
+name_page [] name = false
+name_page (c ∷ cs) name = is_name name (page_of_change c) || name_page cs name
+
+-- how many pages without a property the changes name, each counted once
+abbrev pub count_without : (PageName → Bool) → List Change → ℕ
+count_without has [] = 0
+count_without has (c ∷ cs) = (if has (page_of_change c) || name_page cs (page_of_change c) then 0 else 1) + count_without has cs
+
+-- the pages named that aren't dirty
+abbrev pub fresh_pages : List Change → DirtyList → ℕ
+fresh_pages cs list = count_without (λ name. is_dirty name list) cs
+
+-- the pages named that aren't held
+abbrev pub unused_pages : List Change → PoolState → ℕ
+unused_pages cs s = count_without (λ name. is_held name s) cs
+
+-- there is room for the changes among the dirty pages, and so many spare pages are enough
+pub record HasPoolRoom (cs : List Change) (s : PoolState) (spare : ℕ) : Type 0 where
+  pub dirty : length s.dirty.entries + fresh_pages cs s.dirty ≤ 256
+  pub spares : unused_pages cs s ≤ spare
+
+-- the page of a name is dirty, beside those that were, and held, beside those that were
+pub record HasNamed (name : PageName) (old new : PoolState) : Type 0 where
+  pub dirty : (other : PageName) → is_dirty other new.dirty ≡ (is_name name other || is_dirty other old.dirty)
+  pub held : (other : PageName) → is_held other new ≡ (is_name name other || is_held other old)
+  pub count : length new.dirty.entries ≡ length old.dirty.entries + (if is_dirty name old.dirty then 0 else 1)
+
+-- so many more aren't dirty that there is no room
+abbrev pub IsFull : ℕ → DirtyList → PoolFault → Type 0
+IsFull fresh list (Full dirty more) = (dirty ≡ length list.entries) × (more ≡ fresh) × (256 < dirty + more)
+IsFull fresh list OutOfMemory = ⊥
+
+-- where the changes aren't made
+abbrev pub IsPoolRefusal : List Change → DirtyList → PoolFault → Type 0
+IsPoolRefusal cs list (Full dirty fresh) = (dirty ≡ length list.entries) × (fresh ≡ fresh_pages cs list) × (256 < dirty + fresh)
+IsPoolRefusal cs list OutOfMemory = length list.entries + fresh_pages cs list < 257
+
+-- ---- the other calls
+
+-- a page is held more, as the first of the clean ones, and the last of 64 goes
+abbrev pub admitted : PageName → PlainPage → List (PageName × PlainPage) → List (PageName × PlainPage)
+admitted name page clean = (name, page) ∷ take 63 clean
+
+-- a clean page that is found comes first
+abbrev pub found_page : PageName → PoolState → PoolState
+found_page name s = record { dirty = s.dirty; clean = promoted (is_name name) s.clean }
+
+-- the page is dirty at this LSN
+abbrev pub is_dirty_at : PageName → ℕ → List DirtyPage → Bool
+is_dirty_at name lsn [] = false
+is_dirty_at name lsn (d ∷ ds) = if is_named name d then nat_eq d.lsn lsn else is_dirty_at name lsn ds
+
+-- The page of a name isn't dirty any more: it is held as the first of the clean ones, or not at all where there is no memory for it.
+abbrev pub IsMadeClean : PageName → PoolState → PoolState → Type 0
+IsMadeClean name old new =
+    (page : PlainPage) × (slice_get old.dirty.pages (place_of name old.dirty.entries) ≡ Some page)
+    × (new.dirty ≡ without (place_of name old.dirty.entries) old.dirty)
+    × ((new.clean ≡ admitted name page old.clean) ⊎ (new.clean ≡ old.clean))
+
+-- exactly a page that is dirty at this LSN is made clean
+abbrev pub IsCleanedAt : PageName → ℕ → PoolState → PoolState → Type 0
+IsCleanedAt name lsn old new = MatchBool (is_dirty_at name lsn old.dirty.entries) (IsMadeClean name old new) (new ≡ old)
