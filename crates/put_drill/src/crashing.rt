@@ -1,0 +1,59 @@
+// A drill: the files are made, a batch is put, and the disk crashes.
+ghost use Rattle.std.specs.Prelude.{◌≡◌, ◌<◌, ◌≤◌, ℕ, List, [], ◌∷◌, length, IfOk, OnOk};
+ghost use Rattle.disk_model.specs.Contents.{events};
+ghost use Rattle.disk_model.specs.Crash.{crash_image};
+ghost use Rattle.disk_model.specs.Event.{Event, Open};
+ghost use Rattle.disk_model.specs.Past.{At};
+ghost use Rattle.disk_model.specs.declared.names.FileName.TheVariants.{Double, Space};
+ghost use Rattle.places.specs.Places.{HasPlaces};
+ghost use Rattle.page_places.specs.Texts.{pages, slots};
+ghost use Rattle.doublewrite.specs.Batch.{text_at};
+ghost use Rattle.doublewrite.specs.Layer.{ArePagesDistinct};
+ghost use Rattle.doublewrite.specs.Text.{ArePageTexts, page_number_of};
+ghost use Rattle.put_drill.specs.Put.{AreFilesMade, ShowsBatch};
+
+use crate::put;
+use disk_model::{Choice, Disk, DiskError, FileName, MemDisk};
+use doublewrite::Texts;
+use std::alloc::Global;
+
+/// A disk, and what a crash leaves of it.
+#[derive(Drop)]
+pub struct PutCrash {
+    pub disk: MemDisk,
+    pub crashed: MemDisk,
+}
+
+fn make_files<D: Disk>(disk: &mut D) -> Result<(), DiskError>
+    requires { At (λ es. es ≡ Open [] [] [] ∷ []) (D.past disk.old) }
+    ensures { OnOk result (At AreFilesMade (D.past disk.new)) }
+{
+    disk.make(FileName::Double, 1081344)?;
+    disk.make(FileName::Space(5), 1048576)
+}
+
+/// Puts a batch of space 5, which has 64 pages, and crashes the disk. The listed turns fail.
+pub fn drill(
+    alloc: Global,
+    batch: &Texts,
+    failing: Vec<u64>,
+    choice: &[Choice],
+) -> Result<PutCrash, DiskError>
+    requires some { 0 < length choice.now }
+    requires most { length batch.now.pages ≤ 64 }
+    requires distinct { ArePagesDistinct batch.now }
+    requires space { batch.now.space ≡ 5 }
+    requires numbers { (i : ℕ) → i < length batch.now.pages → page_number_of (text_at batch.now i) < 64 }
+    requires texts { ArePageTexts batch.now.pages }
+    ensures stands { IfOk result (λ d. (s : List Event) × ShowsBatch batch.now s (crash_image choice.now (events d.disk.contents))) }
+    ensures slots { IfOk result (λ d. HasPlaces Double slots (events d.crashed.contents)) }
+    ensures pages { IfOk result (λ d. HasPlaces (Space 5) (pages 64) (events d.crashed.contents)) }
+{
+    let mut disk = MemDisk::new(alloc, failing);
+    make_files(&mut disk)?;
+    let _ = put(&mut disk, batch);
+    let Ok(crashed) = disk.crash(choice) else {
+        return Err(DiskError::NoMemory);
+    };
+    Ok(PutCrash { disk, crashed })
+}
