@@ -1,0 +1,11 @@
+pub mod CopyParts
+pub mod Choices
+pub mod Named
+pub mod Views
+pub mod Recovered
+pub mod Meanings
+pub mod Placing
+pub mod CopyAges
+pub mod HeadPages
+pub mod SlotLaws
+pub mod HeadTexts

@@ -1,0 +1,4 @@
+pub mod Choosing
+pub mod Meaning
+pub mod Acting
+pub mod Recovering

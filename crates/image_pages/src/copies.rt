@@ -1,0 +1,81 @@
+// The copies of a page in the doublewrite file.
+ghost use Rattle.std.specs.Prelude.{◌≡◌, ◌≤◌, ◌<◌, ◌+◌, ◌*◌, length};
+ghost use Rattle.places.specs.Places.{place};
+ghost use Rattle.page_places.specs.Texts.{slot_page};
+ghost use Rattle.image_pages.specs.Choosing.{Best, IsCopyIn, better};
+
+use crate::texts::is_slot;
+use byte_list::fields::{be32_at, be64_at};
+use image_log::place;
+
+/// A copy of a page: its slot, 0 to 63, and its LSN.
+#[derive(Clone, Copy, Debug, PartialEq, Eq)]
+pub struct Newest {
+    pub index: usize,
+    pub lsn: u64,
+}
+
+// The LSN of the copy of a page in a slot, where the slot has one.
+pub(crate) fn copy_in(slot: &[u8], space: u32, page: u32) -> Option<u64>
+    requires { length slot.now ≡ 16896 }
+    ensures { IsCopyIn slot.now space page result }
+{
+    if !is_slot(slot) {
+        return None;
+    }
+    if be32_at(slot, 8) != space {
+        return None;
+    }
+    if be32_at(slot, 12) != page {
+        return None;
+    }
+    let (_head, rest) = slot.split_at(508);
+    let (_sum, text) = rest.split_at(4);
+    Some(be64_at(text, 16))
+}
+
+// Of two copies the newer, of two of one LSN the first.
+fn better(best: Option<Newest>, copy: Option<u64>, index: usize) -> Option<Newest>
+    ensures { result ≡ better best copy index }
+{
+    match (best, copy) {
+        (best, None) => best,
+        (None, Some(lsn)) => Some(Newest { index, lsn }),
+        (Some(newest), Some(lsn)) => {
+            if lsn <= newest.lsn {
+                Some(newest)
+            } else {
+                Some(Newest { index, lsn })
+            }
+        }
+    }
+}
+
+/// The page's valid copy of greatest LSN among the 64 slots of the doublewrite file, of several the
+/// one of least index.
+pub fn newest_copy(double: &[u8], space: u32, page: u32) -> Option<Newest>
+    requires { length double.now ≡ 64 * 16896 }
+    ensures { Best double.now space page 64 result }
+{
+    let mut best: Option<Newest> = None;
+    for index in 0..64 {
+        best = better(
+            best,
+            copy_in(place(double, 16896, index), space, page),
+            index,
+        );
+    }
+    best
+}
+
+// The page text in a slot, whether or not it is a valid one.
+pub(crate) fn slot_text(double: &[u8], index: usize) -> &[u8]
+    requires double { length double.now ≡ 64 * 16896 }
+    requires index { index < 64 }
+    ensures bytes { result.now ≡ slot_page (place 16896 index double.now) }
+    ensures long { length result.now ≡ 16384 }
+{
+    let (_head, rest) = place(double, 16896, index).split_at(508);
+    let (_sum, text) = rest.split_at(4);
+    text
+}

@@ -1,0 +1,181 @@
+// Live slots, and whether they give the same page.
+ghost use Rattle.std.specs.Prelude.{◌≡◌, ℕ, List, ◌≤◌, ◌<◌, ◌*◌, length, true, false, IfOk, IfSome, IfNone};
+ghost use Rattle.key_ring.specs.Ring.{RingEntry};
+ghost use Rattle.store_files.specs.Header.{HeldHeader};
+ghost use Rattle.store_files.specs.Pages.{Head, key_id_of, page_held};
+ghost use Rattle.image_pages.specs.Recovering.{AgreeBelow, GivesPage, IsLiveIn, IsNewestLsn, SlotDiffers, bound_of};
+
+use crate::acting::{is_named, later_head, later_page};
+use crate::copies::{copy_in, newest_copy, slot_text};
+use crate::head::head_of_text;
+use crate::plain::used_page;
+use crate::texts::is_page_text;
+use byte_list::fields::be64_at;
+use cause_core::OutOfMemory;
+use image_log::{LogText, StoreHeader, place};
+use key_ring::Ring;
+use space_head::SpaceInfo;
+use std::alloc::Global;
+use store_model::PlainPage;
+
+// Whether a copy of this LSN is above the home, or, where there is none, the newest.
+fn is_newest(home: &[u8], double: &[u8], space: u32, number: u32, lsn: u64) -> bool
+    requires home { length home.now ≡ 16384 }
+    requires double { length double.now ≡ 64 * 16896 }
+    ensures yes { result ≡ true → IsNewestLsn home.now double.now space number lsn }
+    ensures no { result ≡ false → IsNewestLsn home.now double.now space number lsn → ⊥ }
+{
+    if is_page_text(home, number) {
+        return be64_at(home, 16) < lsn;
+    }
+    match newest_copy(double, space, number) {
+        Some(newest) => newest.lsn <= lsn,
+        None => true,
+    }
+}
+
+/// The text in a slot, 0 to 63, where it is a copy of the page that can be read from.
+pub fn live_text<'a>(
+    home: &[u8],
+    double: &'a [u8],
+    space: u32,
+    number: u32,
+    index: usize,
+) -> Option<&'a [u8]>
+    requires home { length home.now ≡ 16384 }
+    requires double { length double.now ≡ 64 * 16896 }
+    requires index { index < 64 }
+    ensures { IsLiveIn home.now double.now space number index result }
+{
+    let lsn = copy_in(place(double, 16896, index), space, number)?;
+    if !is_newest(home, double, space, number, lsn) {
+        return None;
+    }
+    Some(slot_text(double, index))
+}
+
+fn is_same(a: &Option<PlainPage>, b: &Option<PlainPage>) -> bool
+    ensures yes { result ≡ true → a.now ≡ b.now }
+    ensures no { result ≡ false → a.now ≡ b.now → ⊥ }
+{
+    match (a, b) {
+        (None, None) => true,
+        (Some(a), Some(b)) => a.kind == b.kind && a.body.bytes() == b.body.bytes(),
+        (_, _) => false,
+    }
+}
+
+fn same_info(a: &SpaceInfo, b: &SpaceInfo) -> bool
+    ensures yes { result ≡ true → a.now ≡ b.now }
+    ensures no { result ≡ false → a.now ≡ b.now → ⊥ }
+{
+    *a == *b
+}
+
+// Whether a live text gives this page.
+fn text_gives(
+    alloc: Global,
+    header: &StoreHeader,
+    keys: &Ring,
+    log: &LogText,
+    key_id: u32,
+    salt: &[u8; 16],
+    space: u32,
+    number: u32,
+    text: &[u8],
+    wanted: &Option<PlainPage>,
+) -> Result<bool, OutOfMemory>
+    requires long { length text.now ≡ 16384 }
+    requires number { 0 < number }
+    requires key_id { key_id ≡ key_id_of header.now.spaces space }
+    ensures { IfOk result (GivesPage header.now keys.now log.now space number salt.now text.now (page_held wanted.now)) }
+{
+    let lsn = be64_at(text, 16);
+    if !is_named(log.run(), space, number, lsn) {
+        return Ok(false);
+    }
+    let Some(page) = used_page(alloc, header, keys, key_id, salt, space, number, text)? else {
+        return Ok(false);
+    };
+    let page = later_page(alloc, log.run(), lsn, space, number, Some(page))?;
+    Ok(is_same(&page, wanted))
+}
+
+// Whether a live text gives this page 0.
+fn text_gives_head(
+    alloc: Global,
+    log: &LogText,
+    space: u32,
+    text: &[u8],
+    wanted: &SpaceInfo,
+) -> Result<bool, OutOfMemory>
+    requires { length text.now ≡ 16384 }
+    ensures { IfOk result (λ gives. (header : HeldHeader) (keys : List RingEntry) (salt : List ℕ) → GivesPage header keys log.now space 0 salt text.now (Head wanted.now) gives) }
+{
+    let lsn = be64_at(text, 16);
+    if !is_named(log.run(), space, 0, lsn) {
+        return Ok(false);
+    }
+    let Some(info) = head_of_text(alloc, space, text)? else {
+        return Ok(false);
+    };
+    let info = later_head(log.run(), lsn, space, info);
+    Ok(same_info(&info, wanted))
+}
+
+/// The first slot that is live for a page from page 1 on, and doesn't give this page.
+pub fn other_slot(
+    alloc: Global,
+    header: &StoreHeader,
+    keys: &Ring,
+    log: &LogText,
+    key_id: u32,
+    salt: &[u8; 16],
+    home: &[u8],
+    double: &[u8],
+    space: u32,
+    number: u32,
+    wanted: &Option<PlainPage>,
+) -> Result<Option<usize>, OutOfMemory>
+    requires home { length home.now ≡ 16384 }
+    requires double { length double.now ≡ 64 * 16896 }
+    requires number { 0 < number }
+    requires key_id { key_id ≡ key_id_of header.now.spaces space }
+    ensures agree { IfOk result (λ found. AgreeBelow header.now keys.now log.now home.now double.now space number salt.now (page_held wanted.now) (bound_of found)) }
+    ensures differs { IfOk result (λ found. IfSome found (SlotDiffers header.now keys.now log.now home.now double.now space number salt.now (page_held wanted.now))) }
+{
+    for index in 0..64 {
+        if let Some(text) = live_text(home, double, space, number, index) {
+            if !text_gives(
+                alloc, header, keys, log, key_id, salt, space, number, text, wanted,
+            )? {
+                return Ok(Some(index));
+            }
+        }
+    }
+    Ok(None)
+}
+
+/// The first slot that is live for a page 0, and doesn't give this head.
+pub fn other_head_slot(
+    alloc: Global,
+    log: &LogText,
+    home: &[u8],
+    double: &[u8],
+    space: u32,
+    wanted: &SpaceInfo,
+) -> Result<Option<usize>, OutOfMemory>
+    requires home { length home.now ≡ 16384 }
+    requires double { length double.now ≡ 64 * 16896 }
+    ensures agree { IfOk result (λ found. (header : HeldHeader) (keys : List RingEntry) (salt : List ℕ) → AgreeBelow header keys log.now home.now double.now space 0 salt (Head wanted.now) (bound_of found)) }
+    ensures differs { IfOk result (λ found. IfSome found (λ index. (header : HeldHeader) (keys : List RingEntry) (salt : List ℕ) → SlotDiffers header keys log.now home.now double.now space 0 salt (Head wanted.now) index)) }
+{
+    for index in 0..64 {
+        if let Some(text) = live_text(home, double, space, 0, index) {
+            if !text_gives_head(alloc, log, space, text, wanted)? {
+                return Ok(Some(index));
+            }
+        }
+    }
+    Ok(None)
+}

@@ -1,2 +1,0 @@
-pub mod CopyParts
-pub mod Choices
