@@ -162,7 +162,7 @@ changed_at_is f [] i x y lt is new = absurd (omega arith)
 changed_at_is f (p ∷ ps) zero x y lt is new = ap (λ (q : PlainPage). q ∷ ps) (new ∙ ap f is)
 changed_at_is f (p ∷ ps) (suc i) x y lt is new = ap (λ (l : List PlainPage). p ∷ l) (changed_at_is f ps i x y (omega arith) is new)
 
-length-changed_at : (f : PlainPage → PlainPage) (i : ℕ) (ps : List PlainPage) → length (changed_at i f ps) ≡ length ps
+pub length-changed_at : (f : PlainPage → PlainPage) (i : ℕ) (ps : List PlainPage) → length (changed_at i f ps) ≡ length ps
 length-changed_at f zero [] = refl
 length-changed_at f (suc i) [] = refl
 length-changed_at f zero (p ∷ ps) = refl

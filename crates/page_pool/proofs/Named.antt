@@ -17,7 +17,7 @@ use Rattle.page_pool.proofs.Lists.{any_insert, any_removed, neither}
 
 -- ---- a page that was dirty
 
-dirty_still : (name other : PageName) (lsn : ℕ) (c : Change) (list : DirtyList) → is_dirty other (changed_again name lsn c list) ≡ is_dirty other list
+pub dirty_still : (name other : PageName) (lsn : ℕ) (c : Change) (list : DirtyList) → is_dirty other (changed_again name lsn c list) ≡ is_dirty other list
 dirty_still name other lsn c list = any_stamped (is_named other) (λ d n. refl) name lsn list.entries
 
 pub clean_again : (name : PageName) (lsn : ℕ) (c : Change) (list : DirtyList) (clean : List (PageName × PlainPage)) → AreClean list clean → AreClean (changed_again name lsn c list) clean
