@@ -162,9 +162,9 @@ fn a_damaged_log_is_listed_up_to_the_damage(rt: HostRuntime) -> Result<(), Fail>
     for (length, inverted, line, text) in table {
         let log = damaged_log(alloc, length, inverted)?;
         let (ended, said, listed) = run(alloc, &log, "log --key-file keys1", [0, 0])?;
-        assert_eq!(rt; ended, 1, "{line}");
-        assert_eq!(rt; said.as_str(), line, "{line}");
-        assert_eq!(rt; listed.as_slice(), text.as_bytes(), "{line}");
+        assert_eq!(rt; ended, 1, "{length} {inverted}");
+        assert_eq!(rt; said.as_str(), line, "{length} {inverted}");
+        assert_eq!(rt; listed.as_slice(), text.as_bytes(), "{length} {inverted}");
     }
     Ok(())
 }
