@@ -6,14 +6,20 @@
 //!    format 2: its checksum, magic, format, page size, algorithm, number of ring blocks, number and
 //!    order of spaces and the limits are right. It takes no memory.
 //! 2. [`StorePlan`] and [`SpacePlan`] are what a store is to be made as.
+//! 3. [`AtRest`] is a store at rest: a disk with what it reads as. Its calls tell what it was made of,
+//!    and take no memory. No call makes one of a disk yet but [`AtRest::new`].
 #![tactic(auto)]
 
 mod header;
+mod lists;
 mod plan;
+mod rest;
 mod space_list;
 
 pub use header::{Header, HeaderSpace, read_header};
+pub use lists::{HomeList, Homes, Spaces};
 pub use plan::{SpacePlan, SpacePlans, StorePlan};
+pub use rest::AtRest;
 
 #[cfg(test)]
 mod tests;

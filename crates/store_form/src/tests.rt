@@ -1,7 +1,8 @@
 // Headers by their bytes. The checksums are those of a CRC-32C bit by bit.
-use crate::{Header, read_header};
+use crate::{HomeList, Homes, SpacePlan, SpacePlans, Spaces, read_header};
 use aes_core::Algorithm;
 use byte_list::fields::{put, put_be32};
+use space_head::{Home, SpaceInfo};
 use std::process::Abort;
 use std::test::Fail;
 
@@ -47,4 +48,45 @@ fn another_header_is_not_read(rt: HostRuntime) {
     assert!(rt; read_header(&block_of(1, 1, 0xd032_54ba)).is_none());
     assert!(rt; read_header(&block_of(1, 5, 0xf721_fcef)).is_none());
     assert!(rt; read_header(&[0; 4096]).is_none());
+}
+
+#[test]
+fn lists_have_their_items(rt: HostRuntime) -> Result<(), Fail> {
+    let mut homes = Vec::new(rt.alloc());
+    homes.push(Home::Clean(0))?;
+    homes.push(Home::Unused)?;
+    let homes = HomeList::of(homes);
+    assert!(rt; homes.len() == 2 && *homes.get(1) == Home::Unused);
+    assert!(rt; homes.as_slice()[0] == Home::Clean(0));
+    let mut lists = Vec::new(rt.alloc());
+    lists.push(homes)?;
+    let lists = Homes::of(lists);
+    assert!(rt; lists.len() == 1 && lists.get(0).len() == 2);
+    Ok(())
+}
+
+#[test]
+fn plans_and_spaces_have_their_items(rt: HostRuntime) -> Result<(), Fail> {
+    let mut plans = Vec::new(rt.alloc());
+    plans.push(SpacePlan {
+        space: 5,
+        pages: 4,
+        key_id: 1,
+        ciphered: true,
+    })?;
+    let plans = SpacePlans::of(plans);
+    assert!(rt; plans.len() == 1 && plans.get(0).space == 5);
+    let mut spaces = Vec::new(rt.alloc());
+    spaces.push(SpaceInfo {
+        space: 5,
+        pages: 4,
+        key_id: 1,
+        salt: [0x11; 16],
+        ciphered: true,
+        floor: 1,
+    })?;
+    let spaces = Spaces::of(spaces);
+    assert!(rt; spaces.len() == 1 && spaces.get(0).floor == 1);
+    assert!(rt; spaces.as_slice()[0].space == 5);
+    Ok(())
 }
