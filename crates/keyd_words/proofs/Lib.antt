@@ -1,0 +1,12 @@
+mod NumberLemmas
+mod SpaceLemmas
+mod TableLemmas
+mod ValueLemmas
+mod FreshLemmas
+mod SettingLemmas
+mod PlanLemmas
+mod AllowedLemmas
+mod UsageLemmas
+mod ReadLemmas
+mod MakeLemmas
+mod PlanWords

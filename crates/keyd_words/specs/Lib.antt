@@ -1,0 +1,6 @@
+pub mod Parts
+pub mod Table
+pub mod Values
+pub mod Settings
+pub mod Plans
+pub mod Words
