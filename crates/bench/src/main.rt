@@ -11,6 +11,7 @@ mod checksums;
 mod ciphers;
 mod figure;
 mod pages;
+mod redo;
 
 use anyhow::Result;
 use std::env;
@@ -21,7 +22,8 @@ fn main(rt: HostRuntime) -> Result<()> {
         Some(word) if word.as_str() == "run" => {
             checksums::measure(rt.alloc(), &rt)?;
             ciphers::measure(rt.alloc(), &rt)?;
-            pages::measure(rt.alloc(), &rt)
+            pages::measure(rt.alloc(), &rt)?;
+            redo::measure(rt.alloc(), &rt)
         }
         _ => {
             println!(rt; "usage: bench run")?;
