@@ -12,7 +12,7 @@ use Rattle.store_model.specs.declared.contents.PlainPage.{PlainPage}
 use Rattle.page_pool.specs.declared.names.DirtyPage.{DirtyPage}
 use Rattle.page_pool.specs.declared.names.PageName.{PageName}
 use Rattle.page_pool.specs.Pages.{DirtyList, PoolState, comes_before, entered, entry_place, held_page, is_dirty, is_name, is_named, place_of}
-use Rattle.page_pool.specs.Changes.{changed_again, changed_at, made_dirty, page_changed_by, page_of_change, pool_after, pool_changed, stamped}
+use Rattle.page_pool.specs.Changes.{changed_again, changed_at, held_after, made_dirty, page_changed_by, page_of_change, pool_after, pool_changed, stamped}
 use Rattle.page_pool.proofs.Cleans.{lookup_other, same_name}
 use Rattle.std.proofs.lemmas.List.Edits.{length-insert}
 use Rattle.page_pool.proofs.Entries.{length-changed_at, length-stamped}
@@ -213,11 +213,6 @@ held_changed lsn first c s name is = by (is_dirty (page_of_change c) s.dirty) re
         → held_page name (if b then again else fresh) ≡ (if is_name (page_of_change c) name then Some (page_changed_by c (used (held_page name s))) else held_page name s)
     by true dirty after = held_again (page_of_change c) lsn c s name is dirty after
     by false clean after = held_first (page_of_change c) lsn first (page_changed_by c) s name is clean after
-
--- what a page holds after changes: those of them that name it are made, in order
-abbrev pub held_after : List Change → PageName → Option PlainPage → Option PlainPage
-held_after [] name o = o
-held_after (c ∷ cs) name o = held_after cs name (if is_name (page_of_change c) name then Some (page_changed_by c (used o)) else o)
 
 -- So does a mini-transaction.
 pub held_behind : (lsn first : ℕ) (cs : List Change) (s : PoolState) (name : PageName) → IsWhole s.dirty → held_page name (pool_after lsn first cs s) ≡ held_after cs name (held_page name s)

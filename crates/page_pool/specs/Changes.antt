@@ -1,5 +1,5 @@
 -- What the calls of a pool change.
-use Rattle.std.specs.Prelude.{◌≡◌, ℕ, zero, suc, ◌+◌, ◌<◌, ◌≤◌, ◌⊎◌, Bool, false, nat_eq, ◌||◌, if◌then◌else◌, List, [], ◌∷◌, length, take, slice_get, Some, MatchBool}
+use Rattle.std.specs.Prelude.{◌≡◌, ℕ, zero, suc, ◌+◌, ◌<◌, ◌≤◌, ◌⊎◌, Bool, false, nat_eq, ◌||◌, if◌then◌else◌, List, [], ◌∷◌, length, take, slice_get, Option, Some, MatchBool}
 use Rattle.std.specs.Int.{to_be_bytes, w32}
 use Rattle.std.specs.Map.{lookup, remove_entry}
 use Rattle.lru.specs.LruCache.{promoted}
@@ -67,6 +67,11 @@ pool_changed lsn first c s = let name = page_of_change c in
 abbrev pub pool_after : ℕ → ℕ → List Change → PoolState → PoolState
 pool_after lsn first [] s = s
 pool_after lsn first (c ∷ cs) s = pool_after lsn first cs (pool_changed lsn first c s)
+
+-- what a page holds after changes: those of them that name it are made, in order
+abbrev pub held_after : List Change → PageName → Option PlainPage → Option PlainPage
+held_after [] name o = o
+held_after (c ∷ cs) name o = held_after cs name (if is_name (page_of_change c) name then Some (page_changed_by c (used o)) else o)
 
 -- one of the changes names this page
 abbrev pub name_page : List Change → PageName → Bool

@@ -3,8 +3,9 @@
 ghost use Rattle.std.specs.Prelude.{◌≡◌, ◌+◌, ◌<◌, ◌∷◌, [], None, length, replicate, IfOk, IfErr, OnOk, OnErr};
 ghost use Rattle.redo_text.specs.Changes.{change_of};
 ghost use Rattle.redo_text.specs.Text.{AreAllowed, IsAllowed};
-ghost use Rattle.page_pool.specs.Changes.{HasNamed, HasPoolRoom, IsFull, IsPoolRefusal, fresh_pages, name_page, page_of_change, pool_after, pool_changed, unused_pages};
-ghost use Rattle.page_pool.specs.Pages.{is_dirty, is_held};
+ghost use Rattle.page_pool.specs.declared.names.PageName.{PageName};
+ghost use Rattle.page_pool.specs.Changes.{HasNamed, HasPoolRoom, IsFull, IsPoolRefusal, held_after, fresh_pages, name_page, page_of_change, pool_after, pool_changed, unused_pages};
+ghost use Rattle.page_pool.specs.Pages.{IsDirtyList, held_page, is_dirty, is_held};
 ghost use Rattle.store_model.specs.Fold.{used};
 
 use crate::dirty::MOST_DIRTY;
@@ -83,6 +84,8 @@ impl Pool {
     pub fn change(&mut self, mtr: &Mtr, lsn: u64, first: u64) -> Result<(), PoolFault>
         requires { AreAllowed mtr.now }
         ensures changed { OnOk result (self.new ≡ pool_after lsn first mtr.now self.old) }
+        // Of each page: the changes that name it are made, in order.
+        ensures holds { OnOk result ((name : PageName) → held_page name self.new ≡ held_after mtr.now name (held_page name self.old)) }
         ensures accepted { OnOk result (length self.old.dirty.entries + fresh_pages mtr.now self.old.dirty < 257) }
         // The conditions exclude one another, so each answer comes exactly where its own holds.
         ensures refused { IfErr result (IsPoolRefusal mtr.now self.old.dirty) }
@@ -103,6 +106,7 @@ impl Pool {
     pub fn apply(&mut self, change: &ChangeView, lsn: u64, first: u64) -> Result<(), PoolFault>
         requires { IsAllowed (change_of change.now) }
         ensures changed { OnOk result (self.new ≡ pool_after lsn first (change_of change.now ∷ []) self.old) }
+        ensures holds { OnOk result ((name : PageName) → held_page name self.new ≡ held_after (change_of change.now ∷ []) name (held_page name self.old)) }
         ensures accepted { OnOk result (length self.old.dirty.entries + fresh_pages (change_of change.now ∷ []) self.old.dirty < 257) }
         ensures refused { IfErr result (IsPoolRefusal (change_of change.now ∷ []) self.old.dirty) }
         ensures unchanged { OnErr result (self.new ≡ self.old) }
@@ -120,6 +124,7 @@ impl Pool {
     fn check_room(&self, fresh: usize) -> Result<(), PoolFault>
         ensures room { OnOk result (length self.now.dirty.entries + fresh < 257) }
         ensures full { IfErr result (IsFull fresh self.now.dirty) }
+        ensures kept { IsDirtyList self.now.dirty }
     {
         let dirty = self.dirty.entries().len();
         if MOST_DIRTY - dirty < fresh {

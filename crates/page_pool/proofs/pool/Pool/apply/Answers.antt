@@ -1,0 +1,8 @@
+use Rattle.std.proofs.Common.{◌∙◌, ap}
+use Rattle.redo_text.specs.Changes.{change_of}
+use Rattle.page_pool.specs.Pages.{held_page}
+use Rattle.page_pool.proofs.HeldLaws.{held_changed}
+use Rattle.page_pool.proofs.pool.Pool.apply.Goals as goal
+
+pub returns-clause-holds : goal.returns-clause-holds
+returns-clause-holds c name = ap (held_page name) c.change_page.ensures.changed ∙ held_changed c.args.lsn c.args.first (change_of c.args.change.now) c.args.self.now name c.check_room.ensures.kept.one_each
