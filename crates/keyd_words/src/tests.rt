@@ -277,7 +277,7 @@ fn a_drill_is_what_its_words_say(rt: HostRuntime) -> Result<(), Fail> {
     };
     assert_eq!(rt; plan.store.keys.active, 2);
     assert_eq!(rt; plan.store.keys.key_files.names().len(), 2);
-    assert_eq!(rt; plan.store.spaces.spaces()[0].pages, 4);
+    assert_eq!(rt; plan.store.spaces.spaces().len(), 1);
     assert_eq!(rt; plan.first.stop, Some(3));
     assert_eq!(rt; plan.first.choices.choices().len(), 2);
     assert!(rt; plan.second.is_some());
