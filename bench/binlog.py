@@ -44,7 +44,7 @@ def encipher(cipher, algorithms, modes, place, plain):
     rest = text[whole:]
     if rest:
         ecb = cipher(algorithms.AES(KEY), modes.ECB()).encryptor()
-        mask = ecb.update(done[-16:] if done else iv) + ecb.finalize()
+        mask = ecb.update(iv) + ecb.finalize()
         done += bytes(a ^ b for a, b in zip(rest, mask))
     out = bytearray(4) + bytearray(done)
     out[0:4] = out[9:13]
