@@ -6,19 +6,14 @@ use Rattle.lru.specs.LruCache.{promoted}
 use Rattle.redo_text.specs.declared.change.Change.{Change}
 use Rattle.redo_text.specs.declared.change.Change.TheVariants.{Put, Kind, Touch, Floor, Encrypt}
 use Rattle.space_head.specs.Sizes.{record_place}
-use Rattle.store_model.specs.Fold.{used, written}
+pub use Rattle.store_model.specs.Fold.{body_written, kind_set}
+use Rattle.store_model.specs.Fold.{used}
 use Rattle.store_model.specs.declared.contents.PlainPage.{PlainPage}
 use Rattle.page_pool.specs.declared.names.DirtyPage.{DirtyPage}
 use Rattle.page_pool.specs.declared.names.PageName.{PageName}
 use Rattle.page_pool.specs.declared.fault.PoolFault.{PoolFault}
 use Rattle.page_pool.specs.declared.fault.PoolFault.TheVariants.{Full, OutOfMemory}
 use Rattle.page_pool.specs.Pages.{DirtyList, PoolState, entered, is_dirty, is_held, is_name, is_named, place_of, without}
-
-abbrev pub body_written : ℕ → List ℕ → PlainPage → PlainPage
-body_written at bytes p = record { kind = p.kind; body = written at bytes p.body }
-
-abbrev pub kind_set : ℕ → PlainPage → PlainPage
-kind_set kind p = record { kind = kind; body = p.body }
 
 -- The page as a change of it leaves it, by the fold's words. In page 0 a floor is the least version of the crypt record, and a ciphered space has the record's type 1 and its mode 1.
 abbrev pub page_changed_by : Change → PlainPage → PlainPage
