@@ -24,3 +24,6 @@ pub use checkpoint::{RunStart, newest_checkpoint};
 pub use fault::LogTextFault;
 pub use header::{StoreHeader, StoreSpace, read_header};
 pub use log::{LogEntry, LogText, read_log};
+
+#[cfg(test)]
+mod tests;

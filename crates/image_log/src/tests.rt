@@ -1,0 +1,193 @@
+// What a log says: a row each, in both modes. The log's file is built by hand from the words of the formats, with 32 ring blocks.
+
+use crate::{LogText, LogTextFault, StoreHeader, block_at, is_clear, read_header, read_log};
+use aes_core::{Algorithm, BlockKey};
+use byte_list::fields::put;
+use byte_list::zero_bytes;
+use bytes_core::crc32c;
+use cause_core::OutOfMemory;
+use key_ring::Ring;
+use std::alloc::Global;
+use std::process::Abort;
+use std::test::Fail;
+
+const MODES: [Algorithm; 2] = [Algorithm::Cbc, Algorithm::Ctr];
+
+// The key of id 1 and version 1.
+const KEY: [u8; 16] = [7; 16];
+
+const SALT: [u8; 16] = [0x20; 16];
+
+// A put of four bytes 61 at the beginning of the body of page 1 of space 1.
+const PUT: [u8; 21] = [
+    1, 0, 0, 0, 1, 0, 0, 0, 1, 0, 0, 0, 38, 0, 0, 0, 4, 0x61, 0x61, 0x61, 0x61,
+];
+
+fn write_at(rt: &impl Abort, file: &mut [u8], at: usize, bytes: &[u8]) {
+    assert!(rt; at <= file.len() && bytes.len() <= file.len() - at);
+    put(file, at, bytes);
+}
+
+fn write_numbers(rt: &impl Abort, file: &mut [u8], at: usize, numbers: &[u32]) {
+    let mut place = at;
+    for number in numbers {
+        write_at(rt, file, place, &number.to_be_bytes());
+        place = place.saturating_add(4);
+    }
+}
+
+// Writes the checksum of the first 4092 bytes of a block behind them, and the block to its place.
+fn write_summed(rt: &impl Abort, log: &mut [u8], place: usize, block: &mut [u8; 4096]) {
+    let sum = crc32c(&block[..4092]).to_be_bytes();
+    write_at(rt, block, 4092, &sum);
+    write_at(rt, log, place.saturating_mul(4096), block);
+}
+
+fn write_header(rt: &impl Abort, log: &mut [u8], code: u32) {
+    let mut block = [0; 4096];
+    write_at(rt, &mut block, 0, b"KEYSTOR1");
+    write_numbers(rt, &mut block, 8, &[2, 16384, 32, 2]);
+    write_at(rt, &mut block, 24, &SALT);
+    write_numbers(rt, &mut block, 40, &[1, 3, 1, 2, 2, 1]);
+    write_numbers(rt, &mut block, 240, &[code]);
+    write_summed(rt, log, 0, &mut block);
+}
+
+fn write_checkpoint(rt: &impl Abort, log: &mut [u8], sequence: u64, from: u64) {
+    let mut block = [0; 4096];
+    write_at(rt, &mut block, 0, b"KEYCHK01");
+    write_at(rt, &mut block, 8, &sequence.to_be_bytes());
+    write_at(rt, &mut block, 16, &from.to_be_bytes());
+    write_summed(rt, log, 1 + (sequence % 2) as usize, &mut block);
+}
+
+// Enciphers bytes under the log's local key.
+fn encipher(rt: &impl Abort, algorithm: Algorithm, iv: &[u8; 16], bytes: &mut [u8]) {
+    let mut local = SALT;
+    match BlockKey::new(&KEY) {
+        Some(key) => key.encrypt_block(&mut local),
+        None => panic!(rt; "no key"),
+    }
+    match BlockKey::new(&local) {
+        Some(key) => algorithm.encrypt(&key, iv, bytes),
+        None => panic!(rt; "no local key"),
+    }
+}
+
+// The ring block of this number, whose text is the first bytes of its body.
+fn write_block(
+    rt: &impl Abort,
+    log: &mut [u8],
+    algorithm: Algorithm,
+    number: u64,
+    flags: u16,
+    text: &[u8],
+) {
+    assert!(rt; text.len() <= 4076);
+    let mut block = [0; 4096];
+    write_at(rt, &mut block, 0, &number.to_be_bytes());
+    write_numbers(rt, &mut block, 8, &[1]);
+    write_at(rt, &mut block, 12, &(text.len() as u16).to_be_bytes());
+    write_at(rt, &mut block, 14, &flags.to_be_bytes());
+    write_at(rt, &mut block, 16, text);
+    let mut iv = [0; 16];
+    write_at(rt, &mut iv, 0, &0xffff_fff0_u32.to_le_bytes());
+    write_at(rt, &mut iv, 8, &number.to_le_bytes());
+    encipher(rt, algorithm, &iv, &mut block[16..4092]);
+    write_summed(rt, log, 3 + (number % 32) as usize, &mut block);
+}
+
+// A log whose first checkpoint is from block 2, which has one put.
+fn one_put(rt: &impl Abort, alloc: Global, algorithm: Algorithm) -> Result<Vec<u8>, OutOfMemory> {
+    let mut log = zero_bytes(alloc, 143_360)?;
+    let code = match algorithm {
+        Algorithm::Cbc => 1,
+        Algorithm::Ctr => 2,
+    };
+    write_header(rt, &mut log, code);
+    write_checkpoint(rt, &mut log, 1, 2);
+    write_block(rt, &mut log, algorithm, 2, 3, &PUT);
+    Ok(log)
+}
+
+fn keys(rt: &impl Abort, alloc: Global) -> Ring {
+    let mut ring = Ring::new(alloc);
+    if ring.add(1, 1, &KEY).is_err() {
+        panic!(rt; "no key");
+    }
+    ring
+}
+
+fn header(rt: &impl Abort, alloc: Global, log: &[u8]) -> Result<StoreHeader, OutOfMemory> {
+    assert!(rt; log.len() == 143_360);
+    let (block, _rest) = log.split_at(4096);
+    match read_header(alloc, block)? {
+        Some(header) => Ok(header),
+        None => panic!(rt; "no header"),
+    }
+}
+
+// What the log says: the end of its run, and how many mini-transactions are in it.
+fn said(
+    rt: &impl Abort,
+    alloc: Global,
+    log: &[u8],
+) -> Result<Result<(u64, usize), LogTextFault>, OutOfMemory> {
+    let header = header(rt, alloc, log)?;
+    let blocks = header.blocks();
+    assert!(rt; blocks == 32 && log.len() == 143_360);
+    let found = read_log(alloc, &header, &keys(rt, alloc), log);
+    Ok(match found {
+        Ok(text) => Ok((text.end(), text.run().len())),
+        Err(fault) => Err(fault),
+    })
+}
+
+#[test]
+fn a_run_ends_before_part_of_a_mini_transaction(rt: HostRuntime) -> Result<(), Fail> {
+    for algorithm in MODES {
+        let mut log = one_put(&rt, rt.alloc(), algorithm)?;
+        assert!(rt; said(&rt, rt.alloc(), &log)? == Ok((3, 1)));
+        write_block(&rt, &mut log, algorithm, 3, 1, &[3; 4076]);
+        assert!(rt; said(&rt, rt.alloc(), &log)? == Ok((3, 1)));
+    }
+    Ok(())
+}
+
+#[test]
+fn a_torn_checkpoint_is_passed_over(rt: HostRuntime) -> Result<(), Fail> {
+    for algorithm in MODES {
+        let mut log = one_put(&rt, rt.alloc(), algorithm)?;
+        write_checkpoint(&rt, &mut log, 2, 3);
+        assert!(rt; said(&rt, rt.alloc(), &log)? == Ok((3, 0)));
+        // Its last byte is another.
+        let last = log.as_slice().get(8191).copied().unwrap_or(0);
+        write_at(&rt, &mut log, 8191, &[!last]);
+        assert!(rt; said(&rt, rt.alloc(), &log)? == Ok((3, 1)));
+        // And the first checkpoint's magic.
+        write_at(&rt, &mut log, 8192, b"KEYCHK02");
+        assert!(rt; said(&rt, rt.alloc(), &log)? == Err(LogTextFault::NoCheckpoint));
+    }
+    Ok(())
+}
+
+#[test]
+fn a_text_that_is_none_of_changes_is_named(rt: HostRuntime) -> Result<(), Fail> {
+    for algorithm in MODES {
+        let mut log = one_put(&rt, rt.alloc(), algorithm)?;
+        write_block(&rt, &mut log, algorithm, 3, 3, &[9, 0, 0]);
+        assert!(rt; said(&rt, rt.alloc(), &log)? == Err(LogTextFault::NoChanges { first: 3 }));
+    }
+    Ok(())
+}
+
+#[test]
+fn late_blocks_are_found(rt: HostRuntime) -> Result<(), Fail> {
+    for algorithm in MODES {
+        let mut log = one_put(&rt, rt.alloc(), algorithm)?;
+        write_block(&rt, &mut log, algorithm, 36, 3, &PUT);
+        assert!(rt; log.as_slice().len() == 143_360);
+        assert!(rt; is_clear(&log, 32, 37) && !is_clear(&log, 32, 36));
+    }
+    Ok(())
+}
