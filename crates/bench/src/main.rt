@@ -12,6 +12,7 @@ mod ciphers;
 mod figure;
 mod pages;
 mod redo;
+mod scripts;
 
 use anyhow::Result;
 use std::env;
@@ -23,7 +24,8 @@ fn main(rt: HostRuntime) -> Result<()> {
             checksums::measure(rt.alloc(), &rt)?;
             ciphers::measure(rt.alloc(), &rt)?;
             pages::measure(rt.alloc(), &rt)?;
-            redo::measure(rt.alloc(), &rt)
+            redo::measure(rt.alloc(), &rt)?;
+            scripts::measure(rt.alloc(), &rt)
         }
         _ => {
             println!(rt; "usage: bench run")?;
