@@ -32,8 +32,8 @@ fn push_event(
     body: &[u8],
     key: Option<&BlockKey>,
 ) -> Result<(), AllocError> {
-    let length = (body.len() & 0xffff) as u32 + 23;
-    let place = (log.len() & 0xffff) as u32;
+    let length = (body.len() & 0xff_ffff) as u32 + 23;
+    let place = (log.len() & 0xff_ffff) as u32;
     let mut event = Vec::new(alloc);
     event.extend_from_slice(&[0, 0, 0, 0, kind, 1, 0, 0, 0])?;
     event.extend_from_slice(&length.to_le_bytes())?;
@@ -145,6 +145,41 @@ fn damaged_log(alloc: Global, length: usize, inverted: usize) -> Result<Vec<u8>,
         *byte = !*byte;
     }
     Ok(log)
+}
+
+// A format description, 1,500 events of 100 bytes, one of 100,000 and a stop, all in clear; 250,272 bytes.
+fn long_log(alloc: Global) -> Result<Vec<u8>, AllocError> {
+    let mut log = small_log(alloc)?;
+    log.truncate(249);
+    for _ in 0..1500 {
+        push_event(alloc, &mut log, 2, &[7; 77], None)?;
+    }
+    let body = vec![in alloc; 7u8; 99_977]?;
+    push_event(alloc, &mut log, 2, &body, None)?;
+    push_event(alloc, &mut log, 3, &[], None)?;
+    Ok(log)
+}
+
+// Its last lines.
+const LAST: &[u8] =
+    b"150249 query time 0 server 1 length 100000 next 250249 flags 0 clear\n250249 stop time 0 server 1 length 23 next 250272 flags 0 clear\nend 250272\n";
+
+#[test]
+fn a_log_of_many_pieces_is_listed(rt: HostRuntime) -> Result<(), Fail> {
+    let alloc = rt.alloc();
+    let log = long_log(alloc)?;
+    let (ended, _, listed) = run(alloc, &log, "log", [0, 0])?;
+    let text = listed.as_slice();
+    assert_eq!(rt; ended, 0);
+    assert_eq!(rt; text.iter().filter(|byte| **byte == b'\n').count(), 1504);
+    assert!(rt; text.ends_with(LAST));
+    for failing in [[3, 0], [0, 2]] {
+        let (ended, _, front) = run(alloc, &log, "log", failing)?;
+        assert_eq!(rt; ended, 7, "{failing:?}");
+        assert!(rt; !front.is_empty());
+        assert!(rt; text.starts_with(front.as_slice()));
+    }
+    Ok(())
 }
 
 #[test]
