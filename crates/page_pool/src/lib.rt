@@ -8,7 +8,8 @@
 //! 1. At most 256 pages are dirty, and at most 64 are clean. None is both, and none comes twice.
 //! 2. A mini-transaction is made whole or not at all: what a refused one names is as it was.
 //! 3. What a change does to a page is what it does in the fold of a journal.
-//! 4. `find`, `clean`, `oldest` and `dirty` take no memory.
+//! 4. `find`, `oldest` and `dirty` take no memory. `clean` asks for one entry of the cache, and lets the
+//!    page go where there is none. None of the four answers want of memory.
 #![tactic(auto)]
 
 mod changing;
