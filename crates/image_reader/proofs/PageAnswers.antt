@@ -1,0 +1,132 @@
+-- What a page holds is one thing; a page, and a space, that is refused holds nothing.
+use Rattle.std.proofs.Common.{◌≡◌, ◌≢◌, ℕ, zero, suc, ◌+◌, ◌<◌, ◌≤◌, List, [], ◌∷◌, ◌++◌, Option, None, length, refl, sym, ap, subst, ◌∙◌, arith, add-one, ⊎_elim, length-append}
+use Rattle.std.proofs.lemmas.Bool.{cases_lt}
+use Rattle.std.proofs.lemmas.List.{get_or_at, get_or_append_left}
+use Rattle.std.specs.Prelude.{slice_index_or}
+use Rattle.key_ring.specs.Ring.{RingEntry}
+use Rattle.places.specs.Places.{place}
+use Rattle.redo_text.specs.declared.change.Change.{Change}
+use Rattle.space_head.specs.declared.space.SpaceInfo.{SpaceInfo}
+use Rattle.store_image.specs.Places.{LogView}
+use Rattle.store_image.proofs.RecoversOnce.{page_one}
+use Rattle.store_model.specs.declared.contents.PlainPage.{PlainPage}
+use Rattle.store_model.specs.declared.contents.SpaceContents.{SpaceContents}
+use Rattle.store_files.specs.Header.{HeldHeader, HeldSpace}
+use Rattle.store_files.specs.Pages.{Page, Head, page_held, page_in}
+use Rattle.crash_image.specs.StoreTheory.{store_theory}
+use Rattle.image_pages.specs.Recovering.{run_view, IsRecovered, IsUnrecovered, AgreeBelow, SlotDiffers}
+use Rattle.image_reader.specs.Refusals.{IsOfPage}
+use Rattle.image_reader.specs.Spaces.{IsHeaderInfo, PageGives, PageHolds, PageRefused, HeadHolds, HeadRefused, PagesHold, PagesRefused, SpaceGives, SpaceHolds, SpaceRefused}
+use Rattle.image_reader.specs.declared.refusal.Refusal.{Refusal}
+use Rattle.image_reader.specs.declared.refusal.Refusal.TheVariants.{OutOfMemory}
+
+module _ (header : HeldHeader) (keys : List RingEntry) (log : LogView (List Change)) (home double : List ℕ) where
+  pub one_page : (salts : ℕ → List ℕ) (s p : ℕ) (x y : Page) → PageGives header keys log home double salts s p x → PageGives header keys log home double salts s p y → x ≡ y
+  one_page salts s p x y a b = page_one (store_theory header keys salts) (run_view log home double) (λ z q. x) (λ z q. y) s p a.page b.page
+
+  module _ (s p : ℕ) (salt : List ℕ) where
+    pub page_gives : (x : Page) (salts : ℕ → List ℕ) → salts s ≡ salt → IsRecovered header keys log home double s p salt x → AgreeBelow header keys log home double s p salt x 64 → PageGives header keys log home double salts s p x
+    page_gives x salts same is agree = record { page = is salts same; slots = λ i t live. agree i live.copy.within salts same t live }
+
+    pub page_holds : (x : Page) → IsRecovered header keys log home double s p salt x → AgreeBelow header keys log home double s p salt x 64 → PageHolds header keys log home double salt s p x
+    page_holds x is agree = record { any = λ salts same. page_gives x salts same is agree }
+
+    pub text_refused : (r : Refusal) → IsOfPage r → (r ≢ OutOfMemory → IsUnrecovered header keys log home double s p salt) → PageRefused header keys log home double salt s p r
+    text_refused r of_page none = record { of_page = of_page; none = λ some. record { none = λ salts same x g. none some salts same (λ z q. x) g.page } }
+
+    other_page : (x : Page) (i : ℕ) → IsRecovered header keys log home double s p salt x → SlotDiffers header keys log home double s p salt x i → (salts : ℕ → List ℕ) → salts s ≡ salt → (y : Page) → PageGives header keys log home double salts s p y → ⊥
+    other_page x i is differs salts same y g =
+        let e : y ≡ x = page_one (store_theory header keys salts) (run_view log home double) (λ z q. y) (λ z q. x) s p g.page (is salts same) in
+        differs salts same (λ z q. y) e (λ t live. g.slots i t live)
+
+    pub slot_refused : (x : Page) (i : ℕ) (r : Refusal) → IsOfPage r → IsRecovered header keys log home double s p salt x → SlotDiffers header keys log home double s p salt x i → PageRefused header keys log home double salt s p r
+    slot_refused x i r of_page is differs = record { of_page = of_page; none = λ some. record { none = other_page x i is differs } }
+
+-- ---- page 0
+
+module _ (log : LogView (List Change)) (home double : List ℕ) (s : ℕ) where
+  pub head_holds : (info : SpaceInfo) → ((header : HeldHeader) (keys : List RingEntry) (salt : List ℕ) → IsRecovered header keys log home double s 0 salt (Head info))
+      → ((header : HeldHeader) (keys : List RingEntry) (salt : List ℕ) → AgreeBelow header keys log home double s 0 salt (Head info) 64) → HeadHolds log home double s info
+  head_holds info is agree = record { any = λ header keys salts. page_gives header keys log home double s 0 (salts s) (Head info) salts refl (is header keys (salts s)) (agree header keys (salts s)) }
+
+  pub head_text_refused : (r : Refusal) → IsOfPage r → (r ≢ OutOfMemory → (header : HeldHeader) (keys : List RingEntry) (salt : List ℕ) → IsUnrecovered header keys log home double s 0 salt) → HeadRefused log home double s r
+  head_text_refused r of_page none = record { of_page = of_page; none = λ some header keys salts x g. none some header keys (salts s) salts refl (λ z q. x) g.page }
+
+  pub head_slot_refused : (info : SpaceInfo) (i : ℕ) (r : Refusal) → IsOfPage r → ((header : HeldHeader) (keys : List RingEntry) (salt : List ℕ) → IsRecovered header keys log home double s 0 salt (Head info))
+      → ((header : HeldHeader) (keys : List RingEntry) (salt : List ℕ) → SlotDiffers header keys log home double s 0 salt (Head info) i) → HeadRefused log home double s r
+  head_slot_refused info i r of_page is differs = record {
+    of_page = of_page;
+    none = λ some header keys salts x g.
+        let refused = slot_refused header keys log home double s 0 (salts s) (Head info) i r of_page (is header keys (salts s)) (differs header keys (salts s)) in
+        (refused.none some).none salts refl x g;
+  }
+
+-- ---- the pages from page 1 on
+
+module _ (header : HeldHeader) (keys : List RingEntry) (log : LogView (List Change)) (bytes double salt : List ℕ) (s : ℕ) where
+  pub pages_memory : (pages page : ℕ) → 0 < page → page < pages → PagesRefused header keys log bytes double salt s pages OutOfMemory
+  pages_memory pages page some within = record { of_page = tt; page = page; some = some; within = within; none = λ mem. absurd (mem refl) }
+
+  pub pages_more : (pages new : List (Option PlainPage)) (x : Option PlainPage) (n : ℕ) → length pages + 1 ≡ n → PagesHold header keys log bytes double salt s pages
+      → PageHolds header keys log (place 16384 n bytes) double salt s n (page_held x) → new ≡ pages ++ x ∷ [] → PagesHold header keys log bytes double salt s new × length new + 1 ≡ n + 1
+  pages_more pages new x n long each page is = subst (λ (l : List (Option PlainPage)). PagesHold header keys log bytes double salt s l × length l + 1 ≡ n + 1) (sym is) (record { each = holds }, let l = longer in omega (arith, l, long))
+    where
+      Holds : ℕ → Option PlainPage → Type 0
+      Holds i y = PageHolds header keys log (place 16384 (i + 1) bytes) double salt s (i + 1) (page_held y)
+
+      longer : length (pages ++ x ∷ []) ≡ length pages + 1
+      longer = length-append pages (x ∷ [])
+
+      last : (i : ℕ) → length pages ≡ i → Holds i (slice_index_or (pages ++ x ∷ []) i None)
+      last i e = subst (λ (y : Option PlainPage). Holds i y) (sym (get_or_at pages x [] None i e)) (subst (λ (k : ℕ). PageHolds header keys log (place 16384 k bytes) double salt s k (page_held x)) (sym long ∙ ap (λ (k : ℕ). k + 1) e) page)
+
+      holds : (i : ℕ) → i < length (pages ++ x ∷ []) → Holds i (slice_index_or (pages ++ x ∷ []) i None)
+      holds i lt = ⊎_elim (λ (l : i < length pages). subst (λ (y : Option PlainPage). Holds i y) (sym (get_or_append_left pages (x ∷ []) None i l)) (each.each i l))
+          (λ (ge : length pages ≤ i). last i (let l = longer in omega (arith, lt, ge, l))) (cases_lt i (length pages))
+
+-- ---- a space
+
+module _ (header : HeldHeader) (keys : List RingEntry) (log : LogView (List Change)) (bytes double : List ℕ) (h : HeldSpace) (info : SpaceInfo) (head : HeadHolds log (place 16384 0 bytes) double h.space info) where
+  one_info : (a b : SpaceInfo) → Head a ≡ Head b → a ≡ b
+  one_info a b e = cc
+
+  same_info : (x : SpaceContents) (salts : ℕ → List ℕ) → 0 < h.pages → SpaceGives header keys log bytes double salts h x → x.info ≡ info
+  same_info x salts some g = one_info x.info info (one_page header keys log (place 16384 0 bytes) double salts h.space 0 (Head x.info) (Head info) (g.pages 0 some) (head.any header keys salts))
+
+  pub space_holds : IsHeaderInfo h info → (pages : List (Option PlainPage)) → length pages + 1 ≡ h.pages → PagesHold header keys log bytes double info.salt h.space pages → SpaceHolds header keys log bytes double h (record { info = info; pages = pages })
+  space_holds is pages long each = record {
+    any = λ salts same. record {
+      space = is.space;
+      size = is.size;
+      key_id = is.key_id;
+      long = long;
+      pages = gives salts same;
+    };
+  }
+    where
+      gives : (salts : ℕ → List ℕ) → salts h.space ≡ info.salt → (p : ℕ) → p < h.pages → PageGives header keys log (place 16384 p bytes) double salts h.space p (page_in (record { info = info; pages = pages }) p)
+      gives salts same zero lt = head.any header keys salts
+      gives salts same (suc i) lt = subst (λ (n : ℕ). PageGives header keys log (place 16384 n bytes) double salts h.space n (page_held (slice_index_or pages i None))) (add-one i) ((each.each i (omega (arith, lt, long))).any salts same)
+
+  pub head_differs : (r : Refusal) → IsOfPage r → 0 < h.pages → (IsHeaderInfo h info → ⊥) → SpaceRefused header keys log bytes double h r
+  head_differs r of_page some other = record {
+    of_page = of_page;
+    none = λ mem. record {
+      none = λ x salts same g.
+          let e = same_info x salts some g in
+          other (subst (λ (i : SpaceInfo). IsHeaderInfo h i) e (record { space = g.space; size = g.size; key_id = g.key_id }));
+    };
+  }
+
+  pub page_none : (r : Refusal) → 0 < h.pages → PagesRefused header keys log bytes double info.salt h.space h.pages r → SpaceRefused header keys log bytes double h r
+  page_none r some refused = record {
+    of_page = refused.of_page;
+    none = λ mem. record {
+      none = λ x salts same g.
+          let e = same_info x salts some g in
+          (refused.none mem).none salts (same ∙ ap (λ (i : SpaceInfo). i.salt) e) (page_in x refused.page) (g.pages refused.page refused.within);
+    };
+  }
+
+pub head_none : (header : HeldHeader) (keys : List RingEntry) (log : LogView (List Change)) (bytes double : List ℕ) (h : HeldSpace) (r : Refusal) → 0 < h.pages → HeadRefused log (place 16384 0 bytes) double h.space r → SpaceRefused header keys log bytes double h r
+head_none header keys log bytes double h r some refused = record { of_page = refused.of_page; none = λ mem. record { none = λ x salts same g. refused.none mem header keys salts (page_in x 0) (g.pages 0 some) } }

@@ -1,0 +1,6 @@
+use Rattle.image_reader.specs.Refusals.{ArePlaced}
+use Rattle.image_reader.proofs.Passes.{Passes}
+use Rattle.image_reader.proofs.checks.check_homes.Given as goal
+
+abbrev pub invariant-loop-space : goal.invariant-loop-space
+invariant-loop-space l = Passes (ArePlaced l.files) l.space-items l.space-index
