@@ -3,7 +3,6 @@ pub mod TextFacts
 pub mod CheckLaws
 pub mod FormLaws
 pub mod BlockSteps
-pub mod BlockEvents
 pub mod CheckParts
 pub mod CheckSteps
 pub mod FitSteps

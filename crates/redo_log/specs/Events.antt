@@ -4,6 +4,7 @@ use Rattle.disk_model.specs.Event.{Event, Write, Sync}
 use Rattle.disk_model.specs.Past.{Past, IsWrite}
 use Rattle.disk_model.specs.declared.names.FileName.TheVariants.{Log as LogFile}
 use Rattle.places.specs.Batches.{Batch, Writing, Wrote, BatchSettled, IsOf}
+use Rattle.places.specs.Writes.{writes_of}
 use Rattle.redo_log.specs.State.{LogState}
 use Rattle.redo_log.specs.Blocks.{file_layout}
 use Rattle.redo_log.specs.Check.{check_bytes}
@@ -31,25 +32,10 @@ BlocksSettled log s m = BatchSettled LogFile (file_layout log.blocks) (block_bat
 abbrev pub IsBlockEvent : LogState → Event → Type 0
 IsBlockEvent log e = IsOf LogFile 4096 (block_batch log) (pending_count log) e
 
--- the first k writes of a batch, the newest first
-abbrev pub writes_of : Batch → ℕ → List Event
-writes_of b zero = []
-writes_of b (suc k) = Write LogFile (b.place k * 4096) (b.bytes k) (b.bytes k) ∷ writes_of b k
-
--- a past with these events more
-abbrev pub grows : List Event → Past → Past
-grows news None = None
-grows news (Some es) = Some (news ++ es)
-
 -- what a write out adds: each pending block in order, and one sync, but nothing where nothing is pending
 abbrev pub out_events : ℕ → LogState → List Event
 out_events zero log = []
-out_events (suc k) log = Sync LogFile ∷ writes_of (block_batch log) (suc k)
-
--- Some of the first k writes were done in order. The one behind them may have failed.
-pub data IsPart (b : Batch) (k : ℕ) (old new : Past) : Type 0 where
-  Done : (j : ℕ) → j ≤ k → new ≡ grows (writes_of b j) old → IsPart b k old new
-  Failed : (j : ℕ) (e : Event) → j < k → IsWrite LogFile (b.place j * 4096) (b.bytes j) e → new ≡ grows (e ∷ writes_of b j) old → IsPart b k old new
+out_events (suc k) log = Sync LogFile ∷ writes_of LogFile 4096 (block_batch log) (suc k)
 
 -- a checkpoint is being written, was written, and is durable
 abbrev pub CheckWriting : ℕ → ℕ → ℕ → List Event → List Event → Type 0

@@ -12,7 +12,8 @@ ghost use Rattle.store_image.specs.View.{Logged};
 ghost use Rattle.redo_text.specs.declared.change.Change.{Change};
 ghost use Rattle.redo_log.specs.Blocks.{Keys, redo_form, file_layout};
 ghost use Rattle.redo_log.specs.Check.{check_bytes};
-ghost use Rattle.redo_log.specs.Events.{side_batch, CheckWriting, CheckWrote, CheckSettled, IsCheckEvent, check_event, IsPart};
+ghost use Rattle.places.specs.Writes.{IsPart};
+ghost use Rattle.redo_log.specs.Events.{side_batch, CheckWriting, CheckWrote, CheckSettled, IsCheckEvent, check_event};
 ghost use Rattle.redo_log.specs.Fresh.{fresh_ring, IsFresh};
 ghost use Rattle.redo_log.specs.Log.{IsOpen, durable, checked, with_checkpoint, FitsRing};
 
@@ -59,7 +60,7 @@ fn settle_check<D: Disk>(
     requires places { At (HasPlaces LogFile (file_layout blocks)) (D.past disk.old) }
     ensures does { Does (From (CheckWriting blocks sequence from) (D.past disk.old)) (IsCheckEvent sequence from) (From (CheckSettled blocks sequence from) (D.past disk.old)) (D.past disk.old) (D.past disk.new) result }
     ensures exact { OnOk result (D.past disk.new ≡ grow (Sync LogFile) (grow (check_event sequence from) (D.past disk.old))) }
-    ensures part { OnErr result (IsPart (side_batch sequence from) 1 (D.past disk.old) (D.past disk.new)) }
+    ensures part { OnErr result (IsPart LogFile 4096 (side_batch sequence from) 1 (D.past disk.old) (D.past disk.new)) }
     ensures later { D.is_later disk.old disk.new }
     ensures cause { HasDiskCause (D.faults disk.old) (D.faults disk.new) result }
     ensures memory { HasDiskMemoryCause (D.memory_refusals disk.old) (D.memory_refusals disk.new) result }
@@ -81,7 +82,7 @@ pub fn write_first_checkpoint<D: Disk>(disk: &mut D, blocks: u64) -> Result<(), 
     requires made { At (IsFresh blocks) (D.past disk.old) }
     ensures ready { (keys : Keys) → OnOk result (At (RingReady blocks (redo_form keys) (fresh_ring blocks)) (D.past disk.new)) }
     ensures exact { OnOk result (D.past disk.new ≡ grow (Sync LogFile) (grow (check_event 1 2) (D.past disk.old))) }
-    ensures part { OnErr result (IsPart (side_batch 1 2) 1 (D.past disk.old) (D.past disk.new)) }
+    ensures part { OnErr result (IsPart LogFile 4096 (side_batch 1 2) 1 (D.past disk.old) (D.past disk.new)) }
     ensures places { At (HasPlaces LogFile (file_layout blocks)) (D.past disk.new) }
     ensures later { D.is_later disk.old disk.new }
     ensures cause { HasDiskCause (D.faults disk.old) (D.faults disk.new) result }
@@ -102,7 +103,7 @@ impl Log {
         ensures places { At (HasPlaces LogFile (file_layout self.now.blocks)) (D.past disk.new) }
         ensures nothing { from ≡ self.now.from → (result ≡ Ok tt) × (D.past disk.new ≡ D.past disk.old) × (disk.new ≡ disk.old) }
         ensures exact { self.now.from < from → OnOk result (D.past disk.new ≡ grow (Sync LogFile) (grow (check_event (self.now.sequence + 1) from) (D.past disk.old))) }
-        ensures part { OnErr result (IsPart (side_batch (self.now.sequence + 1) from) 1 (D.past disk.old) (D.past disk.new)) }
+        ensures part { OnErr result (IsPart LogFile 4096 (side_batch (self.now.sequence + 1) from) 1 (D.past disk.old) (D.past disk.new)) }
         ensures later { D.is_later disk.old disk.new }
         ensures cause { HasDiskCause (D.faults disk.old) (D.faults disk.new) result }
         ensures memory { HasDiskMemoryCause (D.memory_refusals disk.old) (D.memory_refusals disk.new) result }
@@ -132,7 +133,7 @@ impl Log {
         ensures fits { OnOk result ((r : RingState) → FitsRing r self.old → FitsRing (checked r from) self.new) }
         ensures nothing { from ≡ self.old.from → (result ≡ Ok tt) × (D.past disk.new ≡ D.past disk.old) × (disk.new ≡ disk.old) }
         ensures exact { self.old.from < from → OnOk result (D.past disk.new ≡ grow (Sync LogFile) (grow (check_event (self.old.sequence + 1) from) (D.past disk.old))) }
-        ensures part { OnErr result (IsPart (side_batch (self.old.sequence + 1) from) 1 (D.past disk.old) (D.past disk.new)) }
+        ensures part { OnErr result (IsPart LogFile 4096 (side_batch (self.old.sequence + 1) from) 1 (D.past disk.old) (D.past disk.new)) }
         ensures moved { OnOk result (self.new ≡ with_checkpoint self.old from) }
         ensures kept { OnErr result (self.new ≡ self.old) }
         ensures open { IsOpen self.new }

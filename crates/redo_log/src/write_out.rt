@@ -11,7 +11,8 @@ ghost use Rattle.ring_log.specs.Ring.{RingState, Ringed, RingReady, IsRingJourna
 ghost use Rattle.store_image.specs.View.{Logged};
 ghost use Rattle.redo_text.specs.declared.change.Change.{Change};
 ghost use Rattle.redo_log.specs.Blocks.{Keys, redo_form, file_layout};
-ghost use Rattle.redo_log.specs.Events.{block_batch, BlocksWriting, BlocksWrote, IsBlockEvent, writes_of, grows, out_events, IsPart};
+ghost use Rattle.places.specs.Writes.{writes_of, grows, IsPart};
+ghost use Rattle.redo_log.specs.Events.{block_batch, BlocksWriting, BlocksWrote, IsBlockEvent, out_events};
 ghost use Rattle.redo_log.specs.Log.{IsOpen, durable, pending_at, pending_count, written_out, FitsRing};
 
 use crate::Log;
@@ -40,8 +41,8 @@ impl Log {
     fn write_blocks<D: Disk>(&self, disk: &mut D) -> Result<(), DiskError>
         requires places { At (HasPlaces LogFile (file_layout self.now.blocks)) (D.past disk.old) }
         ensures does { Does (From (BlocksWriting self.now) (D.past disk.old)) (IsBlockEvent self.now) (From (BlocksWrote self.now (pending_count self.now)) (D.past disk.old)) (D.past disk.old) (D.past disk.new) result }
-        ensures exact { OnOk result (D.past disk.new ≡ grows (writes_of (block_batch self.now) (pending_count self.now)) (D.past disk.old)) }
-        ensures part { OnErr result (IsPart (block_batch self.now) (pending_count self.now) (D.past disk.old) (D.past disk.new)) }
+        ensures exact { OnOk result (D.past disk.new ≡ grows (writes_of LogFile 4096 (block_batch self.now) (pending_count self.now)) (D.past disk.old)) }
+        ensures part { OnErr result (IsPart LogFile 4096 (block_batch self.now) (pending_count self.now) (D.past disk.old) (D.past disk.new)) }
         ensures later { D.is_later disk.old disk.new }
         ensures cause { HasDiskCause (D.faults disk.old) (D.faults disk.new) result }
         ensures memory { HasDiskMemoryCause (D.memory_refusals disk.old) (D.memory_refusals disk.new) result }
@@ -61,7 +62,7 @@ impl Log {
         ensures places { At (HasPlaces LogFile (file_layout self.now.blocks)) (D.past disk.new) }
         ensures nothing { pending_count self.now ≡ 0 → (result ≡ Ok tt) × (disk.new ≡ disk.old) }
         ensures exact { OnOk result (D.past disk.new ≡ grows (out_events (pending_count self.now) self.now) (D.past disk.old)) }
-        ensures part { OnErr result (IsPart (block_batch self.now) (pending_count self.now) (D.past disk.old) (D.past disk.new)) }
+        ensures part { OnErr result (IsPart LogFile 4096 (block_batch self.now) (pending_count self.now) (D.past disk.old) (D.past disk.new)) }
         ensures later { D.is_later disk.old disk.new }
         ensures cause { HasDiskCause (D.faults disk.old) (D.faults disk.new) result }
         ensures memory { HasDiskMemoryCause (D.memory_refusals disk.old) (D.memory_refusals disk.new) result }
@@ -88,7 +89,7 @@ impl Log {
         ensures fits { OnOk result ((r : RingState) → FitsRing r self.old → FitsRing (settle r (pending_count self.old)) self.new) }
         ensures nothing { pending_count self.old ≡ 0 → (result ≡ Ok tt) × (disk.new ≡ disk.old) }
         ensures exact { OnOk result (D.past disk.new ≡ grows (out_events (pending_count self.old) self.old) (D.past disk.old)) }
-        ensures part { OnErr result (IsPart (block_batch self.old) (pending_count self.old) (D.past disk.old) (D.past disk.new)) }
+        ensures part { OnErr result (IsPart LogFile 4096 (block_batch self.old) (pending_count self.old) (D.past disk.old) (D.past disk.new)) }
         ensures given_up { OnOk result (self.new ≡ written_out self.old) }
         ensures kept { OnErr result (self.new ≡ self.old) }
         ensures open { IsOpen self.new }

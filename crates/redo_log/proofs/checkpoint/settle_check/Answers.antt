@@ -5,8 +5,9 @@ use Rattle.disk_model.specs.Past.{Past, grow}
 use Rattle.disk_model.specs.declared.names.FileName.TheVariants.{Log as LogFile}
 use Rattle.disk_model.proofs.Layers.{does_err, does_then, does_sync}
 use Rattle.places.specs.Batches.{Syncs}
-use Rattle.redo_log.specs.Events.{side_batch, IsCheckEvent, Done}
-use Rattle.redo_log.proofs.BlockEvents.{grows_none, write_more, write_failed}
+use Rattle.places.specs.Writes.{Done}
+use Rattle.redo_log.specs.Events.{side_batch, IsCheckEvent}
+use Rattle.places.proofs.WriteLemmas.{grows_none, write_more, write_failed}
 use Rattle.redo_log.proofs.CheckSteps.{check_now, check_sync, check_then}
 use Rattle.redo_log.proofs.checkpoint.settle_check.Goals as goal
 
@@ -16,7 +17,7 @@ returns-in_err-write_check-clause-does g c = does_err _ _ c.from_residual.ensure
 pub returns-in_err-write_check-clause-part : goal.returns-in_err-write_check-clause-part
 returns-in_err-write_check-clause-part g c =
     let first : Past = g.D.Disk.past c.args.disk.now in
-    write_failed (side_batch c.args.sequence c.args.from) 0 1 first first (g.D.Disk.past c.write_check.new.disk) c.from_residual.result (omega arith) (sym (grows_none first)) c.in_err-write_check.ensures.err
+    write_failed LogFile 4096 (side_batch c.args.sequence c.args.from) 0 1 first first (g.D.Disk.past c.write_check.new.disk) c.from_residual.result (omega arith) (sym (grows_none first)) c.in_err-write_check.ensures.err
 
 pub returns-clause-does : goal.returns-clause-does
 returns-clause-does g c =
@@ -33,4 +34,4 @@ returns-clause-exact g c = on_ok_weaker c.sync.result (λ e. e ∙ ap (grow (Syn
 pub returns-clause-part : goal.returns-clause-part
 returns-clause-part g c =
     let first : Past = g.D.Disk.past c.args.disk.now in
-    on_err_weaker c.sync.result (λ e. Done 1 (omega arith) (e ∙ write_more (side_batch c.args.sequence c.args.from) 0 first first _ (sym (grows_none first)) c.in_ok-write_check.ensures.ok)) c.sync.ensures.err
+    on_err_weaker c.sync.result (λ e. Done 1 (omega arith) (e ∙ write_more LogFile 4096 (side_batch c.args.sequence c.args.from) 0 first first _ (sym (grows_none first)) c.in_ok-write_check.ensures.ok)) c.sync.ensures.err

@@ -8,7 +8,8 @@ use Rattle.places.specs.Batches.{From}
 use Rattle.places.specs.Places.{HasPlaces}
 use Rattle.places.proofs.Batches.{does_stay}
 use Rattle.redo_log.specs.Blocks.{file_layout}
-use Rattle.redo_log.specs.Events.{side_batch, check_event, CheckWriting, CheckSettled, IsCheckEvent, IsPart}
+use Rattle.places.specs.Writes.{IsPart}
+use Rattle.redo_log.specs.Events.{side_batch, check_event, CheckWriting, CheckSettled, IsCheckEvent}
 use Rattle.redo_log.proofs.BlockSteps.{places_after}
 use Rattle.redo_log.proofs.CheckSteps.{ring_check, checked_none, checking_none}
 use Rattle.redo_log.proofs.log.Log.move_from.Goals as goal
@@ -49,4 +50,4 @@ pub returns-clause-exact : goal.returns-clause-exact
 returns-clause-exact g c = λ lt. subst (λ (s : ℕ). OnOk c.settle_check.result (g.D.Disk.past c.settle_check.new.disk ≡ grow (Sync LogFile) (grow (check_event (s + 1) c.args.from) (g.D.Disk.past c.args.disk.now)))) c.sequence.ensures c.settle_check.ensures.exact
 
 pub returns-clause-part : goal.returns-clause-part
-returns-clause-part g c = subst (λ (s : ℕ). OnErr c.settle_check.result (IsPart (side_batch (s + 1) c.args.from) 1 (g.D.Disk.past c.args.disk.now) (g.D.Disk.past c.settle_check.new.disk))) c.sequence.ensures c.settle_check.ensures.part
+returns-clause-part g c = subst (λ (s : ℕ). OnErr c.settle_check.result (IsPart LogFile 4096 (side_batch (s + 1) c.args.from) 1 (g.D.Disk.past c.args.disk.now) (g.D.Disk.past c.settle_check.new.disk))) c.sequence.ensures c.settle_check.ensures.part

@@ -9,13 +9,14 @@ use Rattle.places.specs.Batches.{Syncs}
 use Rattle.places.proofs.Batches.{does_stay}
 use Rattle.redo_log.specs.State.{LogState}
 use Rattle.redo_log.specs.Log.{pending_count}
-use Rattle.redo_log.specs.Events.{block_batch, IsBlockEvent, out_events, writes_of, grows, Done}
+use Rattle.places.specs.Writes.{writes_of, grows, Done}
+use Rattle.redo_log.specs.Events.{block_batch, IsBlockEvent, out_events}
 use Rattle.redo_log.proofs.BlockSteps.{ring_out, ready_none, ringed_none, places_after, blocks_now, blocks_then, blocks_sync}
-use Rattle.redo_log.proofs.BlockEvents.{grows_none, sync_more, part_same, part_all}
+use Rattle.places.proofs.WriteLemmas.{grows_none, sync_more, part_same, part_all}
 use Rattle.redo_log.proofs.log.Log.settle_blocks.Goals as goal
 
 -- where something is pending a write out is its writes and a sync
-out_some : (log : LogState) (k : ℕ) → (k ≡ 0 → ⊥) → Sync LogFile ∷ writes_of (block_batch log) k ≡ out_events k log
+out_some : (log : LogState) (k : ℕ) → (k ≡ 0 → ⊥) → Sync LogFile ∷ writes_of LogFile 4096 (block_batch log) k ≡ out_events k log
 out_some log zero some = absurd (some refl)
 out_some log (suc k) some = refl
 
@@ -26,7 +27,7 @@ returns-in_err-write_blocks-clause-does g c = λ keys r fits at.
 pub returns-in_err-write_blocks-clause-part : goal.returns-in_err-write_blocks-clause-part
 returns-in_err-write_blocks-clause-part g c =
     let log = c.args.self.now in
-    part_same (block_batch log) (pending_count log) (g.D.Disk.past c.args.disk.now) _ _ c.in_err-write_blocks.ensures.part
+    part_same LogFile 4096 (block_batch log) (pending_count log) (g.D.Disk.past c.args.disk.now) _ _ c.in_err-write_blocks.ensures.part
 
 pub returns-in_err-write_blocks-clause-places : goal.returns-in_err-write_blocks-clause-places
 returns-in_err-write_blocks-clause-places g c =
@@ -54,7 +55,7 @@ returns-clause-exact g c =
     let log = c.args.self.now in
     let first = g.D.Disk.past c.args.disk.now in
     let some : pending_count log ≡ 0 → ⊥ = λ none. c.if-pending_count-eq0.false (c.pending_count.ensures.count ∙ none) in
-    on_ok_weaker c.sync.result (λ e. sync_more (block_batch log) (pending_count log) first (g.D.Disk.past c.write_blocks.new.disk) _ c.in_ok-write_blocks.ensures.exact e ∙ ap (λ (l : List Event). grows l first) (out_some log (pending_count log) some)) c.sync.ensures.ok
+    on_ok_weaker c.sync.result (λ e. sync_more LogFile 4096 (block_batch log) (pending_count log) first (g.D.Disk.past c.write_blocks.new.disk) _ c.in_ok-write_blocks.ensures.exact e ∙ ap (λ (l : List Event). grows l first) (out_some log (pending_count log) some)) c.sync.ensures.ok
 
 pub returns-clause-part : goal.returns-clause-part
 returns-clause-part g c =

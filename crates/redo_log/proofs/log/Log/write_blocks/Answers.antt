@@ -3,9 +3,11 @@ use Rattle.disk_model.proofs.Layers.{does_err, so_far_none, so_far_more, so_far_
 use Rattle.places.proofs.Batches.{at_end}
 use Rattle.places.specs.Batches.{From}
 use Rattle.redo_log.specs.Log.{pending_count}
-use Rattle.redo_log.specs.Events.{BlocksWrote, block_batch, writes_of, grows}
+use Rattle.disk_model.specs.declared.names.FileName.TheVariants.{Log as LogFile}
+use Rattle.places.specs.Writes.{writes_of, grows}
+use Rattle.redo_log.specs.Events.{BlocksWrote, block_batch}
 use Rattle.redo_log.proofs.BlockSteps.{blocks_begin, blocks_now}
-use Rattle.redo_log.proofs.BlockEvents.{grows_none, write_more, write_failed}
+use Rattle.places.proofs.WriteLemmas.{grows_none, write_more, write_failed}
 use Rattle.redo_log.proofs.log.Log.write_blocks.Goals as goal
 
 pub loop-i-init : goal.loop-i-init
@@ -31,7 +33,7 @@ returns-in_err-write_block-clause-does g c =
 pub returns-in_err-write_block-clause-part : goal.returns-in_err-write_block-clause-part
 returns-in_err-write_block-clause-part g c =
     let log = c.args.self.now in
-    write_failed (block_batch log) c.loop-i.i (pending_count log) (g.D.Disk.past c.args.disk.now) (g.D.Disk.past c.loop-i.disk) (g.D.Disk.past c.write_block.new.disk) c.from_residual.result
+    write_failed LogFile 4096 (block_batch log) c.loop-i.i (pending_count log) (g.D.Disk.past c.args.disk.now) (g.D.Disk.past c.loop-i.disk) (g.D.Disk.past c.write_block.new.disk) c.from_residual.result
     (omega (arith, c.loop-i-test.true, c.pending_count-i-end.ensures.count)) c.loop-i.invariant.exact c.in_err-write_block.ensures.err
 
 pub loop-i-preserved : goal.loop-i-preserved
@@ -40,7 +42,7 @@ loop-i-preserved g c =
     let first = g.D.Disk.past c.args.disk.now in
     record {
       so_far = so_far_more c.loop-i.invariant.so_far (c.in_ok-write_block.ensures.does first c.loop-i.invariant.so_far.at);
-      exact = write_more (block_batch log) c.loop-i.i first (g.D.Disk.past c.loop-i.disk) (g.D.Disk.past c.write_block.new.disk) c.loop-i.invariant.exact c.in_ok-write_block.ensures.ok;
+      exact = write_more LogFile 4096 (block_batch log) c.loop-i.i first (g.D.Disk.past c.loop-i.disk) (g.D.Disk.past c.write_block.new.disk) c.loop-i.invariant.exact c.in_ok-write_block.ensures.ok;
       faults = c.in_ok-write_block.ensures.no_fault ∙ c.loop-i.invariant.faults;
       memory_refusals = c.in_ok-write_block.ensures.no_refusal ∙ c.loop-i.invariant.memory_refusals;
       later = g.met.D.Disk.is_later_transitive _ _ _ c.loop-i.invariant.later c.in_ok-write_block.ensures.later;
@@ -56,4 +58,4 @@ pub returns-clause-exact : goal.returns-clause-exact
 returns-clause-exact g c =
     let log = c.args.self.now in
     let all : c.loop-i.i ≡ pending_count log = omega (arith, c.loop-i.auto.i-end, c.loop-i-test.false, c.pending_count-i-end.ensures.count) in
-    c.loop-i.invariant.exact ∙ ap (λ n. grows (writes_of (block_batch log) n) (g.D.Disk.past c.args.disk.now)) all
+    c.loop-i.invariant.exact ∙ ap (λ n. grows (writes_of LogFile 4096 (block_batch log) n) (g.D.Disk.past c.args.disk.now)) all

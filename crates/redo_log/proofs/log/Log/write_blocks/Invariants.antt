@@ -1,13 +1,15 @@
 use Rattle.std.proofs.Common.{◌≡◌}
 use Rattle.disk_model.specs.Does.{SoFar}
 use Rattle.places.specs.Batches.{From}
-use Rattle.redo_log.specs.Events.{IsBlockEvent, BlocksWriting, BlocksWrote, block_batch, writes_of, grows}
+use Rattle.disk_model.specs.declared.names.FileName.TheVariants.{Log as LogFile}
+use Rattle.places.specs.Writes.{writes_of, grows}
+use Rattle.redo_log.specs.Events.{IsBlockEvent, BlocksWriting, BlocksWrote, block_batch}
 use Rattle.redo_log.proofs.log.Log.write_blocks.Given as goal
 
 abbrev pub invariant-loop-i : goal.invariant-loop-i
 invariant-loop-i g l = record {
   so_far : SoFar (From (BlocksWriting l.self) (g.D.Disk.past l.fn.disk)) (IsBlockEvent l.self) (From (BlocksWrote l.self l.i) (g.D.Disk.past l.fn.disk)) (g.D.Disk.past l.fn.disk) (g.D.Disk.past l.disk);
-  exact : g.D.Disk.past l.disk ≡ grows (writes_of (block_batch l.self) l.i) (g.D.Disk.past l.fn.disk);
+  exact : g.D.Disk.past l.disk ≡ grows (writes_of LogFile 4096 (block_batch l.self) l.i) (g.D.Disk.past l.fn.disk);
   faults : g.D.Disk.faults l.disk ≡ g.D.Disk.faults l.fn.disk;
   memory_refusals : g.D.Disk.memory_refusals l.disk ≡ g.D.Disk.memory_refusals l.fn.disk;
   later : g.D.Disk.is_later l.fn.disk l.disk;
