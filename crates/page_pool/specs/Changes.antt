@@ -7,7 +7,7 @@ use Rattle.redo_text.specs.declared.change.Change.{Change}
 use Rattle.redo_text.specs.declared.change.Change.TheVariants.{Put, Kind, Touch, Floor, Encrypt}
 use Rattle.space_head.specs.Sizes.{record_place}
 pub use Rattle.store_model.specs.Fold.{body_written, kind_set}
-use Rattle.store_model.specs.Fold.{used}
+use Rattle.store_model.specs.Fold.{used, plain_changed}
 use Rattle.store_model.specs.declared.contents.PlainPage.{PlainPage}
 use Rattle.page_pool.specs.declared.names.DirtyPage.{DirtyPage}
 use Rattle.page_pool.specs.declared.names.PageName.{PageName}
@@ -17,9 +17,9 @@ use Rattle.page_pool.specs.Pages.{DirtyList, PoolState, entered, is_dirty, is_he
 
 -- The page as a change of it leaves it, by the fold's words. In page 0 a floor is the least version of the crypt record, and a ciphered space has the record's type 1 and its mode 1.
 abbrev pub page_changed_by : Change → PlainPage → PlainPage
-page_changed_by (Put s page at bytes) p = body_written at bytes p
-page_changed_by (Kind s page kind) p = kind_set kind p
-page_changed_by (Touch s page) p = p
+page_changed_by (Put s page at bytes) p = plain_changed (Put s page at bytes) p
+page_changed_by (Kind s page kind) p = plain_changed (Kind s page kind) p
+page_changed_by (Touch s page) p = plain_changed (Touch s page) p
 page_changed_by (Floor s version) p = body_written (record_place 16384 + 24) (to_be_bytes w32 version) p
 page_changed_by (Encrypt s) p = body_written (record_place 16384 + 32) (1 ∷ []) (body_written (record_place 16384 + 6) (1 ∷ []) p)
 

@@ -11,7 +11,7 @@ use Rattle.page_text.specs.declared.key.PageKey.{PageKey}
 use Rattle.space_head.specs.Head.{with_head}
 use Rattle.space_head.specs.declared.head.SpaceHead.{SpaceHead}
 use Rattle.store_image.specs.View.{Text}
-use Rattle.store_model.specs.Fold.{used, written, floor_set, made_ciphered}
+use Rattle.store_model.specs.Fold.{used, plain_changed, floor_set, made_ciphered}
 use Rattle.redo_text.specs.declared.change.Change.{Change}
 use Rattle.redo_text.specs.declared.change.Change.TheVariants.{Put, Kind, Touch, Floor, Encrypt}
 use Rattle.store_model.specs.declared.contents.PlainPage.{PlainPage}
@@ -53,11 +53,11 @@ page_after (Encrypt s) (Head info) = Head (made_ciphered info)
 page_after (Put s page at bytes) (Head info) = Head info
 page_after (Kind s page kind) (Head info) = Head info
 page_after (Touch s page) (Head info) = Head info
-page_after (Put s page at bytes) x = Used (record { kind = (plain_in x).kind; body = written at bytes (plain_in x).body })
-page_after (Kind s page kind) x = Used (record { kind = kind; body = (plain_in x).body })
-page_after (Touch s page) x = Used (plain_in x)
-page_after (Floor s version) x = Used (plain_in x)
-page_after (Encrypt s) x = Used (plain_in x)
+page_after (Put s page at bytes) x = Used (plain_changed (Put s page at bytes) (plain_in x))
+page_after (Kind s page kind) x = Used (plain_changed (Kind s page kind) (plain_in x))
+page_after (Touch s page) x = Used (plain_changed (Touch s page) (plain_in x))
+page_after (Floor s version) x = Used (plain_changed (Floor s version) (plain_in x))
+page_after (Encrypt s) x = Used (plain_changed (Encrypt s) (plain_in x))
 
 -- the page after the changes of a mini-transaction that name it, in order
 abbrev pub mtr_acts : List Change → ℕ → ℕ → Page → Page
