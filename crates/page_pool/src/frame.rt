@@ -12,7 +12,7 @@ use byte_list::fields::{put, put_be16};
 use byte_list::zero_bytes;
 use cause_core::OutOfMemory;
 use redo_text::ChangeView;
-use space_head::record_place;
+use space_head::{RECORD_MINIMUM, RECORD_MODE, RECORD_TYPE, record_place};
 use std::alloc::Global;
 use std::marker::Model;
 
@@ -21,13 +21,6 @@ pub const PAGE_BYTES: usize = 16384;
 
 // Where the type of a page stands in it.
 const KIND_PLACE: usize = 24;
-
-// Where the type of a crypt record, its least version and its mode stand in it.
-const RECORD_TYPE: usize = 6;
-
-const RECORD_MINIMUM: usize = 24;
-
-const RECORD_MODE: usize = 32;
 
 // The bytes of a held page. Contracts see its type and its body.
 #[derive(Drop)]
