@@ -1,5 +1,5 @@
 -- What a page is read from in a lucky image of a moment between the beginning of `store` and the end of `home` of one batch, where nothing was pending as `store` began and no page was read from a slot.
-use Rattle.std.proofs.Common.{◌≡◌, ◌⊎◌, ℕ, ◌<◌, ◌≤◌, Bool, List, length, Option, Some, None, sym, ap, subst, refl, ◌∙◌, inl, inr}
+use Rattle.std.proofs.Common.{◌≡◌, ◌⊎◌, ℕ, ◌<◌, ◌≤◌, Bool, List, length, Option, Some, None, ap, refl, ◌∙◌, inl, inr}
 use Rattle.disk_model.specs.Event.{Event}
 use Rattle.disk_model.specs.Image.{Image, IsImage, IsLucky}
 use Rattle.disk_model.specs.declared.names.FileName.{FileName}

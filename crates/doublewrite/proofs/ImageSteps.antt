@@ -1,12 +1,12 @@
 -- What a batch makes of the homes and slots that an image may hold, from what it makes of places.
-use Rattle.std.proofs.Common.{◌≡◌, ◌≢◌, ◌⊎◌, ℕ, ◌<◌, ◌≤◌, ◌^◌, Bool, false, nat_eq, List, length, Option, Some, None, refl, sym, ap, subst, ◌∙◌, inl, inr, ⊎_elim, arith}
+use Rattle.std.proofs.Common.{◌≡◌, ◌≢◌, ◌⊎◌, ℕ, ◌<◌, ◌^◌, false, nat_eq, List, length, Option, Some, None, refl, sym, ap, subst, ◌∙◌, inl, inr, ⊎_elim, arith}
 use Rattle.std.proofs.lemmas.Bool.{cases_eq}
 use Rattle.std.proofs.lemmas.Bool.Decides.{nat_tests}
-use Rattle.disk_model.specs.Event.{Event, same_file}
+use Rattle.disk_model.specs.Event.{Event}
 use Rattle.disk_model.specs.Does.{Since, IsOn}
 use Rattle.disk_model.specs.declared.names.FileName.TheVariants.{Double, Space}
 use Rattle.disk_model.proofs.Layers.{since_each}
-use Rattle.places.specs.Places.{shown, May, IsWritten, MayRead, Whole, IsTorn}
+use Rattle.places.specs.Places.{shown, May, IsWritten, Whole, IsTorn}
 use Rattle.places.specs.Batches.{Could, IsOneOf}
 use Rattle.places.proofs.Batches.{of_is_on}
 use Rattle.store_image.specs.View.{Held, Holds, Slot}

@@ -1,5 +1,4 @@
 -- What a call that restores homes may be refused for.
-use Rattle.std.specs.Prelude.{ℕ}
 use Rattle.doublewrite.specs.declared.refuse.OpenRefuse.{OpenRefuse}
 use Rattle.doublewrite.specs.declared.refuse.OpenRefuse.TheVariants.{NotFormatted, Mixed, Damaged, MissingKey, BadRecord, VersionBelowFloor, Spent, DiskFault, OutOfMemory}
 

@@ -1,11 +1,15 @@
 // The slots of a batch, one device call to a function.
-ghost use Rattle.std.specs.Prelude.{◌≡◌, ◌+◌, ◌<◌, ◌≤◌, length, OnOk};
+ghost use Rattle.std.specs.Prelude.{◌≡◌, ◌+◌, ◌*◌, ◌<◌, ◌≤◌, length, OnOk, OnErr, IsErrOf};
 ghost use Rattle.disk_model.specs.Does.{Does};
-ghost use Rattle.disk_model.specs.Past.{Past, At, HasDiskCause, HasDiskMemoryCause};
+ghost use Rattle.disk_model.specs.Event.{Sync, Write};
+ghost use Rattle.disk_model.specs.Past.{Past, At, MayGrow, IsWrite, grow, HasDiskCause, HasDiskMemoryCause};
+ghost use Rattle.disk_model.specs.declared.names.DiskError.TheVariants.{NoMemory};
 ghost use Rattle.disk_model.specs.declared.names.FileName.TheVariants.{Double};
 ghost use Rattle.places.specs.Batches.{From};
 ghost use Rattle.places.specs.Places.{HasPlaces};
+ghost use Rattle.places.specs.Writes.{writes_of, grows, IsPart};
 ghost use Rattle.page_places.specs.Texts.{slots};
+ghost use Rattle.doublewrite.specs.Batch.{slot_batch, slot_events};
 ghost use Rattle.doublewrite.specs.Images.{AreSlotsHonest, SlotsHold, SlotsMay};
 ghost use Rattle.doublewrite.specs.Layer.{IsSlotEvent, SlotsSettled, SlotsWriting, SlotsWrote};
 
@@ -26,10 +30,14 @@ fn write_slot<D: Disk>(
     requires places { At (HasPlaces Double slots) (D.past disk.old) }
     ensures does { (first : Past) → At (From (SlotsWrote batch.now i) first) (D.past disk.old) → Does (From (SlotsWriting batch.now) first) (IsSlotEvent batch.now) (From (SlotsWrote batch.now (i + 1)) first) (D.past disk.old) (D.past disk.new) result }
     ensures size { length slot.new ≡ 16896 }
+    ensures ok { OnOk result (D.past disk.new ≡ grow (Write Double (i * 16896) ((slot_batch batch.now).bytes i) ((slot_batch batch.now).bytes i)) (D.past disk.old)) }
+    ensures err { OnErr result (MayGrow (IsWrite Double (i * 16896) ((slot_batch batch.now).bytes i)) (D.past disk.old) (D.past disk.new)) }
     ensures later { D.is_later disk.old disk.new }
+    ensures calls { D.clock disk.new ≤ D.clock disk.old + 1 }
     ensures cause { HasDiskCause (D.faults disk.old) (D.faults disk.new) result }
     ensures memory { HasDiskMemoryCause (D.memory_refusals disk.old) (D.memory_refusals disk.new) result }
     ensures no_fault { OnOk result (D.faults disk.new ≡ D.faults disk.old) }
+    ensures no_fault_at_want { IsErrOf result NoMemory → D.faults disk.new ≡ D.faults disk.old }
     ensures no_refusal { OnOk result (D.memory_refusals disk.new ≡ D.memory_refusals disk.old) }
 {
     let text = batch.pages.get(i).bytes();
@@ -42,10 +50,14 @@ fn write_slots<D: Disk>(disk: &mut D, batch: &Texts, slot: &mut [u8]) -> Result<
     requires size { length slot.old ≡ 16896 }
     requires places { At (HasPlaces Double slots) (D.past disk.old) }
     ensures does { Does (From (SlotsWriting batch.now) (D.past disk.old)) (IsSlotEvent batch.now) (From (SlotsWrote batch.now (length batch.now.pages)) (D.past disk.old)) (D.past disk.old) (D.past disk.new) result }
+    ensures exact { OnOk result (D.past disk.new ≡ grows (writes_of Double 16896 (slot_batch batch.now) (length batch.now.pages)) (D.past disk.old)) }
+    ensures part { OnErr result (IsPart Double 16896 (slot_batch batch.now) (length batch.now.pages) (D.past disk.old) (D.past disk.new)) }
     ensures later { D.is_later disk.old disk.new }
+    ensures calls { D.clock disk.new ≤ D.clock disk.old + length batch.now.pages }
     ensures cause { HasDiskCause (D.faults disk.old) (D.faults disk.new) result }
     ensures memory { HasDiskMemoryCause (D.memory_refusals disk.old) (D.memory_refusals disk.new) result }
     ensures no_fault { OnOk result (D.faults disk.new ≡ D.faults disk.old) }
+    ensures no_fault_at_want { IsErrOf result NoMemory → D.faults disk.new ≡ D.faults disk.old }
     ensures no_refusal { OnOk result (D.memory_refusals disk.new ≡ D.memory_refusals disk.old) }
 {
     for i in 0..batch.pages.len() {
@@ -56,10 +68,14 @@ fn write_slots<D: Disk>(disk: &mut D, batch: &Texts, slot: &mut [u8]) -> Result<
 
 fn sync_slots<D: Disk>(disk: &mut D, batch: &Texts) -> Result<(), DiskError>
     ensures does { (first : Past) → At (From (SlotsWrote batch.now (length batch.now.pages)) first) (D.past disk.old) → Does (From (SlotsWriting batch.now) first) (IsSlotEvent batch.now) (From (SlotsSettled batch.now) first) (D.past disk.old) (D.past disk.new) result }
+    ensures ok { OnOk result (D.past disk.new ≡ grow (Sync Double) (D.past disk.old)) }
+    ensures err { OnErr result (D.past disk.new ≡ D.past disk.old) }
     ensures later { D.is_later disk.old disk.new }
+    ensures calls { D.clock disk.new ≤ D.clock disk.old + 1 }
     ensures cause { HasDiskCause (D.faults disk.old) (D.faults disk.new) result }
     ensures memory { HasDiskMemoryCause (D.memory_refusals disk.old) (D.memory_refusals disk.new) result }
     ensures no_fault { OnOk result (D.faults disk.new ≡ D.faults disk.old) }
+    ensures no_fault_at_want { IsErrOf result NoMemory → D.faults disk.new ≡ D.faults disk.old }
     ensures no_refusal { OnOk result (D.memory_refusals disk.new ≡ D.memory_refusals disk.old) }
 {
     let _ = batch;
@@ -71,10 +87,14 @@ fn store_slots<D: Disk>(disk: &mut D, batch: &Texts) -> Result<(), DiskError>
     requires most { length batch.now.pages ≤ 64 }
     requires places { At (HasPlaces Double slots) (D.past disk.old) }
     ensures does { Does (From (SlotsWriting batch.now) (D.past disk.old)) (IsSlotEvent batch.now) (From (SlotsSettled batch.now) (D.past disk.old)) (D.past disk.old) (D.past disk.new) result }
+    ensures exact { OnOk result (D.past disk.new ≡ grows (slot_events batch.now) (D.past disk.old)) }
+    ensures part { OnErr result (IsPart Double 16896 (slot_batch batch.now) (length batch.now.pages) (D.past disk.old) (D.past disk.new)) }
     ensures later { D.is_later disk.old disk.new }
+    ensures calls { D.clock disk.new ≤ D.clock disk.old + (length batch.now.pages + 1) }
     ensures cause { HasDiskCause (D.faults disk.old) (D.faults disk.new) result }
     ensures memory { HasDiskMemoryCause (D.memory_refusals disk.old) (D.memory_refusals disk.new) result }
     ensures no_fault { OnOk result (D.faults disk.new ≡ D.faults disk.old) }
+    ensures no_fault_at_want { IsErrOf result NoMemory → D.faults disk.new ≡ D.faults disk.old }
     ensures no_refusal { OnOk result (D.memory_refusals disk.new ≡ D.memory_refusals disk.old) }
 {
     let mut slot = [0; SLOT];
@@ -82,20 +102,27 @@ fn store_slots<D: Disk>(disk: &mut D, batch: &Texts) -> Result<(), DiskError>
     sync_slots(disk, batch)
 }
 
-/// Writes text i of a batch to slot i, in order, and syncs the doublewrite file.
+/// Writes text i of a batch to slot i, in order, and syncs the doublewrite file. An empty batch is
+/// only synced. It makes no more than a call for each text, and one for the sync.
 ///
 /// # Errors
 /// [`DiskError::Failed`] only where the disk's count of faults rose, [`DiskError::NoMemory`] only
-/// where its count of refused memory rose. Each slot then holds what it held, its text, or is torn.
+/// where its count of refused memory rose, and then it met no fault. Some of the slots were then
+/// written in order, and of the one behind them an attempt may be there: each slot holds what it
+/// held, its text, or is torn.
 pub fn store<D: Disk>(disk: &mut D, batch: &Texts) -> Result<(), DiskError>
     requires most { length batch.now.pages ≤ 64 }
     requires places { At (HasPlaces Double slots) (D.past disk.old) }
     ensures does { Does (From (SlotsWriting batch.now) (D.past disk.old)) (IsSlotEvent batch.now) (From (SlotsSettled batch.now) (D.past disk.old)) (D.past disk.old) (D.past disk.new) result }
     ensures images { At AreSlotsHonest (D.past disk.old) → Does (From (SlotsMay batch.now) (D.past disk.old)) (IsSlotEvent batch.now) (From (SlotsHold batch.now) (D.past disk.old)) (D.past disk.old) (D.past disk.new) result }
+    ensures exact { OnOk result (D.past disk.new ≡ grows (slot_events batch.now) (D.past disk.old)) }
+    ensures part { OnErr result (IsPart Double 16896 (slot_batch batch.now) (length batch.now.pages) (D.past disk.old) (D.past disk.new)) }
     ensures later { D.is_later disk.old disk.new }
+    ensures calls { D.clock disk.new ≤ D.clock disk.old + (length batch.now.pages + 1) }
     ensures cause { HasDiskCause (D.faults disk.old) (D.faults disk.new) result }
     ensures memory { HasDiskMemoryCause (D.memory_refusals disk.old) (D.memory_refusals disk.new) result }
     ensures no_fault { OnOk result (D.faults disk.new ≡ D.faults disk.old) }
+    ensures no_fault_at_want { IsErrOf result NoMemory → D.faults disk.new ≡ D.faults disk.old }
     ensures no_refusal { OnOk result (D.memory_refusals disk.new ≡ D.memory_refusals disk.old) }
 {
     batch.pages.are_texts();

@@ -15,18 +15,33 @@ write-requires g c =
     let long : length c.bytes.result.now ≡ 16384 = ap length c.bytes.ensures.bytes ∙ c.bytes.ensures.text.long in
     rw (place, long) c.requires.inside
 
+pub returns-clause-ok : goal.returns-clause-ok
+returns-clause-ok g c =
+    let batch = c.args.batch.now in
+    let text = text_at batch c.args.i in
+    let same : c.bytes.result.now ≡ text = c.bytes.ensures.bytes ∙ c.get-text.ensures in
+    let place : c.from-at.result * 16384 ≡ page_number_of text * 16384 = ap (λ (p : ℕ). p * 16384) (c.from-at.ensures ∙ c.number.ensures ∙ ap page_number_of c.get-text.ensures) in
+    let old = g.D.Disk.past c.args.disk.now in
+    let new = g.D.Disk.past c.write.new.self in
+    let f = Space batch.space in
+    subst (λ (p : ℕ). OnOk c.write.result (new ≡ grow (Write f p text text) old)) place (subst (λ (w : List ℕ). OnOk c.write.result (new ≡ grow (Write f (c.from-at.result * 16384) w w) old)) same c.write.ensures.ok)
+
+pub returns-clause-err : goal.returns-clause-err
+returns-clause-err g c =
+    let batch = c.args.batch.now in
+    let text = text_at batch c.args.i in
+    let same : c.bytes.result.now ≡ text = c.bytes.ensures.bytes ∙ c.get-text.ensures in
+    let place : c.from-at.result * 16384 ≡ page_number_of text * 16384 = ap (λ (p : ℕ). p * 16384) (c.from-at.ensures ∙ c.number.ensures ∙ ap page_number_of c.get-text.ensures) in
+    let old = g.D.Disk.past c.args.disk.now in
+    let new = g.D.Disk.past c.write.new.self in
+    let f = Space batch.space in
+    subst (λ (p : ℕ). OnErr c.write.result (MayGrow (IsWrite f p text) old new)) place (subst (λ (w : List ℕ). OnErr c.write.result (MayGrow (IsWrite f (c.from-at.result * 16384) w) old new)) same c.write.ensures.err)
+
 pub returns-clause-does : goal.returns-clause-does
 returns-clause-does g c = λ first at.
     let batch = c.args.batch.now in
     let i = c.args.i in
     let text = text_at batch i in
     let is : IsPageText text = subst IsPageText c.get-text.ensures c.bytes.ensures.text in
-    let same : c.bytes.result.now ≡ text = c.bytes.ensures.bytes ∙ c.get-text.ensures in
-    let place : c.from-at.result * 16384 ≡ page_number_of text * 16384 = ap (λ (p : ℕ). p * 16384) (c.from-at.ensures ∙ c.number.ensures ∙ ap page_number_of c.get-text.ensures) in
-    let old = g.D.Disk.past c.args.disk.now in
-    let new = g.D.Disk.past c.write.new.self in
-    let f = Space batch.space in
-    does_write f (page_number_of text * 16384) text at (homes_now batch i (omega (arith, c.requires.more)) first) (home_each batch i c.requires.more c.requires.distinct is first)
-    (write_is_of f 16384 (home_batch batch) i (length batch.pages) c.requires.more) (home_wrote batch i c.requires.more c.requires.distinct is first)
-    (subst (λ (p : ℕ). OnOk c.write.result (new ≡ grow (Write f p text text) old)) place (subst (λ (w : List ℕ). OnOk c.write.result (new ≡ grow (Write f (c.from-at.result * 16384) w w) old)) same c.write.ensures.ok))
-    (subst (λ (p : ℕ). OnErr c.write.result (MayGrow (IsWrite f p text) old new)) place (subst (λ (w : List ℕ). OnErr c.write.result (MayGrow (IsWrite f (c.from-at.result * 16384) w) old new)) same c.write.ensures.err))
+    does_write (Space batch.space) (page_number_of text * 16384) text at (homes_now batch i (omega (arith, c.requires.more)) first) (home_each batch i c.requires.more c.requires.distinct is first)
+    (write_is_of (Space batch.space) 16384 (home_batch batch) i (length batch.pages) c.requires.more) (home_wrote batch i c.requires.more c.requires.distinct is first) (returns-clause-ok g c) (returns-clause-err g c)

@@ -1,7 +1,11 @@
-use Rattle.std.proofs.Common.{◌≡◌, ◌<◌, length, subst, arith, refl, ◌∙◌}
+use Rattle.std.proofs.Common.{◌≡◌, ◌<◌, length, subst, arith, refl, ◌∙◌, sym, ap}
 use Rattle.disk_model.proofs.Layers.{does_err, so_far_none, so_far_more, so_far_then, so_far_done}
+use Rattle.disk_model.specs.declared.names.FileName.TheVariants.{Space}
 use Rattle.places.proofs.Batches.{at_end}
+use Rattle.places.proofs.WriteLemmas.{grows_none, write_more, write_failed}
 use Rattle.places.specs.Batches.{From}
+use Rattle.places.specs.Writes.{writes_of, grows}
+use Rattle.doublewrite.specs.Batch.{home_batch}
 use Rattle.doublewrite.specs.Layer.{HomesWrote}
 use Rattle.doublewrite.proofs.HomeSteps.{homes_begin, homes_now, home_inside}
 use Rattle.doublewrite.proofs.homes.write_homes.Goals as goal
@@ -12,6 +16,8 @@ loop-i-init g c =
     let first = g.D.Disk.past c.args.disk.now in
     record {
       so_far = so_far_none (homes_now batch 0 (omega arith) first) (homes_begin batch first c.requires.inside);
+      exact = sym (grows_none first);
+      calls = omega arith;
       faults = refl;
       memory = refl;
       later = g.met.D.Disk.is_later_reflexive c.args.disk.now;
@@ -27,11 +33,20 @@ returns-in_err-write_home-clause-does g c =
     let first = g.D.Disk.past c.args.disk.now in
     does_err _ _ c.from_residual.ensures.1 (so_far_then c.loop-i.invariant.so_far (c.in_err-write_home.ensures.does first c.loop-i.invariant.so_far.at))
 
+pub returns-in_err-write_home-clause-part : goal.returns-in_err-write_home-clause-part
+returns-in_err-write_home-clause-part g c =
+    let batch = c.args.batch.now in
+    write_failed (Space batch.space) 16384 (home_batch batch) c.loop-i.i (length batch.pages) (g.D.Disk.past c.args.disk.now) (g.D.Disk.past c.loop-i.disk) (g.D.Disk.past c.write_home.new.disk) c.from_residual.result
+    (omega (arith, c.loop-i-test.true, c.len-i-end.ensures)) c.loop-i.invariant.exact c.in_err-write_home.ensures.err
+
 pub loop-i-preserved : goal.loop-i-preserved
 loop-i-preserved g c =
     let first = g.D.Disk.past c.args.disk.now in
+    let batch = c.args.batch.now in
     record {
       so_far = so_far_more c.loop-i.invariant.so_far (c.in_ok-write_home.ensures.does first c.loop-i.invariant.so_far.at);
+      exact = write_more (Space batch.space) 16384 (home_batch batch) c.loop-i.i first (g.D.Disk.past c.loop-i.disk) (g.D.Disk.past c.write_home.new.disk) c.loop-i.invariant.exact c.in_ok-write_home.ensures.ok;
+      calls = omega (arith, c.loop-i.invariant.calls, c.in_ok-write_home.ensures.calls);
       faults = c.in_ok-write_home.ensures.no_fault ∙ c.loop-i.invariant.faults;
       memory = c.in_ok-write_home.ensures.no_refusal ∙ c.loop-i.invariant.memory;
       later = g.met.D.Disk.is_later_transitive _ _ _ c.loop-i.invariant.later c.in_ok-write_home.ensures.later;
@@ -42,3 +57,9 @@ returns-clause-does g c =
     let batch = c.args.batch.now in
     let all : c.loop-i.i ≡ length batch.pages = omega (arith, c.loop-i.auto.i-end, c.loop-i-test.false, c.len-i-end.ensures) in
     so_far_done (λ es r. subst (λ n. From (HomesWrote batch n) (g.D.Disk.past c.args.disk.now) es) all r) c.loop-i.invariant.so_far
+
+pub returns-clause-exact : goal.returns-clause-exact
+returns-clause-exact g c =
+    let batch = c.args.batch.now in
+    let all : c.loop-i.i ≡ length batch.pages = omega (arith, c.loop-i.auto.i-end, c.loop-i-test.false, c.len-i-end.ensures) in
+    c.loop-i.invariant.exact ∙ ap (λ n. grows (writes_of (Space batch.space) 16384 (home_batch batch) n) (g.D.Disk.past c.args.disk.now)) all

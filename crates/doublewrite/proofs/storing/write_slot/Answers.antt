@@ -10,15 +10,23 @@ use Rattle.doublewrite.specs.Batch.{text_at, slot_batch}
 use Rattle.doublewrite.proofs.SlotSteps.{slot_next, slots_now, slot_each, slot_wrote}
 use Rattle.doublewrite.proofs.storing.write_slot.Goals as goal
 
+pub returns-clause-ok : goal.returns-clause-ok
+returns-clause-ok g c =
+    let batch = c.args.batch.now in
+    let is : c.fill_slot.new.slot ≡ (slot_batch batch).bytes c.args.i = c.fill_slot.ensures ∙ ap (λ (t : List ℕ). slot_bytes batch.space (page_number_of t) batch.batch t) (c.bytes-text.ensures.bytes ∙ c.get.ensures) in
+    subst (λ (w : List ℕ). OnOk c.write.result (g.D.Disk.past c.write.new.self ≡ grow (Write Double (c.args.i * 16896) w w) (g.D.Disk.past c.args.disk.now))) is c.write.ensures.ok
+
+pub returns-clause-err : goal.returns-clause-err
+returns-clause-err g c =
+    let batch = c.args.batch.now in
+    let is : c.fill_slot.new.slot ≡ (slot_batch batch).bytes c.args.i = c.fill_slot.ensures ∙ ap (λ (t : List ℕ). slot_bytes batch.space (page_number_of t) batch.batch t) (c.bytes-text.ensures.bytes ∙ c.get.ensures) in
+    subst (λ (w : List ℕ). OnErr c.write.result (MayGrow (IsWrite Double (c.args.i * 16896) w) (g.D.Disk.past c.args.disk.now) (g.D.Disk.past c.write.new.self))) is c.write.ensures.err
+
 pub returns-clause-does : goal.returns-clause-does
 returns-clause-does g c = λ first at.
     let batch = c.args.batch.now in
     let i = c.args.i in
-    let wanted = (slot_batch batch).bytes i in
     let text : IsPageText (text_at batch i) = subst IsPageText c.get.ensures c.bytes-text.ensures.text in
-    let is : c.fill_slot.new.slot ≡ wanted = c.fill_slot.ensures ∙ ap (λ (t : List ℕ). slot_bytes batch.space (page_number_of t) batch.batch t) (c.bytes-text.ensures.bytes ∙ c.get.ensures) in
     let next = slot_next batch i c.requires.more c.requires.most text in
-    does_write Double (i * 16896) wanted at (slots_now batch i (omega (arith, c.requires.more)) first) (slot_each batch i c.requires.more next first)
-    (write_is_of Double 16896 (slot_batch batch) i (length batch.pages) c.requires.more) (slot_wrote batch i c.requires.more next first)
-    (subst (λ (w : List ℕ). OnOk c.write.result (g.D.Disk.past c.write.new.self ≡ grow (Write Double (i * 16896) w w) (g.D.Disk.past c.args.disk.now))) is c.write.ensures.ok)
-    (subst (λ (w : List ℕ). OnErr c.write.result (MayGrow (IsWrite Double (i * 16896) w) (g.D.Disk.past c.args.disk.now) (g.D.Disk.past c.write.new.self))) is c.write.ensures.err)
+    does_write Double (i * 16896) ((slot_batch batch).bytes i) at (slots_now batch i (omega (arith, c.requires.more)) first) (slot_each batch i c.requires.more next first)
+    (write_is_of Double 16896 (slot_batch batch) i (length batch.pages) c.requires.more) (slot_wrote batch i c.requires.more next first) (returns-clause-ok g c) (returns-clause-err g c)
