@@ -2,3 +2,5 @@ pub mod RecoversOnce
 pub mod StandsBy
 pub mod LuckyCrashes
 pub mod LogForms
+pub mod LivesOverBytes
+pub mod WrittenItems

@@ -1,5 +1,5 @@
 -- What the ring's law says of a log's file is what the file says under the keys.
-use Rattle.std.proofs.Common.{◌≡◌, ◌≢◌, ◌⊎◌, ℕ, zero, suc, ◌+◌, ◌-◌, ◌*◌, ◌%◌, ◌^◌, ◌<◌, ◌≤◌, ◌&&◌, ◌||◌, Bool, true, false, true≢false, nat_eq, nat_le, if◌then◌else◌, List, [], ◌∷◌, ◌++◌, Option, Some, None, refl, sym, ap, ap₂, subst, ◌∙◌, arith, inl, inr}
+use Rattle.std.proofs.Common.{◌≡◌, ◌⊎◌, ℕ, zero, suc, ◌+◌, ◌-◌, ◌<◌, ◌≤◌, Bool, true, false, nat_eq, if◌then◌else◌, List, [], ◌∷◌, ◌++◌, Some, None, refl, sym, ap, ap₂, subst, ◌∙◌, arith, inl, inr}
 use Rattle.std.specs.Prelude.{codes}
 use Rattle.std.specs.Str.{bytes_eq}
 use Rattle.std.proofs.Math.Nat.{add-mod_right}
@@ -22,10 +22,10 @@ use Rattle.redo_text.specs.Reading.{block_version}
 use Rattle.store_files.specs.Checkpoint.{checkpoint_in, is_checkpoint}
 use Rattle.store_files.specs.Header.{HeldHeader}
 use Rattle.store_files.specs.RingBlock.{is_ring_block, begins_mtr, ends_mtr, block_text, IsMtrText}
-use Rattle.store_files.specs.Run.{block_at, MakeWholeMtr, MakeWholeMtrs, HasText, AreLogEntries, IsRun, IsLogOf, IsClear}
+use Rattle.store_files.specs.Run.{block_at, MakeWholeMtr, MakeWholeMtrs, HasText, AreLogEntries, IsLogOf, IsClear}
 use Rattle.store_files.proofs.RingBlocks.{block_number, block_sum}
 use Rattle.store_files.proofs.RunsOnce.{changes_one}
-use Rattle.crash_image.specs.LogForm.{AreTexts, AreBlocksOf, log_form}
+use Rattle.crash_image.specs.LogForm.{AreTexts, log_form}
 
 -- ---- what is valid
 

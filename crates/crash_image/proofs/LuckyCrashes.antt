@@ -1,5 +1,5 @@
 -- A crash of a disk in memory is lucky, where each file was written in whole places.
-use Rattle.std.proofs.Common.{◌≡◌, ℕ, ◌+◌, List, length, refl}
+use Rattle.std.proofs.Common.{ℕ, ◌+◌, List, length, refl}
 use Rattle.disk_model.specs.Event.{Event}
 use Rattle.disk_model.specs.Crash.{crash_image, unsynced_writes, synced_bytes}
 use Rattle.disk_model.specs.Lucky.{AreRefusable}
@@ -10,11 +10,8 @@ use Rattle.disk_model.proofs.Lucky.{crash_is_lucky}
 use Rattle.places.specs.Places.{Layout, AreWhole}
 use Rattle.places.proofs.Refusable.{refusable}
 use Rattle.page_places.specs.Texts.{ends_in_sum, slots, pages}
+use Rattle.crash_image.specs.LogForm.{log_places}
 use Rattle.crash_image.specs.Stands.{place_test, Lucky}
-
--- the log's file: header, two checkpoints and so many ring blocks
-abbrev log_places : ℕ → Layout
-log_places blocks = record { size = 4096; count = 3 + blocks; passes = ends_in_sum }
 
 pub lucky_crash : (blocks : ℕ) (count : ℕ → ℕ) (choices : List Choice) (es : List Event) → AreWhole Log (log_places blocks) es → AreWhole Double slots es → ((s : ℕ) → AreWhole (Space s) (pages (count s)) es) → Lucky (crash_image choices es)
 lucky_crash blocks count choices es log double spaces = crash_is_lucky place_test choices es each

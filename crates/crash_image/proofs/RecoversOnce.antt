@@ -1,5 +1,5 @@
 -- What an image recovers to is one thing: its bytes and the keys determine the contents and the run's last block.
-use Rattle.std.proofs.Common.{◌≡◌, ◌≢◌, ℕ, ◌+◌, true, List, Option, Some, None, refl, sym, ap, subst, ◌∙◌, arith}
+use Rattle.std.proofs.Common.{◌≡◌, ℕ, true, List, Option, Some, None, refl, sym, ap, subst, ◌∙◌, arith}
 use Rattle.disk_model.specs.Image.{Image}
 use Rattle.disk_model.specs.declared.names.FileName.TheVariants.{Log}
 use Rattle.key_ring.specs.Ring.{RingEntry}
@@ -7,12 +7,12 @@ use Rattle.places.specs.Places.{place}
 use Rattle.page_places.specs.Views.{view}
 use Rattle.store_image.specs.Places.{LogView}
 use Rattle.store_image.specs.Recovers as pages
-use Rattle.store_image.specs.View.{Text, View, Logged}
+use Rattle.store_image.specs.View.{Text, View}
 use Rattle.store_image.proofs.ChosenTexts.{chosen_one}
 use Rattle.store_image.proofs.RecoversOnce.{page_one}
 use Rattle.redo_text.specs.declared.change.Change.{Change}
 use Rattle.store_model.specs.declared.contents.SpaceContents.{SpaceContents}
-use Rattle.store_files.specs.Header.{HeldHeader, header_in, are_in_order}
+use Rattle.store_files.specs.Header.{HeldHeader, are_in_order}
 use Rattle.store_files.specs.Pages.{Page, Head, Unused, Used, MeansPage, has_page, pages_of, salts_of}
 use Rattle.store_files.proofs.ContentsOnce.{header_order, contents_one, salts_one}
 use Rattle.store_files.proofs.PageLaws.{means_one}

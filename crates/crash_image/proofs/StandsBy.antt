@@ -1,5 +1,5 @@
 -- From the theory to bytes: where the theory says that a view stands or recovers, the image does.
-use Rattle.std.proofs.Common.{◌≡◌, ◌≢◌, ℕ, ◌+◌, ◌*◌, ◌<◌, ◌≤◌, true, nat_le, if◌then◌else◌, List, [], ◌∷◌, take, Option, Some, None, refl, sym, ap, subst, ◌∙◌, arith}
+use Rattle.std.proofs.Common.{◌≡◌, ℕ, ◌+◌, ◌*◌, ◌≤◌, true, nat_le, if◌then◌else◌, List, [], ◌∷◌, take, Option, Some, None, refl, sym, ap, subst, ◌∙◌}
 use Rattle.std.specs.Prelude.{Contains}
 use Rattle.disk_model.specs.Image.{Image}
 use Rattle.disk_model.specs.Marks.{acked, minimum_of}
@@ -10,17 +10,17 @@ use Rattle.page_places.specs.Placed.{IsPlaced}
 use Rattle.page_places.specs.Views.{view}
 use Rattle.store_image.specs.Places.{LogView}
 use Rattle.store_image.specs.Recovers as pages
-use Rattle.store_image.specs.View.{Text, View, Logged, IsLive}
+use Rattle.store_image.specs.View.{Text, View, Logged}
 use Rattle.store_model.specs.Fold.{fold}
 use Rattle.redo_text.specs.declared.change.Change.{Change}
 use Rattle.store_model.specs.declared.contents.SpaceContents.{SpaceContents}
 use Rattle.store_files.specs.Header.{HeldHeader}
-use Rattle.store_files.specs.Pages.{Page, has_page, pages_of, salts_of, is_used, floor_of, is_ciphered, HaveSpaces}
+use Rattle.store_files.specs.Pages.{Page, has_page, pages_of, salts_of, HaveSpaces}
 use Rattle.store_files.specs.Run.{IsLogOf, IsClear}
 use Rattle.store_files.proofs.Folds.{pages_after, spaces_after, spaces_folded, salts_folded}
 use Rattle.crash_image.specs.StoreTheory.{store_theory}
-use Rattle.crash_image.specs.Recovers.{HasHeader, AreLong, RunIsOfStore, RecoversBy, Recovers}
-use Rattle.crash_image.specs.Stands.{Named, Rotated, Stands, entries_to, mtrs_of}
+use Rattle.crash_image.specs.Recovers.{HasHeader, AreLong, RunIsOfStore}
+use Rattle.crash_image.specs.Stands.{Named, Stands, entries_to, mtrs_of}
 
 -- ---- contents that are equal on the store's pages
 

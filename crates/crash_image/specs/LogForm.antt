@@ -1,7 +1,8 @@
 -- A store's ring blocks and checkpoints, in the words of the ring's law.
-use Rattle.std.specs.Prelude.{◌≡◌, ℕ, List, [], ◌∷◌, ◌++◌, Option, Some, None}
+use Rattle.std.specs.Prelude.{◌≡◌, ℕ, ◌+◌, List, [], ◌∷◌, ◌++◌, Some}
 use Rattle.key_ring.specs.Ring.{RingEntry}
 use Rattle.key_ring.specs.Local.{local_key}
+use Rattle.places.specs.Places.{Layout}
 use Rattle.page_places.specs.Texts.{ends_in_sum}
 use Rattle.ring_log.specs.Ring.{Form}
 use Rattle.redo_text.specs.declared.change.Change.{Change}
@@ -9,6 +10,10 @@ use Rattle.redo_text.specs.Reading.{block_version}
 use Rattle.store_files.specs.Checkpoint.{checkpoint_in}
 use Rattle.store_files.specs.Header.{HeldHeader}
 use Rattle.store_files.specs.RingBlock.{is_ring_block, begins_mtr, ends_mtr, block_text, IsMtrText}
+
+-- the log's file: header, two checkpoints and so many ring blocks
+abbrev pub log_places : ℕ → Layout
+log_places blocks = record { size = 4096; count = 3 + blocks; passes = ends_in_sum }
 
 module _ (header : HeldHeader) (keys : List RingEntry) where
   -- the text in these blocks, each under the local key of id 1 at its version

@@ -13,7 +13,7 @@ use Rattle.store_image.specs.View.{Text, Logged, IsChosen, IsLive}
 use Rattle.store_model.specs.Fold.{fold}
 use Rattle.redo_text.specs.declared.change.Change.{Change}
 use Rattle.store_model.specs.declared.contents.SpaceContents.{SpaceContents}
-use Rattle.store_files.specs.Header.{HeldHeader, HeldSpace}
+use Rattle.store_files.specs.Header.{HeldHeader}
 use Rattle.store_files.specs.Pages.{has_page, key_id_of, pages_of, salts_of}
 use Rattle.redo_text.specs.Reading.{block_version}
 use Rattle.store_files.specs.Run.{block_at}
