@@ -53,8 +53,8 @@ impl Model for ScriptChanges {
 impl ScriptChanges {
     ghost use Rattle.std.specs.Prelude.{◌≡◌, ◌<◌, ◌≤◌, length, slice_index_or, IfOk};
 
-    /// These changes, 64 at most. Takes no memory.
-    pub fn of(items: Vec<ScriptChange>) -> ScriptChanges
+    // These changes, 64 at most. Takes no memory.
+    pub(crate) fn of(items: Vec<ScriptChange>) -> ScriptChanges
         requires { length items.items ≤ 64 }
         ensures { result ≡ items.items }
     {
@@ -84,8 +84,8 @@ impl ScriptChanges {
         &self.changes
     }
 
-    /// The same changes once more.
-    pub fn copy(&self, alloc: Global) -> Result<ScriptChanges, OutOfMemory>
+    // The same changes once more.
+    pub(crate) fn copy(&self, alloc: Global) -> Result<ScriptChanges, OutOfMemory>
         ensures { IfOk result (λ copy. copy ≡ self.now) }
     {
         let changes = copy_changes(alloc, &self.changes)?;
@@ -194,8 +194,8 @@ pub enum Act {
 impl Act {
     ghost use Rattle.std.specs.Prelude.{◌≡◌, IfOk};
 
-    /// The same once more.
-    pub fn copy(&self, alloc: Global) -> Result<Act, OutOfMemory>
+    // The same once more.
+    pub(crate) fn copy(&self, alloc: Global) -> Result<Act, OutOfMemory>
         ensures { IfOk result (λ copy. copy ≡ self.now) }
     {
         Ok(match self {

@@ -107,7 +107,7 @@ fn take_semicolon(words: &mut Parts<'_>) -> Result<bool, LineFault>
 }
 
 // The changes up to the end of the line, 64 at most.
-pub fn read_changes(alloc: Global, words: &mut Parts<'_>) -> Result<ScriptChanges, LineError>
+pub(crate) fn read_changes(alloc: Global, words: &mut Parts<'_>) -> Result<ScriptChanges, LineError>
     ensures ok { IfOk result (λ changes. AreChanges changes words.old × (length changes ≤ 64)) }
     ensures err { IfErr result (λ e. ForFault e (ChangesFault 0 words.old)) }
 {

@@ -18,6 +18,12 @@ const BODY_END: usize = 16_376;
 // How many bytes of a text a block of the log holds.
 const BLOCK_TEXT: u128 = 4_076;
 
+// How many bytes of the log a put takes beside those that it writes.
+const PUT_LENGTH: u128 = 17;
+
+// How many bytes of the log a change of a page's type takes.
+const KIND_LENGTH: u128 = 11;
+
 // How many blocks a mini-transaction has at most.
 const MOST_BLOCKS: usize = 16;
 
@@ -66,7 +72,7 @@ fn bad_range(at: u32, length: usize) -> Option<Why>
 
 // What is checked of all changes of a mini-transaction before the next is.
 #[derive(Clone, Copy, Debug, PartialEq, Eq)]
-pub enum ChangeCheck {
+pub(crate) enum ChangeCheck {
     Space,
     Page,
     Range,
@@ -134,9 +140,9 @@ fn change_length(change: &ScriptChange) -> u128
     ensures small { result < 2 ^ 65 }
 {
     match change {
-        ScriptChange::Put { bytes, .. } => 17 + bytes.len() as u128,
-        ScriptChange::Fill { length, .. } => 17 + u128::from(*length),
-        ScriptChange::Kind { .. } => 11,
+        ScriptChange::Put { bytes, .. } => PUT_LENGTH + bytes.len() as u128,
+        ScriptChange::Fill { length, .. } => PUT_LENGTH + u128::from(*length),
+        ScriptChange::Kind { .. } => KIND_LENGTH,
     }
 }
 

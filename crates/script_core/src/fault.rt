@@ -35,7 +35,7 @@ pub enum LineFault {
 
 // Why a line isn't read.
 #[derive(Clone, Copy, Debug, PartialEq, Eq, Error)]
-pub enum LineError {
+pub(crate) enum LineError {
     #[error("{0}")]
     Fault(LineFault),
     #[error("out of memory")]

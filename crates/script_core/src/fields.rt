@@ -6,7 +6,7 @@ ghost use Rattle.script_core.specs.Words.{IsNumber, IsPageType, IsHex};
 ghost use Rattle.script_core.specs.Batches.{IsOut, Tells};
 ghost use Rattle.script_core.specs.Fields.{Takes, FaultAt, ForFault, Numeral, PageType, Bytes, Byte, FreeBatch, HeldBatch, End};
 
-use crate::batches::Batches;
+use crate::batches::{Batches, LAST_BATCH};
 use crate::fault::{LineError, LineFault};
 use crate::number::number_of;
 use crate::parts::Parts;
@@ -15,8 +15,16 @@ use hex::FromHexError;
 use redo_text::Piece;
 use std::alloc::Global;
 
+// The greatest type of a page.
+const LAST_PAGE_TYPE: u32 = 65_535;
+
+// The type of page 0, and that of a page of extent descriptors.
+const FSP_HDR: u32 = 8;
+
+const XDES: u32 = 9;
+
 // The next word.
-pub fn take_word<'a>(words: &mut Parts<'a>) -> Result<&'a [u8], LineFault>
+pub(crate) fn take_word<'a>(words: &mut Parts<'a>) -> Result<&'a [u8], LineFault>
     ensures ok { IfOk result (λ word. words.old ≡ word.now ∷ words.new) }
     ensures err { IfErr result (λ kind. (words.old ≡ []) × (kind ≡ LineFault.Missing)) }
 {
@@ -27,7 +35,7 @@ pub fn take_word<'a>(words: &mut Parts<'a>) -> Result<&'a [u8], LineFault>
 }
 
 // The line has no word more.
-pub fn take_end(words: &mut Parts<'_>) -> Result<(), LineFault>
+pub(crate) fn take_end(words: &mut Parts<'_>) -> Result<(), LineFault>
     ensures ok { OnOk result (words.old ≡ []) }
     ensures err { (before : List Act) → IfErr result (FaultAt before End words.old) }
 {
@@ -38,7 +46,7 @@ pub fn take_end(words: &mut Parts<'_>) -> Result<(), LineFault>
 }
 
 // A number from low to high.
-pub fn take_number(words: &mut Parts<'_>, low: u32, high: u32) -> Result<u32, LineFault>
+pub(crate) fn take_number(words: &mut Parts<'_>, low: u32, high: u32) -> Result<u32, LineFault>
     ensures ok { IfOk result (λ n. Takes words.old words.new (λ word. IsNumber word low high n)) }
     ensures err { (before : List Act) → IfErr result (FaultAt before (Numeral low high) words.old) }
 {
@@ -47,7 +55,7 @@ pub fn take_number(words: &mut Parts<'_>, low: u32, high: u32) -> Result<u32, Li
 }
 
 // A number of a u32.
-pub fn take_u32(words: &mut Parts<'_>) -> Result<u32, LineFault>
+pub(crate) fn take_u32(words: &mut Parts<'_>) -> Result<u32, LineFault>
     ensures ok { IfOk result (λ n. Takes words.old words.new (λ word. IsNumber word 0 4294967295 n)) }
     ensures err { (before : List Act) → IfErr result (FaultAt before (Numeral 0 4294967295) words.old) }
 {
@@ -55,12 +63,12 @@ pub fn take_u32(words: &mut Parts<'_>) -> Result<u32, LineFault>
 }
 
 // The type of a page, neither 8 nor 9.
-pub fn take_page_type(words: &mut Parts<'_>) -> Result<u16, LineFault>
+pub(crate) fn take_page_type(words: &mut Parts<'_>) -> Result<u16, LineFault>
     ensures ok { IfOk result (λ n. Takes words.old words.new (λ word. IsPageType word n)) }
     ensures err { (before : List Act) → IfErr result (FaultAt before PageType words.old) }
 {
-    let number = take_number(words, 0, 65_535)?;
-    if number == 8 || number == 9 {
+    let number = take_number(words, 0, LAST_PAGE_TYPE)?;
+    if number == FSP_HDR || number == XDES {
         return Err(LineFault::Range);
     }
     Ok(number as u16)
@@ -82,7 +90,7 @@ fn bytes_of(alloc: Global, word: &[u8]) -> Result<Vec<u8>, LineError>
 }
 
 // Bytes in hex digits, one byte at least.
-pub fn take_bytes(alloc: Global, words: &mut Parts<'_>) -> Result<Piece, LineError>
+pub(crate) fn take_bytes(alloc: Global, words: &mut Parts<'_>) -> Result<Piece, LineError>
     ensures ok { IfOk result (λ bytes. Takes words.old words.new (λ word. IsHex word bytes)) }
     ensures err { (before : List Act) → IfErr result (λ e. ForFault e (FaultAt before Bytes words.old)) }
 {
@@ -103,7 +111,7 @@ fn byte_of(word: &[u8]) -> Option<u8>
 }
 
 // One byte in hex digits.
-pub fn take_byte(words: &mut Parts<'_>) -> Result<u8, LineFault>
+pub(crate) fn take_byte(words: &mut Parts<'_>) -> Result<u8, LineFault>
     ensures ok { IfOk result (λ byte. Takes words.old words.new (λ word. IsHex word (byte ∷ []))) }
     ensures err { (before : List Act) → IfErr result (FaultAt before Byte words.old) }
 {
@@ -115,11 +123,11 @@ pub fn take_byte(words: &mut Parts<'_>) -> Result<u8, LineFault>
 }
 
 // A batch that isn't outstanding.
-pub fn take_free_batch(words: &mut Parts<'_>, batches: &Batches) -> Result<u32, LineFault>
+pub(crate) fn take_free_batch(words: &mut Parts<'_>, batches: &Batches) -> Result<u32, LineFault>
     ensures ok { (before : List Act) → Tells batches.now.out before → IfOk result (λ b. Takes words.old words.new (λ word. IsNumber word 1 16 b) × (IsOut b before → ⊥)) }
     ensures err { (before : List Act) → Tells batches.now.out before → IfErr result (FaultAt before FreeBatch words.old) }
 {
-    let batch = take_number(words, 1, 16)?;
+    let batch = take_number(words, 1, LAST_BATCH)?;
     if batches.is_out(batch) {
         return Err(LineFault::Batch);
     }
@@ -127,11 +135,11 @@ pub fn take_free_batch(words: &mut Parts<'_>, batches: &Batches) -> Result<u32, 
 }
 
 // A batch that is outstanding.
-pub fn take_held_batch(words: &mut Parts<'_>, batches: &Batches) -> Result<u32, LineFault>
+pub(crate) fn take_held_batch(words: &mut Parts<'_>, batches: &Batches) -> Result<u32, LineFault>
     ensures ok { (before : List Act) → Tells batches.now.out before → IfOk result (λ b. Takes words.old words.new (λ word. IsNumber word 1 16 b) × IsOut b before) }
     ensures err { (before : List Act) → Tells batches.now.out before → IfErr result (FaultAt before HeldBatch words.old) }
 {
-    let batch = take_number(words, 1, 16)?;
+    let batch = take_number(words, 1, LAST_BATCH)?;
     if !batches.is_out(batch) {
         return Err(LineFault::Batch);
     }

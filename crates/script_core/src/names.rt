@@ -3,7 +3,7 @@ ghost use Rattle.std.specs.Prelude.{◌≡◌, ◌≢◌, MatchOption};
 
 // The name of a statement, its first word.
 #[derive(Clone, Copy, Debug, PartialEq, Eq)]
-pub enum StatementName {
+pub(crate) enum StatementName {
     Mtr,
     Read,
     Sync,
@@ -21,7 +21,7 @@ impl StatementName {
     ghost use Rattle.script_core.specs.Names.{name_of};
 
     // The statement that a word names.
-    pub fn named(word: &[u8]) -> Option<StatementName>
+    pub(crate) fn named(word: &[u8]) -> Option<StatementName>
         ensures { MatchOption result ((name : _) → word.now ≢ name_of name) (λ name. word.now ≡ name_of name) }
     {
         let Ok(text) = str::from_utf8(word) else {
@@ -55,7 +55,7 @@ ghost use Rattle.script_core.specs.Names.{name_of, change_name_of};
 
 // The name of a change in a mini-transaction, its first word.
 #[derive(Clone, Copy, Debug, PartialEq, Eq)]
-pub enum ChangeName {
+pub(crate) enum ChangeName {
     Put,
     Fill,
     Kind,
@@ -65,7 +65,7 @@ impl ChangeName {
     ghost use Rattle.script_core.specs.Names.{change_name_of};
 
     // The change that a word names.
-    pub fn named(word: &[u8]) -> Option<ChangeName>
+    pub(crate) fn named(word: &[u8]) -> Option<ChangeName>
         ensures { MatchOption result ((name : _) → word.now ≢ change_name_of name) (λ name. word.now ≡ change_name_of name) }
     {
         let Ok(text) = str::from_utf8(word) else {

@@ -14,7 +14,7 @@ fn is_numeral(word: &[u8]) -> bool
 }
 
 // The number from low to high that a word writes.
-pub fn number_of(word: &[u8], low: u32, high: u32) -> Result<u32, LineFault>
+pub(crate) fn number_of(word: &[u8], low: u32, high: u32) -> Result<u32, LineFault>
     ensures ok { IfOk result (IsNumber word.now low high) }
     ensures err { IfErr result (NotNumber word.now low high) }
 {

@@ -7,7 +7,7 @@ use std::marker::Model;
 // The parts of a text that are left, as the text is cut at each separator. A text without one is
 // one part, and two separators in a row have an empty part between them.
 #[derive(Drop)]
-pub struct Parts<'a> {
+pub(crate) struct Parts<'a> {
     separator: u8,
     rest: Option<&'a [u8]>,
 }
@@ -27,7 +27,7 @@ impl<'a> Parts<'a> {
     ghost use Rattle.script_core.specs.Parts.{parts_of};
 
     // All parts of a text.
-    pub fn new(text: &'a [u8], separator: u8) -> Parts<'a>
+    pub(crate) fn new(text: &'a [u8], separator: u8) -> Parts<'a>
         ensures { result ≡ parts_of separator text.now }
     {
         Parts {
@@ -37,7 +37,7 @@ impl<'a> Parts<'a> {
     }
 
     // The next part. None where none is left.
-    pub fn next(&mut self) -> Option<&'a [u8]>
+    pub(crate) fn next(&mut self) -> Option<&'a [u8]>
         ensures { MatchOption result ((self.old ≡ []) × (self.new ≡ [])) (λ part. self.old ≡ part.now ∷ self.new) }
     {
         let rest = self.rest?;

@@ -18,12 +18,21 @@ use crate::names::StatementName;
 use crate::parts::Parts;
 use std::alloc::Global;
 
+// The greatest number of a session.
+const LAST_SESSION: u32 = 16;
+
+// The most bytes of a read: those of a page's body.
+const LONGEST_READ: u32 = 16_338;
+
+// The most pages of a batch.
+const MOST_TAKEN: u32 = 64;
+
 // K CHANGE [; CHANGE]..
 fn read_mtr(alloc: Global, words: &mut Parts<'_>) -> Result<Act, LineError>
     ensures ok { (before : List Act) → IfOk result (λ act. (statement_name act ≡ name.Mtr) × AreArguments before act words.old) }
     ensures err { (before : List Act) → IfErr result (λ e. ForFault e (ArgumentFault before name.Mtr words.old)) }
 {
-    let session = take_number(words, 1, 16)?;
+    let session = take_number(words, 1, LAST_SESSION)?;
     let changes = read_changes(alloc, words)?;
     Ok(Act::Mtr { session, changes })
 }
@@ -33,11 +42,11 @@ fn read_read(words: &mut Parts<'_>) -> Result<Act, LineFault>
     ensures ok { (before : List Act) → IfOk result (λ act. (statement_name act ≡ name.Read) × AreArguments before act words.old) }
     ensures err { (before : List Act) → IfErr result (FaultIn before (fields_of name.Read) words.old) }
 {
-    let session = take_number(words, 1, 16)?;
+    let session = take_number(words, 1, LAST_SESSION)?;
     let space = take_u32(words)?;
     let page = take_u32(words)?;
     let at = take_u32(words)?;
-    let length = take_number(words, 1, 16_338)?;
+    let length = take_number(words, 1, LONGEST_READ)?;
     take_end(words)?;
     Ok(Act::Read {
         session,
@@ -55,7 +64,7 @@ fn read_take(words: &mut Parts<'_>, batches: &Batches) -> Result<Act, LineFault>
 {
     let batch = take_free_batch(words, batches)?;
     let space = take_u32(words)?;
-    let count = take_number(words, 1, 64)?;
+    let count = take_number(words, 1, MOST_TAKEN)?;
     take_end(words)?;
     Ok(Act::Take {
         batch,
@@ -139,7 +148,11 @@ fn read_named(
 }
 
 // The statement of a line, behind those that left these batches outstanding.
-pub fn read_statement(alloc: Global, line: &[u8], batches: &Batches) -> Result<Act, LineError>
+pub(crate) fn read_statement(
+    alloc: Global,
+    line: &[u8],
+    batches: &Batches,
+) -> Result<Act, LineError>
     ensures ok { (before : List Act) → Tells batches.now.out before → IfOk result (IsStatement before (words_of line.now)) }
     ensures err { (before : List Act) → Tells batches.now.out before → IfErr result (λ e. ForFault e (IsLineFault before (words_of line.now))) }
 {

@@ -60,15 +60,15 @@ fn each_bad_line_has_its_first_fault(rt: HostRuntime) -> Result<(), Fail> {
     let tables = [
         (
             LineFault::Word,
-            "sink\nSYNC\n sync\nsync\r\nmtr 1 write 5 1 38 aa\nmtr 1 put 5 1 38 aa ; ;\nmtr 1 put 5 1 38 aa ; ",
+            "sink\nSYNC\n sync\nsync\r\nmtr 1 write 5 1 38 aa\nmtr 1  put 5 1 38 aa\nmtr 1 PUT 5 1 38 aa\nmtr 1 put 5 1 38 aa ; ;\nmtr 1 put 5 1 38 aa ; ",
         ),
         (
             LineFault::Number,
-            "mtr one put 5 1 38 aa\nmtr 01 put 5 1 38 aa\nmtr  1 put 5 1 38 aa\nmtr +1 put 5 1 38 aa\nmtr 1 put -5 1 38 aa\nmtr 1 put 5 x 38 aa\nmtr 1 put 5 1 3a aa\nmtr 1 fill 5 1 38 x 41\nmtr 1 kind 5 1 sys\nread 1 5 1 38 1\r\nread 1 5 1 38 \ntake x 5 8\ntake 1 5 08\nput x\nactivate v\nencrypt s\nrotate 00\nreport x",
+            "mtr one put 5 1 38 aa\nmtr 01 put 5 1 38 aa\nmtr  1 put 5 1 38 aa\nmtr +1 put 5 1 38 aa\nmtr 1 put -5 1 38 aa\nmtr 1 put 5 x 38 aa\nmtr 1 put 5 1 3a aa\nmtr 1 fill x 1 38 4 41\nmtr 1 fill 5 x 38 4 41\nmtr 1 fill 5 1 x 4 41\nmtr 1 fill 5 1 38 x 41\nmtr 1 kind x 1 10\nmtr 1 kind 5 x 10\nmtr 1 kind 5 1 sys\nread x 5 1 38 1\nread 1 x 1 38 1\nread 1 5 x 38 1\nread 1 5 1 x 1\nread 1 5 1 38 1\r\nread 1 5 1 38 \ntake x 5 8\ntake 1 x 8\ntake 1 5 08\nput x\nput \nactivate v\nencrypt s\nrotate 00\nreport x",
         ),
         (
             LineFault::Range,
-            "mtr 0 put 5 1 38 aa\nmtr 17 put 5 1 38 aa\nmtr 1 put 4294967296 1 38 aa\nmtr 1 fill 5 1 38 4294967296 41\nmtr 1 kind 5 1 8\nmtr 1 kind 5 1 9\nmtr 1 kind 5 1 65536\nread 0 5 1 38 1\nread 17 5 1 38 1\nread 1 5 1 38 0\nread 1 5 1 38 16339\ntake 0 5 8\ntake 17 5 8\ntake 1 5 0\ntake 1 5 65\nput 17\nactivate 4294967296\nencrypt 4294967296\nrotate 4294967296\nreport 4294967296",
+            "mtr 0 put 5 1 38 aa\nmtr 17 put 5 1 38 aa\nmtr 1 put 4294967296 1 38 aa\nmtr 1 put 5 4294967296 38 aa\nmtr 1 put 5 1 4294967296 aa\nmtr 1 fill 4294967296 1 38 4 41\nmtr 1 fill 5 4294967296 38 4 41\nmtr 1 fill 5 1 4294967296 4 41\nmtr 1 fill 5 1 38 4294967296 41\nmtr 1 kind 4294967296 1 10\nmtr 1 kind 5 4294967296 10\nmtr 1 kind 5 1 8\nmtr 1 kind 5 1 9\nmtr 1 kind 5 1 65536\nread 0 5 1 38 1\nread 17 5 1 38 1\nread 1 4294967296 1 38 1\nread 1 5 4294967296 38 1\nread 1 5 1 4294967296 1\nread 1 5 1 38 0\nread 1 5 1 38 16339\ntake 0 5 8\ntake 17 5 8\ntake 1 4294967296 8\ntake 1 5 0\ntake 1 5 65\nput 0\nput 17\nactivate 4294967296\nencrypt 4294967296\nrotate 4294967296\nreport 4294967296",
         ),
         (
             LineFault::Hex,
@@ -76,13 +76,13 @@ fn each_bad_line_has_its_first_fault(rt: HostRuntime) -> Result<(), Fail> {
         ),
         (
             LineFault::Missing,
-            "mtr 1 put 5 1 38 aa ; put\nmtr\nmtr 1\nmtr 1 put 5 1 38\nmtr 1 fill 5 1 38 4\nmtr 1 kind 5 1\nmtr 1 put 5 1 38 aa ;\nread 1 5 1 38\ntake 1 5\nput\nactivate\nencrypt\nrotate\nreport",
+            "mtr\nmtr 1\nmtr 1 put\nmtr 1 put 5\nmtr 1 put 5 1\nmtr 1 put 5 1 38\nmtr 1 fill\nmtr 1 fill 5\nmtr 1 fill 5 1\nmtr 1 fill 5 1 38\nmtr 1 fill 5 1 38 4\nmtr 1 kind\nmtr 1 kind 5\nmtr 1 kind 5 1\nmtr 1 put 5 1 38 aa ;\nmtr 1 put 5 1 38 aa ; put\nread\nread 1\nread 1 5\nread 1 5 1\nread 1 5 1 38\ntake\ntake 1\ntake 1 5\nput\nactivate\nencrypt\nrotate\nreport",
         ),
         (
             LineFault::Extra,
-            "mtr 1 put 5 1 38 aa put 5 1 39 bb\nmtr 1 kind 5 1 10 \nread 1 5 1 38 1 2\nsync \nsync now\nflush all\ncheck 1\ntake 1 5 8 9\nactivate 2 3\nencrypt 5 5\nrotate 5 5\nreport 5 5",
+            "mtr 1 put 5 1 38 aa put 5 1 39 bb\nmtr 1 put 5 1 38 aa \nmtr 1 fill 5 1 38 4 41 42\nmtr 1 fill 5 1 38 4 41 \nmtr 1 kind 5 1 10 11\nmtr 1 kind 5 1 10 \nread 1 5 1 38 1 2\nsync \nsync now\nflush all\ncheck 1\ntake 1 5 8 9\nactivate 2 3\nencrypt 5 5\nrotate 5 5\nreport 5 5",
         ),
-        (LineFault::Batch, "put 1\nput 1 2"),
+        (LineFault::Batch, "put 1\nput 16\nput 1 2"),
     ];
     for (kind, lines) in tables {
         for line in lines.split('\n') {
@@ -147,6 +147,20 @@ fn lines_are_counted_and_the_first_bad_one_is_answered(rt: HostRuntime) -> Resul
             "take 2 5 8\nput 2\nput 2\n",
             Err(ScriptFault::BadLine {
                 line: 3,
+                kind: batch,
+            }),
+        ),
+        (
+            "take 1 5 8\nput 1 2\n",
+            Err(ScriptFault::BadLine {
+                line: 2,
+                kind: LineFault::Extra,
+            }),
+        ),
+        (
+            "take 1 5 8\ntake 1 5 8 9\n",
+            Err(ScriptFault::BadLine {
+                line: 2,
                 kind: batch,
             }),
         ),

@@ -8,8 +8,8 @@ returns-in_err-number-clause-err c before =
     handed (FaultAt before PageType c.args.words.now) c.from_residual.result c.in_err-number.field-0.0 (search rules)
     (page_type before c.args.words.now c.in_err-number.field-0.0 (c.in_err-number.ensures.err before))
 
-pub returns-then-number-eq8-clause-err : goal.returns-then-number-eq8-clause-err
+pub returns-then-number-eq-FSP_HDR-clause-err : goal.returns-then-number-eq-FSP_HDR-clause-err
 unfolding Misfit
-returns-then-number-eq8-clause-err c before =
+returns-then-number-eq-FSP_HDR-clause-err c before =
     let t = c.in_ok-number.ensures.ok in
     misfits before PageType c.args.words.now t.word c.take_number.new.words _ t.begins (inr (refl, (c.in_ok-number.number, record { spelled = t.has.spelled; from = omega arith; to = omega arith })))
