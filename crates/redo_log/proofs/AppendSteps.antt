@@ -1,6 +1,5 @@
 -- The blocks of a mini-transaction behind the pending ones.
-use Rattle.std.proofs.Common.{◌≡◌, ◌≢◌, ℕ, zero, suc, ◌+◌, ◌-◌, ◌*◌, ◌/◌, ◌^◌, ◌<◌, ◌≤◌, ⊎_elim, Bool, true, false, nat_eq, List, [], ◌∷◌, ◌++◌, length, take, drop, Option, Some, Ok, Result, refl, sym, ap, subst, ◌∙◌, arith, length-append, length-drop}
-use Rattle.std.specs.Result.{is_ok}
+use Rattle.std.proofs.Common.{◌≡◌, ◌≢◌, ℕ, zero, suc, ◌+◌, ◌-◌, ◌*◌, ◌<◌, ◌≤◌, ⊎_elim, true, false, nat_eq, List, [], ◌∷◌, ◌++◌, length, take, drop, refl, sym, ap, subst, ◌∙◌, arith, length-append, length-drop}
 use Rattle.std.proofs.lemmas.Bool.{cases_lt}
 use Rattle.std.proofs.lemmas.Bool.Decides.{nat_tests}
 use Rattle.std.proofs.lemmas.List.{drop_all, drop-append-le, take-append-le, take-append-drop, length-take-le}
@@ -13,9 +12,9 @@ use Rattle.ring_log.specs.Ring.{IsWholeMtr, listed_blocks}
 use Rattle.redo_text.specs.declared.change.Change.{Change}
 use Rattle.redo_text.specs.declared.change.Change.TheVariants.{Put, Kind, Touch, Floor, Encrypt}
 use Rattle.redo_text.specs.declared.key.RedoKey.{RedoKey}
-use Rattle.redo_text.specs.Block.{AreOf, block_count, blocks, nth_block, text_part}
+use Rattle.redo_text.specs.Block.{AreOf, block_count, blocks, nth_block}
 use Rattle.redo_text.proofs.BlockLoop.{length-joined, range-joined}
-use Rattle.redo_text.specs.Reading.{reading, block_version, used_of, block_flags, is_first, is_last, clear_body}
+use Rattle.redo_text.specs.Reading.{block_version, block_flags, is_first, is_last}
 use Rattle.redo_text.specs.Text.{text_of, AreAllowed}
 use Rattle.redo_log.specs.State.{LogState}
 use Rattle.crash_image.specs.LogForm.{AreTexts}
@@ -23,7 +22,7 @@ use Rattle.key_ring.specs.Local.{local_key}
 use Rattle.store_files.specs.RingBlock.{is_ring_block, block_text}
 use Rattle.redo_log.specs.Blocks.{Keys, IsStoreKey, redo_form}
 use Rattle.redo_log.specs.Log.{IsOpen, durable, free_of, pending_at, pending_count}
-use Rattle.redo_log.specs.Append.{appended, logged_entry, taken_back, IsEntry, HasLast, HasPending}
+use Rattle.redo_log.specs.Append.{appended, taken_back, IsEntry, HasLast}
 use Rattle.redo_log.specs.Append.{IsRedoKey}
 use Rattle.redo_log.proofs.TextFacts.{IsNth, nth_is}
 

@@ -1,6 +1,6 @@
 -- A checkpoint is put together part by part.
 use Rattle.std.proofs.Common.{◌≡◌, ℕ, ◌+◌, List, [], ◌++◌, length, take, drop, refl, sym, ap, ◌∙◌, arith, length-append, length-drop, append_assoc}
-use Rattle.std.proofs.lemmas.List.{take_at, drop_all, append-nil, length-replicate}
+use Rattle.std.proofs.lemmas.List.{take_at, drop_all, append-nil}
 use Rattle.std.proofs.Math.Seq.{drop-append-add}
 use Rattle.std.specs.Int.{to_be_bytes, w32, w64}
 use Rattle.std.specs.Prelude.{codes}
@@ -8,7 +8,6 @@ use Rattle.bytes_core.specs.Crc.{crc32c}
 use Rattle.byte_list.specs.Bytes.{put, zeros}
 use Rattle.byte_list.proofs.RangeLaws.{length-zeros}
 use Rattle.store_files.specs.Checkpoint.{checkpoint_front, checkpoint_bytes}
-use Rattle.store_image.specs.Checkpoint.{HeldCheckpoint}
 use Rattle.redo_log.specs.Check.{check_words, check_bytes}
 
 -- the bytes before the checksum, as they are written

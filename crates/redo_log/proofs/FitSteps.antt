@@ -1,10 +1,10 @@
 -- The log in memory after its calls.
-use Rattle.std.proofs.Common.{◌≡◌, ◌≢◌, ℕ, ◌+◌, ◌-◌, ◌*◌, ◌/◌, ◌^◌, ◌<◌, ◌≤◌, Bool, true, false, true≢false, nat_eq, if◌then◌else◌, List, [], length, refl, sym, ap, subst, ◌∙◌, arith}
+use Rattle.std.proofs.Common.{◌≡◌, ◌≢◌, ℕ, ◌+◌, ◌^◌, ◌<◌, ◌≤◌, Bool, true, false, true≢false, nat_eq, if◌then◌else◌, refl, sym, ap, subst, ◌∙◌, arith}
 use Rattle.std.proofs.lemmas.Bool.Decides.{nat_tests}
 use Rattle.ring_log.specs.Ring.{RingState}
-use Rattle.ring_log.specs.Batches.{settle, checkpointed}
+use Rattle.ring_log.specs.Batches.{settle}
 use Rattle.redo_log.specs.State.{LogState}
-use Rattle.redo_log.specs.Log.{IsOpen, durable, pending_at, pending_count, empty_log, written_out, with_checkpoint, checked, FitsRing}
+use Rattle.redo_log.specs.Log.{IsOpen, durable, pending_count, empty_log, written_out, with_checkpoint, checked, FitsRing}
 use Rattle.redo_log.proofs.CheckSteps.{checked_same, checked_other}
 
 -- a log with nothing pending

@@ -9,9 +9,8 @@ use Rattle.byte_list.specs.Fields.{be64_at}
 use Rattle.places.specs.Places.{place, May}
 use Rattle.places.proofs.Apart.{before}
 use Rattle.places.proofs.Steps.{places_make}
-use Rattle.ring_log.specs.Ring.{Form, place_in_ring, HasNoBlockFrom, IsBehind, IsSynced, IsOther, RingReady}
+use Rattle.ring_log.specs.Ring.{place_in_ring, HasNoBlockFrom, IsBehind, IsSynced, IsOther, RingReady}
 use Rattle.ring_log.proofs.RingSteps.{none_some}
-use Rattle.redo_text.specs.declared.change.Change.{Change}
 use Rattle.store_files.proofs.RingBlocks.{block_number}
 use Rattle.redo_log.specs.Blocks.{Keys, redo_form, file_layout}
 use Rattle.redo_log.specs.Events.{CheckSettled}

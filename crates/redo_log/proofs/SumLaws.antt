@@ -1,12 +1,11 @@
 -- The checksum of a file block of 4096 bytes, as a test reads it.
-use Rattle.std.proofs.Common.{◌≡◌, ℕ, ◌-◌, ◌≤◌, ◌==◌, Bool, true, false, true≢false, nat_eq, nat_le, List, length, take, drop, refl, sym, ap, ◌∙◌, arith, length-drop}
+use Rattle.std.proofs.Common.{◌≡◌, ℕ, ◌-◌, ◌≤◌, Bool, true, false, true≢false, nat_eq, nat_le, List, length, take, drop, refl, sym, ap, ◌∙◌, arith, length-drop}
 use Rattle.std.proofs.lemmas.Bool.Decides.{nat_tests}
 use Rattle.std.proofs.lemmas.List.{take_all}
 use Rattle.std.specs.Int.{from_be_bytes, w32}
 use Rattle.byte_list.specs.Bytes.{AreBytes}
 use Rattle.byte_list.specs.Fields.{be32_at}
 use Rattle.bytes_core.specs.Crc.{crc32c}
-use Rattle.bytes_core.specs.LastByte.{EndsInCrc32c}
 use Rattle.bytes_core.proofs.LastByte.{ends-stored, stored-ends}
 use Rattle.page_places.specs.Texts.{ends_in_sum}
 use Rattle.page_places.proofs.Sums.{ends-ends_in_sum, ends_in_sum-ends, not_true}

@@ -1,23 +1,12 @@
 -- The blocks that redo_text makes, as blocks of a ring: their text comes back.
-use Rattle.std.proofs.Common.{◌≡◌, ℕ, ◌+◌, ◌-◌, ◌*◌, ◌/◌, ◌^◌, ◌==◌, ◌<◌, ◌≤◌, ⊎_elim, Bool, true, false, true≢false, nat_eq, List, [], ◌∷◌, ◌++◌, length, take, drop, Ok, refl, sym, ap, ◌∙◌, arith, length-drop}
+use Rattle.std.proofs.Common.{◌≡◌, ℕ, ◌+◌, ◌-◌, ◌*◌, ◌^◌, ◌<◌, ◌≤◌, ⊎_elim, true, false, true≢false, nat_eq, List, length, drop, sym, ap, ◌∙◌, arith, length-drop}
 use Rattle.std.proofs.lemmas.Bool.{cases_lt}
-use Rattle.std.proofs.lemmas.List.{take_at, take_all, length-take-le}
-use Rattle.std.specs.Int.{byte_at, to_le_bytes, w32, w64}
-use Rattle.aes_core.specs.Algorithm.{ciphered, deciphered}
-use Rattle.aes_core.specs.Cipher.{IsCipherBlock as IsSixteen, IsKey as IsCipherKey}
-use Rattle.aes_core.specs.Modes.{whole_blocks}
-use Rattle.aes_core.specs.declared.algorithm.Algorithm.{Algorithm}
-use Rattle.aes_core.specs.declared.algorithm.Algorithm.TheVariants.{Cbc, Ctr}
-use Rattle.aes_core.proofs.Inverse.{byte_at-lt}
-use Rattle.aes_core.proofs.ModeLaws.{cbc_undone, ctr_twice, stream_blocks}
-use Rattle.byte_list.specs.Bytes.{AreBytes, zeros}
-use Rattle.byte_list.proofs.ByteLaws.{bytes_append, bytes_made, bytes_take, bytes_drop}
-use Rattle.redo_text.specs.declared.change.Change.{Change}
+use Rattle.std.proofs.lemmas.List.{take_all, length-take-le}
+use Rattle.byte_list.specs.Bytes.{AreBytes}
+use Rattle.byte_list.proofs.ByteLaws.{bytes_take, bytes_drop}
 use Rattle.redo_text.specs.declared.key.RedoKey.{RedoKey}
-use Rattle.redo_text.specs.Block.{block_count, filled, log_iv, nth_block, ring_block, text_part}
-use Rattle.redo_text.specs.Reading.{reading, block_version, used_of, block_flags, block_body, is_first, is_last, clear_body}
-use Rattle.redo_text.proofs.BlockFields.{body_is, number_is, filled_bytes}
-use Rattle.redo_text.proofs.BlockTaken.{taken}
+use Rattle.redo_text.specs.Block.{block_count, nth_block, text_part}
+use Rattle.redo_text.specs.Reading.{block_version, block_flags, is_first, is_last}
 use Rattle.store_files.specs.RingBlock.{is_ring_block, block_text}
 use Rattle.store_files.proofs.RingBlocks.{ring_block_back, ring_block_text}
 use Rattle.redo_log.specs.Append.{IsRedoKey}

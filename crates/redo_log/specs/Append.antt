@@ -1,5 +1,5 @@
 -- A mini-transaction is added to the pending blocks, or isn't taken, or is taken back.
-use Rattle.std.specs.Prelude.{◌≡◌, ℕ, ◌+◌, ◌-◌, ◌*◌, ◌^◌, ◌<◌, ◌≤◌, true, false, List, [], ◌∷◌, ◌++◌, length, take}
+use Rattle.std.specs.Prelude.{◌≡◌, ℕ, ◌+◌, ◌-◌, ◌*◌, ◌^◌, ◌<◌, ◌≤◌, true, false, List, [], ◌∷◌, ◌++◌, take}
 use Rattle.aes_core.specs.Cipher.{IsKey as IsCipherKey}
 use Rattle.store_image.specs.View.{Logged}
 use Rattle.ring_log.specs.Ring.{AreWholeEntries}

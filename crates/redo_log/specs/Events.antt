@@ -1,7 +1,6 @@
 -- The events of a write out and of a checkpoint, and what is known of the disk while they come.
-use Rattle.std.specs.Prelude.{◌≡◌, ℕ, zero, suc, ◌+◌, ◌*◌, ◌%◌, ◌<◌, ◌≤◌, List, [], ◌∷◌, ◌++◌, Some, None}
+use Rattle.std.specs.Prelude.{ℕ, zero, suc, ◌+◌, ◌*◌, ◌%◌, List, [], ◌∷◌}
 use Rattle.disk_model.specs.Event.{Event, Write, Sync}
-use Rattle.disk_model.specs.Past.{Past, IsWrite}
 use Rattle.disk_model.specs.declared.names.FileName.TheVariants.{Log as LogFile}
 use Rattle.places.specs.Batches.{Batch, Writing, Wrote, BatchSettled, IsOf}
 use Rattle.places.specs.Writes.{writes_of}

@@ -2,7 +2,6 @@
 use Rattle.std.specs.Prelude.{◌≡◌, ℕ, ◌+◌, ◌*◌, List, [], None}
 use Rattle.disk_model.specs.Event.{Event, zeros}
 use Rattle.disk_model.specs.declared.names.FileName.TheVariants.{Log as LogFile}
-use Rattle.places.specs.Batches.{IsFileSettled}
 use Rattle.places.specs.Places.{place, shown, HasPlaces}
 use Rattle.ring_log.specs.Ring.{RingState}
 use Rattle.redo_log.specs.Blocks.{file_layout}

@@ -1,5 +1,5 @@
 // Checkpoints are written: device calls, one to a function.
-ghost use Rattle.std.specs.Prelude.{◌≡◌, ℕ, ◌+◌, ◌*◌, ◌%◌, ◌<◌, ◌≤◌, ◌^◌, List, OnOk, OnErr, Ok};
+ghost use Rattle.std.specs.Prelude.{◌≡◌, ℕ, ◌+◌, ◌*◌, ◌%◌, ◌<◌, ◌≤◌, ◌^◌, List, OnOk, OnErr, Ok, IsErrOf};
 ghost use Rattle.disk_model.specs.Does.{Does};
 ghost use Rattle.disk_model.specs.Event.{Sync};
 ghost use Rattle.disk_model.specs.Past.{Past, At, Throughout, MayGrow, IsWrite, grow, HasDiskCause, HasDiskMemoryCause};
@@ -36,9 +36,11 @@ fn write_check<D: Disk>(
     ensures ok { OnOk result (D.past disk.new ≡ grow (check_event sequence from) (D.past disk.old)) }
     ensures err { OnErr result (MayGrow (IsWrite LogFile ((1 + sequence % 2) * 4096) (check_bytes sequence from)) (D.past disk.old) (D.past disk.new)) }
     ensures later { D.is_later disk.old disk.new }
+    ensures calls { D.clock disk.new ≤ D.clock disk.old + 1 }
     ensures cause { HasDiskCause (D.faults disk.old) (D.faults disk.new) result }
     ensures memory { HasDiskMemoryCause (D.memory_refusals disk.old) (D.memory_refusals disk.new) result }
     ensures no_fault { OnOk result (D.faults disk.new ≡ D.faults disk.old) }
+    ensures no_fault_at_want { IsErrOf result DiskError.NoMemory → D.faults disk.new ≡ D.faults disk.old }
     ensures no_refusal { OnOk result (D.memory_refusals disk.new ≡ D.memory_refusals disk.old) }
 {
     let _ = blocks;
@@ -62,9 +64,11 @@ fn settle_check<D: Disk>(
     ensures exact { OnOk result (D.past disk.new ≡ grow (Sync LogFile) (grow (check_event sequence from) (D.past disk.old))) }
     ensures part { OnErr result (IsPart LogFile 4096 (side_batch sequence from) 1 (D.past disk.old) (D.past disk.new)) }
     ensures later { D.is_later disk.old disk.new }
+    ensures calls { D.clock disk.new ≤ D.clock disk.old + 2 }
     ensures cause { HasDiskCause (D.faults disk.old) (D.faults disk.new) result }
     ensures memory { HasDiskMemoryCause (D.memory_refusals disk.old) (D.memory_refusals disk.new) result }
     ensures no_fault { OnOk result (D.faults disk.new ≡ D.faults disk.old) }
+    ensures no_fault_at_want { IsErrOf result DiskError.NoMemory → D.faults disk.new ≡ D.faults disk.old }
     ensures no_refusal { OnOk result (D.memory_refusals disk.new ≡ D.memory_refusals disk.old) }
 {
     write_check(disk, blocks, sequence, from)?;
@@ -85,9 +89,11 @@ pub fn write_first_checkpoint<D: Disk>(disk: &mut D, blocks: u64) -> Result<(), 
     ensures part { OnErr result (IsPart LogFile 4096 (side_batch 1 2) 1 (D.past disk.old) (D.past disk.new)) }
     ensures places { At (HasPlaces LogFile (file_layout blocks)) (D.past disk.new) }
     ensures later { D.is_later disk.old disk.new }
+    ensures calls { D.clock disk.new ≤ D.clock disk.old + 2 }
     ensures cause { HasDiskCause (D.faults disk.old) (D.faults disk.new) result }
     ensures memory { HasDiskMemoryCause (D.memory_refusals disk.old) (D.memory_refusals disk.new) result }
     ensures no_fault { OnOk result (D.faults disk.new ≡ D.faults disk.old) }
+    ensures no_fault_at_want { IsErrOf result DiskError.NoMemory → D.faults disk.new ≡ D.faults disk.old }
     ensures no_refusal { OnOk result (D.memory_refusals disk.new ≡ D.memory_refusals disk.old) }
 {
     settle_check(disk, blocks, 1, 2)
@@ -105,9 +111,11 @@ impl Log {
         ensures exact { self.now.from < from → OnOk result (D.past disk.new ≡ grow (Sync LogFile) (grow (check_event (self.now.sequence + 1) from) (D.past disk.old))) }
         ensures part { OnErr result (IsPart LogFile 4096 (side_batch (self.now.sequence + 1) from) 1 (D.past disk.old) (D.past disk.new)) }
         ensures later { D.is_later disk.old disk.new }
+        ensures calls { D.clock disk.new ≤ D.clock disk.old + 2 }
         ensures cause { HasDiskCause (D.faults disk.old) (D.faults disk.new) result }
         ensures memory { HasDiskMemoryCause (D.memory_refusals disk.old) (D.memory_refusals disk.new) result }
         ensures no_fault { OnOk result (D.faults disk.new ≡ D.faults disk.old) }
+        ensures no_fault_at_want { IsErrOf result DiskError.NoMemory → D.faults disk.new ≡ D.faults disk.old }
         ensures no_refusal { OnOk result (D.memory_refusals disk.new ≡ D.memory_refusals disk.old) }
     {
         if from == self.from() {
@@ -139,9 +147,11 @@ impl Log {
         ensures open { IsOpen self.new }
         ensures places { At (HasPlaces LogFile (file_layout self.old.blocks)) (D.past disk.new) }
         ensures later { D.is_later disk.old disk.new }
+        ensures calls { D.clock disk.new ≤ D.clock disk.old + 2 }
         ensures cause { HasDiskCause (D.faults disk.old) (D.faults disk.new) result }
         ensures memory { HasDiskMemoryCause (D.memory_refusals disk.old) (D.memory_refusals disk.new) result }
         ensures no_fault { OnOk result (D.faults disk.new ≡ D.faults disk.old) }
+        ensures no_fault_at_want { IsErrOf result DiskError.NoMemory → D.faults disk.new ≡ D.faults disk.old }
         ensures no_refusal { OnOk result (D.memory_refusals disk.new ≡ D.memory_refusals disk.old) }
     {
         self.move_from(disk, from)?;

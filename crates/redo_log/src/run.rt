@@ -1,5 +1,5 @@
 // The run is read block by block. Reading adds no event.
-ghost use Rattle.std.specs.Prelude.{◌≡◌, ℕ, ◌+◌, ◌-◌, ◌*◌, ◌<◌, ◌≤◌, ◌^◌, ◌++◌, ◌∷◌, [], length, IfOk, OnOk, IfSome, IfNone, Some, slice_get, take};
+ghost use Rattle.std.specs.Prelude.{◌≡◌, ℕ, ◌+◌, ◌-◌, ◌*◌, ◌<◌, ◌≤◌, ◌^◌, ◌++◌, ◌∷◌, [], length, IfOk, OnOk, IfSome, IfNone, Some, slice_get, take, IsErrOf};
 ghost use Rattle.std.specs.List.{Contains};
 ghost use Rattle.std.specs.List.Sorted.{IsStrictlyIncreasing};
 ghost use Rattle.disk_model.specs.Event.{reads};
@@ -10,7 +10,7 @@ ghost use Rattle.ring_log.specs.Ring.{read_in};
 ghost use Rattle.ring_log.specs.Scans.{IsRingRun, Goes, Stops};
 ghost use Rattle.redo_text.specs.Reading.{block_version};
 ghost use Rattle.redo_log.specs.Blocks.{Keys, redo_form, read_at};
-ghost use Rattle.redo_log.specs.Runs.{versions_up, AreVersions};
+ghost use Rattle.redo_log.specs.Runs.{versions_up, AreVersions, IsReadOnce};
 
 use disk_model::{Disk, DiskError, FileName};
 use redo_text::read_block;
@@ -91,14 +91,12 @@ fn next_of(block: &[u8], number: u64, end: u64) -> Option<Next>
     requires size { length block.now ≡ 4096 }
     requires small { number + 1 ≤ 2 ^ 63 }
     requires order { end ≤ number }
+    requires few { number < end + 16 }
     ensures some { IfSome result (λ next. (keys : Keys) → (N : ℕ) → Goes N (redo_form keys) number end block.now next.end) }
     ensures bounds { IfSome result (λ next. (end ≤ next.end) × (next.end ≤ number + 1)) }
     ensures version { IfSome result (λ next. next.version ≡ block_version block.now) }
     ensures none { IfNone result ((keys : Keys) → (N : ℕ) → Stops N (redo_form keys) number end block.now) }
 {
-    if number - end >= 16 {
-        return None;
-    }
     let Ok(view) = read_block(block, number) else {
         return None;
     };
@@ -127,9 +125,11 @@ fn read_number<D: Disk>(
     ensures block { OnOk result (At (λ es. buffer.new ≡ read_at blocks (reads LogFile es) number) (D.past disk.old)) }
     ensures same { D.past disk.new ≡ D.past disk.old }
     ensures later { D.is_later disk.old disk.new }
+    ensures once { D.clock disk.new ≤ D.clock disk.old + 1 }
     ensures cause { HasDiskCause (D.faults disk.old) (D.faults disk.new) result }
     ensures memory_refusals { D.memory_refusals disk.old ≤ D.memory_refusals disk.new }
     ensures no_fault { OnOk result (D.faults disk.new ≡ D.faults disk.old) }
+    ensures no_fault_at_want { IsErrOf result DiskError.NoMemory → D.faults disk.new ≡ D.faults disk.old }
     ensures no_refusal { OnOk result (D.memory_refusals disk.new ≡ D.memory_refusals disk.old) }
 {
     disk.read(FileName::Log, (3 + number % blocks) * 4096, buffer)
@@ -155,15 +155,22 @@ fn scan_into<D: Disk>(
     ensures versions { OnOk result (At (λ es. versions.new.items ≡ versions_up (read_at blocks (reads LogFile es)) from (length versions.new.items)) (D.past disk.old)) }
     ensures same { D.past disk.new ≡ D.past disk.old }
     ensures later { D.is_later disk.old disk.new }
+    ensures calls { D.clock disk.new ≤ D.clock disk.old + blocks }
+    ensures once { IfOk result (λ end. At (λ es. IsReadOnce blocks (read_at blocks (reads LogFile es)) from end (D.clock disk.old) (D.clock disk.new)) (D.past disk.old)) }
     ensures cause { HasDiskCause (D.faults disk.old) (D.faults disk.new) result }
     ensures memory_refusals { D.memory_refusals disk.old ≤ D.memory_refusals disk.new }
     ensures no_fault { OnOk result (D.faults disk.new ≡ D.faults disk.old) }
+    ensures no_fault_at_want { IsErrOf result DiskError.NoMemory → D.faults disk.new ≡ D.faults disk.old }
     ensures no_refusal { OnOk result (D.memory_refusals disk.new ≡ D.memory_refusals disk.old) }
 {
     let mut end = from;
     for i in 0..blocks {
-        read_number(disk, blocks, from + i, buffer)?;
-        let Some(next) = next_of(buffer, from + i, end) else {
+        let number = from + i;
+        if number - end >= 16 {
+            return Ok(end);
+        }
+        read_number(disk, blocks, number, buffer)?;
+        let Some(next) = next_of(buffer, number, end) else {
             return Ok(end);
         };
         let Ok(()) = versions.push(next.version) else {
@@ -175,7 +182,8 @@ fn scan_into<D: Disk>(
 }
 
 /// The longest run of whole mini-transactions from this block on in a log of so many ring blocks, as
-/// the disk reads. Each block is read once at most, and no event is added.
+/// the disk reads. Each block is read once at most, none past the 16 behind the run, and no event is
+/// added.
 ///
 /// # Errors
 /// As the disk gives them, and `NoMemory` also where the versions find no room.
@@ -191,9 +199,13 @@ pub fn scan<D: Disk>(alloc: Global, disk: &mut D, blocks: u64, from: u64) -> Res
     ensures ascending { IfOk result (λ run. IsStrictlyIncreasing run.versions) }
     ensures same { D.past disk.new ≡ D.past disk.old }
     ensures later { D.is_later disk.old disk.new }
+    // Each block of the ring is read once at most; at Ok those of the run are, and those behind it up to the first that doesn't go on with it.
+    ensures calls { D.clock disk.new ≤ D.clock disk.old + blocks }
+    ensures once { IfOk result (λ run. At (λ es. IsReadOnce blocks (read_at blocks (reads LogFile es)) from (run.last + 1) (D.clock disk.old) (D.clock disk.new)) (D.past disk.old)) }
     ensures cause { HasDiskCause (D.faults disk.old) (D.faults disk.new) result }
     ensures memory_refusals { D.memory_refusals disk.old ≤ D.memory_refusals disk.new }
     ensures no_fault { OnOk result (D.faults disk.new ≡ D.faults disk.old) }
+    ensures no_fault_at_want { IsErrOf result DiskError.NoMemory → D.faults disk.new ≡ D.faults disk.old }
     ensures no_refusal { OnOk result (D.memory_refusals disk.new ≡ D.memory_refusals disk.old) }
 {
     let mut buffer = [0; 4096];

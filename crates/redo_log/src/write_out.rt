@@ -1,5 +1,5 @@
 // The pending blocks are written out: device calls, one to a function.
-ghost use Rattle.std.specs.Prelude.{◌≡◌, ℕ, ◌+◌, ◌*◌, ◌%◌, ◌<◌, ◌≤◌, List, length, OnOk, OnErr, Ok};
+ghost use Rattle.std.specs.Prelude.{◌≡◌, ℕ, ◌+◌, ◌*◌, ◌%◌, ◌<◌, ◌≤◌, List, length, OnOk, OnErr, Ok, IsErrOf};
 ghost use Rattle.disk_model.specs.Does.{Does};
 ghost use Rattle.disk_model.specs.Event.{Write};
 ghost use Rattle.disk_model.specs.Past.{Past, At, Throughout, MayGrow, IsWrite, grow, HasDiskCause, HasDiskMemoryCause};
@@ -27,9 +27,11 @@ impl Log {
         ensures ok { OnOk result (D.past disk.new ≡ grow (Write LogFile ((3 + (durable self.now + i) % self.now.blocks) * 4096) (pending_at self.now i) (pending_at self.now i)) (D.past disk.old)) }
         ensures err { OnErr result (MayGrow (IsWrite LogFile ((3 + (durable self.now + i) % self.now.blocks) * 4096) (pending_at self.now i)) (D.past disk.old) (D.past disk.new)) }
         ensures later { D.is_later disk.old disk.new }
+        ensures calls { D.clock disk.new ≤ D.clock disk.old + 1 }
         ensures cause { HasDiskCause (D.faults disk.old) (D.faults disk.new) result }
         ensures memory { HasDiskMemoryCause (D.memory_refusals disk.old) (D.memory_refusals disk.new) result }
         ensures no_fault { OnOk result (D.faults disk.new ≡ D.faults disk.old) }
+        ensures no_fault_at_want { IsErrOf result DiskError.NoMemory → D.faults disk.new ≡ D.faults disk.old }
         ensures no_refusal { OnOk result (D.memory_refusals disk.new ≡ D.memory_refusals disk.old) }
     {
         let number = self.durable() + i as u64;
@@ -44,9 +46,11 @@ impl Log {
         ensures exact { OnOk result (D.past disk.new ≡ grows (writes_of LogFile 4096 (block_batch self.now) (pending_count self.now)) (D.past disk.old)) }
         ensures part { OnErr result (IsPart LogFile 4096 (block_batch self.now) (pending_count self.now) (D.past disk.old) (D.past disk.new)) }
         ensures later { D.is_later disk.old disk.new }
+        ensures calls { D.clock disk.new ≤ D.clock disk.old + pending_count self.now }
         ensures cause { HasDiskCause (D.faults disk.old) (D.faults disk.new) result }
         ensures memory { HasDiskMemoryCause (D.memory_refusals disk.old) (D.memory_refusals disk.new) result }
         ensures no_fault { OnOk result (D.faults disk.new ≡ D.faults disk.old) }
+        ensures no_fault_at_want { IsErrOf result DiskError.NoMemory → D.faults disk.new ≡ D.faults disk.old }
         ensures no_refusal { OnOk result (D.memory_refusals disk.new ≡ D.memory_refusals disk.old) }
     {
         for i in 0..self.pending_count() {
@@ -64,9 +68,11 @@ impl Log {
         ensures exact { OnOk result (D.past disk.new ≡ grows (out_events (pending_count self.now) self.now) (D.past disk.old)) }
         ensures part { OnErr result (IsPart LogFile 4096 (block_batch self.now) (pending_count self.now) (D.past disk.old) (D.past disk.new)) }
         ensures later { D.is_later disk.old disk.new }
+        ensures calls { D.clock disk.new ≤ D.clock disk.old + (pending_count self.now + 1) }
         ensures cause { HasDiskCause (D.faults disk.old) (D.faults disk.new) result }
         ensures memory { HasDiskMemoryCause (D.memory_refusals disk.old) (D.memory_refusals disk.new) result }
         ensures no_fault { OnOk result (D.faults disk.new ≡ D.faults disk.old) }
+        ensures no_fault_at_want { IsErrOf result DiskError.NoMemory → D.faults disk.new ≡ D.faults disk.old }
         ensures no_refusal { OnOk result (D.memory_refusals disk.new ≡ D.memory_refusals disk.old) }
     {
         if self.pending_count() == 0 {
@@ -95,9 +101,11 @@ impl Log {
         ensures open { IsOpen self.new }
         ensures places { At (HasPlaces LogFile (file_layout self.old.blocks)) (D.past disk.new) }
         ensures later { D.is_later disk.old disk.new }
+        ensures calls { D.clock disk.new ≤ D.clock disk.old + (pending_count self.old + 1) }
         ensures cause { HasDiskCause (D.faults disk.old) (D.faults disk.new) result }
         ensures memory { HasDiskMemoryCause (D.memory_refusals disk.old) (D.memory_refusals disk.new) result }
         ensures no_fault { OnOk result (D.faults disk.new ≡ D.faults disk.old) }
+        ensures no_fault_at_want { IsErrOf result DiskError.NoMemory → D.faults disk.new ≡ D.faults disk.old }
         ensures no_refusal { OnOk result (D.memory_refusals disk.new ≡ D.memory_refusals disk.old) }
     {
         self.settle_blocks(disk)?;

@@ -1,4 +1,4 @@
-use Rattle.std.proofs.Common.{◌≡◌, ℕ, nat_eq, ap, ap₂, ◌∙◌, arith}
+use Rattle.std.proofs.Common.{ℕ, nat_eq, ap, ap₂, ◌∙◌, arith}
 use Rattle.bytes_core.specs.Crc.{crc32c}
 use Rattle.redo_log.proofs.SumLaws.{sum_test}
 use Rattle.redo_log.proofs.reading.ends_in_sum.Goals as goal

@@ -1,7 +1,7 @@
-use Rattle.std.proofs.Common.{◌≡◌, ℕ, List, ◌+◌, Bool, true, false, true≢false, not, if◌then◌else◌, refl, sym, ap, subst, ◌∙◌, arith, Ok}
+use Rattle.std.proofs.Common.{◌≡◌, ℕ, List, Bool, true, false, true≢false, not, if◌then◌else◌, refl, sym, ap, ◌∙◌, arith}
 use mathlib.Core.Bool.{beq}
 use Rattle.std.specs.Result.{is_ok}
-use Rattle.redo_text.specs.Reading.{reading, block_flags, is_first, is_last}
+use Rattle.redo_text.specs.Reading.{block_flags, is_first, is_last}
 use Rattle.store_files.proofs.RingBlocks.{block_read, read_is_block}
 use Rattle.redo_log.proofs.run.next_of.Goals as goal
 use Rattle.redo_log.proofs.run.next_of.Goals.{then-last, else-last}
@@ -28,7 +28,7 @@ returns-clause-some c = λ keys n.
     let same = c.in-Ok.ensures.view.0 in
     let last : is_last (block_flags c.args.block.now) ≡ c.last.result = sym (c.last.ensures ∙ ap (λ (b : List ℕ). is_last (block_flags b)) same) in
     let first : c.first.result ≡ is_first (block_flags c.args.block.now) = c.first.ensures ∙ ap (λ (b : List ℕ). is_first (block_flags b)) same in (
-      omega (arith, c.if-number-end-ge16.false, c.requires.order),
+      c.requires.few,
       read_is_block c.args.number c.args.block.now c.requires.size (λ i. omega (arith, c.type_inv.block i)) c.in-Ok.ensures.view.1,
       sym first ∙ same_bool _ _ c.if-first-begins.false,
       elim c.if-last.branch [ then-last w ↦ w.end-is ∙ if_true _ _ _ (last ∙ w.if-last.true) | else-last w ↦ w.end-is ∙ if_false _ _ _ (last ∙ w.if-last.false) ],

@@ -14,6 +14,8 @@ invariant-loop-i g l = record {
   low : l.from ≤ l.end;
   high : l.end ≤ l.from + l.i;
   count : length l.versions.items ≡ l.i;
+  few : l.from + l.i ≤ l.end + 16;
+  calls : g.D.Disk.clock l.disk ≤ g.D.Disk.clock l.fn.disk + l.i;
   read : At (λ es. (keys : Keys) → IsScanned l.blocks (redo_form keys) (read_at l.blocks (reads LogFile es)) l.from l.end (l.from + l.i)) (g.D.Disk.past l.fn.disk);
   named : At (λ es. l.versions.items ≡ versions_up (read_at l.blocks (reads LogFile es)) l.from l.i) (g.D.Disk.past l.fn.disk);
   faults : g.D.Disk.faults l.disk ≡ g.D.Disk.faults l.fn.disk;

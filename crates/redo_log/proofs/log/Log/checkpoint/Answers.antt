@@ -1,4 +1,3 @@
-use Rattle.std.proofs.Common.{◌≡◌, ℕ}
 use Rattle.disk_model.proofs.Moments.{weaker}
 use Rattle.ring_log.specs.Batches.{checking}
 use Rattle.ring_log.proofs.Standing.{stands}

@@ -1,4 +1,4 @@
-use Rattle.std.proofs.Common.{◌≡◌, ℕ, ◌+◌, ◌<◌, refl, sym, ap, subst, ◌∙◌, arith, OnOk, OnErr}
+use Rattle.std.proofs.Common.{◌≡◌, ℕ, ◌+◌, refl, sym, subst, ◌∙◌, arith, OnOk, OnErr}
 use Rattle.disk_model.specs.Event.{Sync}
 use Rattle.disk_model.specs.Past.{At, grow}
 use Rattle.disk_model.specs.Does.{Does}

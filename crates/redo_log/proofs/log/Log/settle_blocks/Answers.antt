@@ -1,7 +1,6 @@
-use Rattle.std.proofs.Common.{◌≡◌, ℕ, suc, ◌+◌, zero, ◌∷◌, refl, sym, ap, subst, ◌∙◌, arith, OnOk, List}
+use Rattle.std.proofs.Common.{◌≡◌, ℕ, suc, zero, ◌∷◌, refl, sym, ap, ◌∙◌, arith, List}
 use Rattle.std.proofs.lemmas.Result.{on_ok_weaker, on_err_weaker}
 use Rattle.disk_model.specs.Event.{Event, Sync}
-use Rattle.disk_model.specs.Past.{Past, grow}
 use Rattle.disk_model.specs.declared.names.FileName.TheVariants.{Log as LogFile}
 use Rattle.disk_model.proofs.Layers.{does_err, does_then, does_sync}
 use Rattle.disk_model.proofs.Moments.{at_each}
@@ -12,7 +11,7 @@ use Rattle.redo_log.specs.Log.{pending_count}
 use Rattle.places.specs.Writes.{writes_of, grows, Done}
 use Rattle.redo_log.specs.Events.{block_batch, IsBlockEvent, out_events}
 use Rattle.redo_log.proofs.BlockSteps.{ring_out, ready_none, ringed_none, places_after, blocks_now, blocks_then, blocks_sync}
-use Rattle.places.proofs.WriteLemmas.{grows_none, sync_more, part_same, part_all}
+use Rattle.places.proofs.WriteLemmas.{grows_none, sync_more, part_same}
 use Rattle.redo_log.proofs.log.Log.settle_blocks.Goals as goal
 
 -- where something is pending a write out is its writes and a sync

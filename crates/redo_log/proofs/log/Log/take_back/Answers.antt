@@ -1,7 +1,7 @@
-use Rattle.std.proofs.Common.{◌≡◌, ℕ, List, ◌+◌, ◌-◌, ◌*◌, ◌≤◌, take, sym, ap, subst, ◌∙◌, arith}
+use Rattle.std.proofs.Common.{◌≡◌, ℕ, ◌-◌, ◌*◌, ◌≤◌, take, sym, ap, subst, ◌∙◌, arith}
 use Rattle.redo_log.specs.State.{LogState}
 use Rattle.redo_log.specs.Log.{IsOpen, pending_count}
-use Rattle.redo_log.specs.Append.{taken_back, HasLast}
+use Rattle.redo_log.specs.Append.{HasLast}
 use Rattle.redo_log.proofs.AppendSteps.{taken_open}
 use Rattle.redo_log.proofs.log.Log.take_back.Goals as goal
 

@@ -1,4 +1,4 @@
-use Rattle.std.proofs.Common.{◌≡◌, length, refl, subst, sym, ap, ◌∙◌, arith}
+use Rattle.std.proofs.Common.{◌≡◌, refl, subst, sym, ap, ◌∙◌, arith}
 use Rattle.disk_model.proofs.Layers.{does_err, so_far_none, so_far_more, so_far_then, so_far_done}
 use Rattle.places.proofs.Batches.{at_end}
 use Rattle.places.specs.Batches.{From}
@@ -17,6 +17,7 @@ loop-i-init g c =
     record {
       so_far = so_far_none (blocks_now log 0 (omega arith) first) (blocks_begin log first c.requires.places);
       exact = sym (grows_none first);
+      calls = omega arith;
       faults = refl;
       memory_refusals = refl;
       later = g.met.D.Disk.is_later_reflexive c.args.disk.now;
@@ -43,6 +44,7 @@ loop-i-preserved g c =
     record {
       so_far = so_far_more c.loop-i.invariant.so_far (c.in_ok-write_block.ensures.does first c.loop-i.invariant.so_far.at);
       exact = write_more LogFile 4096 (block_batch log) c.loop-i.i first (g.D.Disk.past c.loop-i.disk) (g.D.Disk.past c.write_block.new.disk) c.loop-i.invariant.exact c.in_ok-write_block.ensures.ok;
+      calls = omega (arith, c.loop-i.invariant.calls, c.in_ok-write_block.ensures.calls);
       faults = c.in_ok-write_block.ensures.no_fault ∙ c.loop-i.invariant.faults;
       memory_refusals = c.in_ok-write_block.ensures.no_refusal ∙ c.loop-i.invariant.memory_refusals;
       later = g.met.D.Disk.is_later_transitive _ _ _ c.loop-i.invariant.later c.in_ok-write_block.ensures.later;
@@ -59,3 +61,10 @@ returns-clause-exact g c =
     let log = c.args.self.now in
     let all : c.loop-i.i ≡ pending_count log = omega (arith, c.loop-i.auto.i-end, c.loop-i-test.false, c.pending_count-i-end.ensures.count) in
     c.loop-i.invariant.exact ∙ ap (λ n. grows (writes_of LogFile 4096 (block_batch log) n) (g.D.Disk.past c.args.disk.now)) all
+
+pub returns-in_err-write_block-clause-calls : goal.returns-in_err-write_block-clause-calls
+returns-in_err-write_block-clause-calls g c =
+    omega (arith, c.loop-i.invariant.calls, c.in_err-write_block.ensures.calls, c.loop-i-test.true, c.pending_count-i-end.ensures.count)
+
+pub returns-clause-calls : goal.returns-clause-calls
+returns-clause-calls g c = omega (arith, c.loop-i.invariant.calls, c.loop-i.auto.i-end, c.loop-i-test.false, c.pending_count-i-end.ensures.count)

@@ -1,4 +1,4 @@
-use Rattle.std.proofs.Common.{◌≡◌}
+use Rattle.std.proofs.Common.{◌≡◌, ◌+◌, ◌≤◌}
 use Rattle.disk_model.specs.Does.{SoFar}
 use Rattle.places.specs.Batches.{From}
 use Rattle.disk_model.specs.declared.names.FileName.TheVariants.{Log as LogFile}
@@ -10,6 +10,7 @@ abbrev pub invariant-loop-i : goal.invariant-loop-i
 invariant-loop-i g l = record {
   so_far : SoFar (From (BlocksWriting l.self) (g.D.Disk.past l.fn.disk)) (IsBlockEvent l.self) (From (BlocksWrote l.self l.i) (g.D.Disk.past l.fn.disk)) (g.D.Disk.past l.fn.disk) (g.D.Disk.past l.disk);
   exact : g.D.Disk.past l.disk ≡ grows (writes_of LogFile 4096 (block_batch l.self) l.i) (g.D.Disk.past l.fn.disk);
+  calls : g.D.Disk.clock l.disk ≤ g.D.Disk.clock l.fn.disk + l.i;
   faults : g.D.Disk.faults l.disk ≡ g.D.Disk.faults l.fn.disk;
   memory_refusals : g.D.Disk.memory_refusals l.disk ≡ g.D.Disk.memory_refusals l.fn.disk;
   later : g.D.Disk.is_later l.fn.disk l.disk;

@@ -1,4 +1,4 @@
-use Rattle.std.proofs.Common.{◌≡◌, ℕ, ◌+◌, ◌≤◌, subst, arith}
+use Rattle.std.proofs.Common.{◌+◌, ◌≤◌, subst, arith}
 use Rattle.disk_model.proofs.Moments.{weaker}
 use Rattle.ring_log.specs.Batches.{more}
 use Rattle.ring_log.proofs.Standing.{stands}
