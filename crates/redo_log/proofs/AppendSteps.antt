@@ -2,13 +2,14 @@
 use Rattle.std.proofs.Common.{◌≡◌, ◌≢◌, ℕ, zero, suc, ◌+◌, ◌-◌, ◌*◌, ◌<◌, ◌≤◌, ⊎_elim, true, false, nat_eq, List, [], ◌∷◌, ◌++◌, length, take, drop, refl, sym, ap, subst, ◌∙◌, arith, length-append, length-drop}
 use Rattle.std.proofs.lemmas.Bool.{cases_lt}
 use Rattle.std.proofs.lemmas.Bool.Decides.{nat_tests}
-use Rattle.std.proofs.lemmas.List.{drop_all, drop-append-le, take-append-le, take-append-drop, length-take-le}
-use Rattle.std.proofs.Math.Seq.{drop-append-add}
+use Rattle.std.proofs.lemmas.List.{drop_all, drop-append-le, take-append-le}
+use Rattle.std.proofs.Math.Seq.{drop-append-add, take-append_seam}
 use Rattle.aes_core.specs.declared.algorithm.Algorithm.{Algorithm}
 use Rattle.byte_list.specs.Bytes.{AreBytes, range}
 use Rattle.byte_list.proofs.RangeLaws.{split_off}
 use Rattle.places.specs.Places.{place}
-use Rattle.ring_log.specs.Ring.{IsWholeMtr, listed_blocks}
+use Rattle.ring_log.specs.Ring.{RingState, IsWholeMtr, listed_blocks}
+use Rattle.ring_log.proofs.Journals.{journal_more}
 use Rattle.redo_text.specs.declared.change.Change.{Change}
 use Rattle.redo_text.specs.declared.change.Change.TheVariants.{Put, Kind, Touch, Floor, Encrypt}
 use Rattle.redo_text.specs.declared.key.RedoKey.{RedoKey}
@@ -21,9 +22,10 @@ use Rattle.crash_image.specs.LogForm.{AreTexts}
 use Rattle.key_ring.specs.Local.{local_key}
 use Rattle.store_files.specs.RingBlock.{is_ring_block, block_text}
 use Rattle.redo_log.specs.Blocks.{Keys, IsStoreKey, redo_form}
-use Rattle.redo_log.specs.Log.{IsOpen, durable, free_of, pending_at, pending_count}
-use Rattle.redo_log.specs.Append.{appended, taken_back, IsEntry, HasLast}
+use Rattle.redo_log.specs.Log.{IsOpen, durable, free_of, pending_at, pending_count, FitsRing}
+use Rattle.redo_log.specs.Append.{appended, taken_back, IsEntry, HasLast, with_pending, JournalGrows, HasPending, logged_entry}
 use Rattle.redo_log.specs.Append.{IsRedoKey}
+use Rattle.redo_log.proofs.PendingSteps.{pending_front, pending_back}
 use Rattle.redo_log.proofs.TextFacts.{IsNth, nth_is}
 
 eq_true : (a b : ℕ) → a ≡ b → nat_eq a b ≡ true
@@ -184,38 +186,44 @@ module _ (old : LogState) (mtr : List Change) (key : RedoKey) (is : IsOpen old) 
         ∙ eq_false (j - pending_count old) 0 (λ n. omega (arith, n, gt, total));
   }
 
--- A log whose last k blocks are dropped.
-module _ (old : LogState) (k : ℕ) (is : IsOpen old) (few : k ≤ pending_count old) where
-  abbrev left : ℕ
-  left = pending_count old - k
-
-  kept_long : length (take (left * 4096) old.pending) ≡ left * 4096
-  kept_long = let w = is.whole in length-take-le (left * 4096) old.pending (omega (arith, w))
-
-  kept_count : pending_count (taken_back old k) ≡ left
-  kept_count = omega (arith, kept_long)
-
-  kept_at : (j : ℕ) → j < left → pending_at (taken_back old k) j ≡ pending_at old j
-  kept_at j lt =
-      sym (place_front j (take (left * 4096) old.pending) (drop (left * 4096) old.pending) (omega (arith, kept_long, lt))) ∙ ap (λ (l : List ℕ). place 4096 j l) (take-append-drop (left * 4096) old.pending)
-
-  kept_durable : durable (taken_back old k) ≡ durable old
-  kept_durable = let order = is.order in omega (arith, kept_count, few)
-
-  pub taken_open : IsOpen (taken_back old k)
-  taken_open = record {
-    least = is.least;
-    most = is.most;
-    low = is.low;
-    high = let a = is.high in omega arith;
-    some = is.some;
-    below = is.below;
-    order = let a = is.order in omega (arith, kept_count, few);
-    room = let a = is.room in omega arith;
-    whole = omega (arith, kept_long);
-    valid = λ j lt. let b : j < left = omega (arith, lt, kept_count) in
-        ap (is_ring_block (durable (taken_back old k) + j)) (kept_at j b) ∙ ap (λ (d : ℕ). is_ring_block (d + j) (pending_at old j)) kept_durable ∙ is.valid j (omega (arith, b));
+  pub appended_fits : (r : RingState) → FitsRing r old → FitsRing (with_pending r new) new
+  appended_fits r fits = record {
+    sequence = fits.sequence;
+    from = fits.from;
+    written = fits.written ∙ sym same_durable;
+    blocks = λ j lt. pending_back r new j;
   }
+
+  pub appended_undone : taken_back new needed ≡ old
+  appended_undone = λ i. record { blocks = old.blocks; from = old.from; sequence = old.sequence; next = back i; pending = front i }
+    where
+      back : old.next + needed - needed ≡ old.next
+      back = omega arith
+
+      front : take ((pending_count new - needed) * 4096) (old.pending ++ more) ≡ old.pending
+      front =
+          let w = is.whole in
+          let e : (pending_count new - needed) * 4096 ≡ length old.pending = omega (arith, w, total) in
+          ap (λ (n : ℕ). take n (old.pending ++ more)) e ∙ take-append_seam old.pending more
+
+  pub appended_journal : AreAllowed mtr → JournalGrows old new mtr key
+  appended_journal allowed keys has r start journal fits state j =
+      let fits_new = appended_fits r fits in
+      let pending : HasPending (with_pending r new).block new = λ i lt. ap (λ (d : ℕ). (with_pending r new).block (d + i)) (sym fits_new.written) ∙ fits_new.blocks i lt in
+      journal_more old.blocks (redo_form keys) r (with_pending r new).block start old.next new.next journal (logged_entry old mtr) state.began state.order (λ f newer. (state.later f newer).1) same
+      (appended_entry allowed keys has (with_pending r new).block pending) j
+    where
+      behind : (i : ℕ) → i < pending_count old → r.block (r.written + i) ≡ (with_pending r new).block (r.written + i)
+      behind i lt = fits.blocks i lt ∙ sym (front_at i lt) ∙ sym (pending_back r new i)
+
+      same : (m : ℕ) → start ≤ m → m < old.next → r.block m ≡ (with_pending r new).block m
+      same m low high = ⊎_elim (λ (lt : m < r.written). sym (pending_front r new m lt))
+          (λ (ge : r.written ≤ m).
+          let a = is.order in
+          let w = fits.written in
+          let e : r.written + (m - r.written) ≡ m = omega (arith, ge) in
+          subst (λ (n : ℕ). r.block n ≡ (with_pending r new).block n) e (behind (m - r.written) (omega (arith, ge, high, w, a))))
+          (cases_lt m r.written)
 
 -- a mini-transaction has a text
 pub text_some : (mtr : List Change) → 0 < length mtr → 0 < length (text_of mtr)

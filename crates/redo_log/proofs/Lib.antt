@@ -6,6 +6,8 @@ pub mod BlockSteps
 pub mod CheckParts
 pub mod CheckSteps
 pub mod FitSteps
+pub mod PendingSteps
 pub mod AppendSteps
+pub mod TakeBackSteps
 pub mod FreshLog
 pub mod RunSteps

@@ -1,8 +1,8 @@
 -- A mini-transaction is added to the pending blocks, or isn't taken, or is taken back.
-use Rattle.std.specs.Prelude.{◌≡◌, ℕ, ◌+◌, ◌-◌, ◌*◌, ◌^◌, ◌<◌, ◌≤◌, true, false, List, [], ◌∷◌, ◌++◌, take}
+use Rattle.std.specs.Prelude.{◌≡◌, ℕ, ◌+◌, ◌-◌, ◌*◌, ◌^◌, ◌<◌, ◌≤◌, true, false, List, [], ◌∷◌, ◌++◌, take, nat_lt, if◌then◌else◌}
 use Rattle.aes_core.specs.Cipher.{IsKey as IsCipherKey}
 use Rattle.store_image.specs.View.{Logged}
-use Rattle.ring_log.specs.Ring.{AreWholeEntries}
+use Rattle.ring_log.specs.Ring.{RingState, AreWholeEntries, IsRingJournal, IsRingState}
 use Rattle.redo_text.specs.declared.change.Change.{Change}
 use Rattle.redo_text.specs.declared.key.RedoKey.{RedoKey}
 use Rattle.redo_text.specs.declared.key.TheConstants.{LAST_BLOCK}
@@ -11,7 +11,7 @@ use Rattle.redo_text.specs.Reading.{block_flags, is_first}
 use Rattle.redo_text.specs.Text.{text_of}
 use Rattle.redo_log.specs.State.{LogState}
 use Rattle.redo_log.specs.Blocks.{Keys, IsStoreKey, redo_form}
-use Rattle.redo_log.specs.Log.{durable, free_of, pending_at, pending_count}
+use Rattle.redo_log.specs.Log.{durable, free_of, pending_at, pending_count, FitsRing}
 use Rattle.redo_log.specs.declared.log.LogFault.{LogFault}
 use Rattle.redo_log.specs.declared.log.LogFault.TheVariants.{Spent, LogFull, OutOfMemory}
 
@@ -58,3 +58,19 @@ pub record HasLast (log : LogState) (k : ℕ) : Type 0 where
   pub within : k ≤ pending_count log
   pub first : is_first (block_flags (pending_at log (pending_count log - k))) ≡ true
   pub others : (j : ℕ) → pending_count log - k < j → j < pending_count log → is_first (block_flags (pending_at log j)) ≡ false
+
+-- the ring whose blocks behind the written ones are the pending ones of this log
+abbrev pub with_pending : RingState → LogState → RingState
+with_pending r log = record r { block = λ n. if nat_lt n r.written then r.block n else pending_at log (n - r.written) }
+
+-- The journal of a ring that the old log fits goes on with the mini-transaction, under the keys of each store whose key this is.
+abbrev pub JournalGrows : LogState → LogState → List Change → RedoKey → Type 0
+JournalGrows old new mtr key =
+    (keys : Keys) → IsStoreKey keys key → (r : RingState) (start : ℕ) (journal : List (Logged (List Change))) → FitsRing r old → IsRingState old.blocks (redo_form keys) r
+    → IsRingJournal old.blocks (redo_form keys) r start journal old.next → IsRingJournal old.blocks (redo_form keys) (with_pending r new) start (journal ++ logged_entry old mtr ∷ []) new.next
+
+-- The journal of a ring that the old log fits is without its last mini-transaction.
+abbrev pub JournalShrinks : LogState → LogState → Type 0
+JournalShrinks old new =
+    (keys : Keys) (r : RingState) (start : ℕ) (journal : List (Logged (List Change))) (last : Logged (List Change)) → FitsRing r old → IsRingState old.blocks (redo_form keys) r
+    → IsRingJournal old.blocks (redo_form keys) r start (journal ++ last ∷ []) old.next → IsRingJournal old.blocks (redo_form keys) r start journal new.next

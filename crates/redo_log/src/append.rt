@@ -4,8 +4,11 @@ ghost use Rattle.byte_list.specs.Bytes.{AreBytes};
 ghost use Rattle.redo_text.specs.Block.{block_count};
 ghost use Rattle.redo_text.specs.Reading.{block_flags, is_first};
 ghost use Rattle.redo_text.specs.Text.{text_of, AreAllowed};
-ghost use Rattle.redo_log.specs.Log.{IsOpen, pending_at, pending_count};
-ghost use Rattle.redo_log.specs.Append.{appended, taken_back, IsRedoKey, IsLogRefusal, IsEntry, HasLast, HasRoomFor};
+ghost use Rattle.disk_model.specs.Past.{Past, At};
+ghost use Rattle.ring_log.specs.Ring.{RingState, RingReady};
+ghost use Rattle.redo_log.specs.Blocks.{Keys, redo_form};
+ghost use Rattle.redo_log.specs.Log.{IsOpen, pending_at, pending_count, FitsRing};
+ghost use Rattle.redo_log.specs.Append.{appended, taken_back, with_pending, IsRedoKey, IsLogRefusal, IsEntry, HasLast, HasRoomFor, JournalGrows, JournalShrinks};
 
 use crate::{Log, LogFault};
 use byte_list::fields::be16_at;
@@ -32,6 +35,12 @@ impl Log {
         ensures added { OnOk result (self.new ≡ appended self.old mtr.now key.now) }
         ensures entry { OnOk result (IsEntry self.old self.new mtr.now key.now) }
         ensures last { OnOk result (HasLast self.new (block_count (text_of mtr.now))) }
+        // Taken back again it leaves the log as it was.
+        ensures undone { OnOk result (taken_back self.new (block_count (text_of mtr.now)) ≡ self.old) }
+        // With its blocks pending, a ring that the log fitted is fitted, as ready as it was, and has the mini-transaction in its journal.
+        ensures fits { OnOk result ((r : RingState) → FitsRing r self.old → FitsRing (with_pending r self.new) self.new) }
+        ensures ready { OnOk result ((keys : Keys) (r : RingState) (past : Past) → At (RingReady self.old.blocks (redo_form keys) r) past → At (RingReady self.old.blocks (redo_form keys) (with_pending r self.new)) past) }
+        ensures journal { OnOk result (JournalGrows self.old self.new mtr.now key.now) }
         ensures refusal { IfErr result (IsLogRefusal self.old (block_count (text_of mtr.now))) }
         ensures unchanged { OnErr result (self.new ≡ self.old) }
         ensures open { IsOpen self.new }
@@ -61,6 +70,9 @@ impl Log {
         requires last { (k : ℕ) × HasLast self.old k }
         requires lsn { lsn ≡ self.old.next * 4096 }
         ensures taken { (k : ℕ) → HasLast self.old k → self.new ≡ taken_back self.old k }
+        // A ring that the log fitted is fitted still, and its journal is without the mini-transaction.
+        ensures fits { (r : RingState) → FitsRing r self.old → FitsRing r self.new }
+        ensures journal { JournalShrinks self.old self.new }
         ensures open { IsOpen self.new }
     {
         let _ = lsn;

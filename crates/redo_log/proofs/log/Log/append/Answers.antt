@@ -4,9 +4,13 @@ use Rattle.redo_text.specs.declared.key.RedoKey.{RedoKey}
 use Rattle.redo_text.specs.Block.{AreOf, block_count, blocks, nth_block}
 use Rattle.redo_text.specs.Text.{text_of}
 use Rattle.redo_log.specs.State.{LogState}
-use Rattle.redo_log.specs.Log.{IsOpen, free_of}
-use Rattle.redo_log.specs.Append.{appended, IsEntry, HasLast}
-use Rattle.redo_log.proofs.AppendSteps.{appended_open, appended_entry, appended_last, text_some}
+use Rattle.redo_log.specs.Log.{IsOpen, free_of, FitsRing}
+use Rattle.redo_log.proofs.PendingSteps.{pending_ready}
+use Rattle.disk_model.specs.Past.{Past, At}
+use Rattle.ring_log.specs.Ring.{RingState, RingReady}
+use Rattle.redo_log.specs.Blocks.{Keys, redo_form}
+use Rattle.redo_log.specs.Append.{appended, taken_back, with_pending, IsEntry, HasLast, JournalGrows}
+use Rattle.redo_log.proofs.AppendSteps.{appended_open, appended_entry, appended_last, appended_fits, appended_undone, appended_journal, text_some}
 use Rattle.redo_log.proofs.log.Log.append.Goals as goal
 
 -- what stands behind the call
@@ -61,3 +65,27 @@ returns-clause-last c =
     let b = behind c in
     subst (λ (w : LogState). HasLast w (block_count (text_of c.args.mtr.now))) b.new_is
     (appended_last c.args.self.now c.args.mtr.now c.args.key.now b.is (text_some c.args.mtr.now c.requires.some) c.requires.most c.in-Ok.ensures.bytes (c.known_key.ensures) b.each b.spent b.free)
+
+pub returns-clause-undone : goal.returns-clause-undone
+returns-clause-undone c =
+    let b = behind c in
+    subst (λ (w : LogState). taken_back w (block_count (text_of c.args.mtr.now)) ≡ c.args.self.now) b.new_is
+    (appended_undone c.args.self.now c.args.mtr.now c.args.key.now b.is (text_some c.args.mtr.now c.requires.some) c.requires.most c.in-Ok.ensures.bytes (c.known_key.ensures) b.each b.spent b.free)
+
+pub returns-clause-fits : goal.returns-clause-fits
+returns-clause-fits c =
+    let b = behind c in
+    subst (λ (w : LogState). (r : RingState) → FitsRing r c.args.self.now → FitsRing (with_pending r w) w) b.new_is
+    (appended_fits c.args.self.now c.args.mtr.now c.args.key.now b.is (text_some c.args.mtr.now c.requires.some) c.requires.most c.in-Ok.ensures.bytes (c.known_key.ensures) b.each b.spent b.free)
+
+pub returns-clause-ready : goal.returns-clause-ready
+returns-clause-ready c =
+    let now : LogState = c.args.self.now in
+    subst (λ (w : LogState). (keys : Keys) (r : RingState) (past : Past) → At (RingReady now.blocks (redo_form keys) r) past → At (RingReady now.blocks (redo_form keys) (with_pending r w)) past) (behind c).new_is
+    (pending_ready now.blocks (appended now c.args.mtr.now c.args.key.now))
+
+pub returns-clause-journal : goal.returns-clause-journal
+returns-clause-journal c =
+    let b = behind c in
+    subst (λ (w : LogState). JournalGrows c.args.self.now w c.args.mtr.now c.args.key.now) b.new_is
+    (appended_journal c.args.self.now c.args.mtr.now c.args.key.now b.is (text_some c.args.mtr.now c.requires.some) c.requires.most c.in-Ok.ensures.bytes (c.known_key.ensures) b.each b.spent b.free c.requires.allowed)
