@@ -2,6 +2,7 @@ pub mod Bodies
 pub mod Cleans
 pub mod Counts
 pub mod Entries
+pub mod FoldLaws
 pub mod HeadChanges
 pub mod HeldLaws
 pub mod Lists

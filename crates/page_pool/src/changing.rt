@@ -5,6 +5,7 @@ ghost use Rattle.redo_text.specs.Changes.{change_of};
 ghost use Rattle.redo_text.specs.Text.{AreAllowed, IsAllowed};
 ghost use Rattle.page_pool.specs.declared.names.PageName.{PageName};
 ghost use Rattle.page_pool.specs.Changes.{HasNamed, HasPoolRoom, IsFull, IsPoolRefusal, held_after, fresh_pages, name_page, page_of_change, pool_after, pool_changed, unused_pages};
+ghost use Rattle.page_pool.specs.Contents.{FoldsPages};
 ghost use Rattle.page_pool.specs.Pages.{IsDirtyList, held_page, is_dirty, is_held};
 ghost use Rattle.store_model.specs.Fold.{used};
 
@@ -86,6 +87,8 @@ impl Pool {
         ensures changed { OnOk result (self.new ≡ pool_after lsn first mtr.now self.old) }
         // Of each page: the changes that name it are made, in order.
         ensures holds { OnOk result ((name : PageName) → held_page name self.new ≡ held_after mtr.now name (held_page name self.old)) }
+        // That is what the fold of a journal does to the page, page 0 with the head of its space too.
+        ensures folded { OnOk result (FoldsPages mtr.now self.old self.new) }
         ensures accepted { OnOk result (length self.old.dirty.entries + fresh_pages mtr.now self.old.dirty < 257) }
         // The conditions exclude one another, so each answer comes exactly where its own holds.
         ensures refused { IfErr result (IsPoolRefusal mtr.now self.old.dirty) }
@@ -107,6 +110,7 @@ impl Pool {
         requires { IsAllowed (change_of change.now) }
         ensures changed { OnOk result (self.new ≡ pool_after lsn first (change_of change.now ∷ []) self.old) }
         ensures holds { OnOk result ((name : PageName) → held_page name self.new ≡ held_after (change_of change.now ∷ []) name (held_page name self.old)) }
+        ensures folded { OnOk result (FoldsPages (change_of change.now ∷ []) self.old self.new) }
         ensures accepted { OnOk result (length self.old.dirty.entries + fresh_pages (change_of change.now ∷ []) self.old.dirty < 257) }
         ensures refused { IfErr result (IsPoolRefusal (change_of change.now ∷ []) self.old.dirty) }
         ensures unchanged { OnErr result (self.new ≡ self.old) }

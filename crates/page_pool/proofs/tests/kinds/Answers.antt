@@ -1,4 +1,4 @@
-use Rattle.std.proofs.Common.{◌≡◌, ℕ, ◌^◌, ◌<◌, List, [], ◌∷◌, ◌++◌, arith, rules}
+use Rattle.std.proofs.Common.{List, [], ◌∷◌, ◌++◌, rules}
 use Rattle.redo_text.specs.Text.{AreAllowed, IsAllowed}
 use Rattle.redo_text.specs.declared.change.Change.{Change}
 use Rattle.redo_text.specs.declared.change.Change.TheVariants.{Kind}
