@@ -205,3 +205,45 @@ module _ (header : HeldHeader) (keys : List RingEntry) (file : List ℕ) where
   -- no ring block has a number of n or more
   pub clear_is : (n : ℕ) → ring.IsRingClear N F file n → IsClear N file (n + N)
   clear_is n clear = clear
+
+  -- ---- and back: what the file says under the keys, the ring's law says
+
+  texts_there : (n k : ℕ) (text : List ℕ) → HasText header keys file n k text → AreTexts header keys (listed_blocks N F read n k) text
+  texts_there n zero text is = is
+  texts_there n (suc k) text (local, rest, key, more, e) =
+      (local, rest, ap (λ (b : List ℕ). local_key keys 1 (block_version b) header.salt) (at n) ∙ key, texts_there (n + 1) k rest more, e ∙ ap (λ (b : List ℕ). block_text header.algorithm local b ++ rest) (sym (at n)))
+
+  entries_there : (n : ℕ) (es : List (Logged (List Change))) (end : ℕ) → AreLogEntries header keys file n es end → ring.AreWholeEntries N F read n es end
+  entries_there n [] end is = is
+  entries_there n (e ∷ es) end (k, text, w, texts, reads, first, lsn, rest) = (k, whole_there n k w, (text, texts_there n k text texts, reads), first, lsn, entries_there (n + k) es end rest)
+
+  -- each block of the run is valid
+  valid_in : (n : ℕ) (es : List (Logged (List Change))) (end : ℕ) → AreLogEntries header keys file n es end → (m : ℕ) → n ≤ m → m < end → is_ring_block m (block_at N file m) ≡ true
+  valid_in n [] end is m low high = absurd (omega (arith, is, low, high))
+  valid_in n (e ∷ es) end (k, text, w, texts, reads, first, lsn, rest) m low high = by (valid_in (n + k) es end rest m) (cases_lt m (n + k))
+    where
+      by : (n + k ≤ m → m < end → is_ring_block m (block_at N file m) ≡ true) → (m < n + k) ⊎ (n + k ≤ m) → is_ring_block m (block_at N file m) ≡ true
+      by behind (inl lt) = let here : n + (m - n) ≡ m = omega (arith, low) in subst (λ (i : ℕ). is_ring_block i (block_at N file i) ≡ true) here (w.valid (m - n) (omega (arith, lt, low)))
+      by behind (inr ge) = behind ge high
+
+  -- so that the run is no longer than the ring
+  no_longer : 0 < N → (from : ℕ) (es : List (Logged (List Change))) (end : ℕ) → AreLogEntries header keys file from es end → end ≤ from + N
+  no_longer some from es end is = by (cases_lt (from + N) end)
+    where
+      by : (from + N < end) ⊎ (end ≤ from + N) → end ≤ from + N
+      by (inr le) = le
+      by (inl past) = absurd (two_numbers from some (valid_in from es end is from (omega arith) (omega (arith, past))) (valid_in from es end is (from + N) (omega arith) past))
+
+  -- What the file says under the keys, the ring's law says of it.
+  pub ring_log_is : 0 < N → (l : LogView (List Change)) → IsLogOf header keys file l → ring.IsRingLog N F file l
+  ring_log_is some l is = record {
+    sequence = is.run.sequence;
+    check = is.run.newest.is;
+    newest = is.run.newest.newest;
+    run = entries_there l.from l.run l.end is.entries;
+    few = no_longer some l.from l.run l.end is.entries;
+    longest = λ end w le.
+        let more = w.some in
+        let parts : l.end + (end - l.end) ≡ end = omega (arith, more) in
+        is.run.longest (end - l.end) (whole_here l.end (end - l.end) (subst (λ (z : ℕ). ring.IsWholeMtr N F read l.end z) (sym parts) w));
+  }
