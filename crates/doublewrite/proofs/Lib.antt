@@ -10,3 +10,4 @@ pub mod GroupLifts
 pub mod RestoreLifts
 pub mod ImageSteps
 pub mod ChosenLaw
+pub mod EventSteps

@@ -20,11 +20,11 @@ use Rattle.doublewrite.specs.Text.{IsPageText}
 use Rattle.doublewrite.specs.Restore.{wanted, newest, HasPages, PagesFilling, PagesFilled, PagesRestored, IsSpaceEvent}
 use Rattle.doublewrite.specs.declared.listing.Copied.{Copied}
 
-none_of_text : (copies : List Copied) (s : List Event) (z k : ℕ) → is_page_text k (shown (Space z) 16384 k s) ≡ true → wanted copies s z k ≡ None
+pub none_of_text : (copies : List Copied) (s : List Event) (z k : ℕ) → is_page_text k (shown (Space z) 16384 k s) ≡ true → wanted copies s z k ≡ None
 unfolding wanted
 none_of_text copies s z k is = ap (λ (b : Bool). if b then None else option_map (λ c. c.text) (newest copies z k)) is
 
-none_of_copy : (copies : List Copied) (s : List Event) (z k : ℕ) → newest copies z k ≡ None → wanted copies s z k ≡ None
+pub none_of_copy : (copies : List Copied) (s : List Event) (z k : ℕ) → newest copies z k ≡ None → wanted copies s z k ≡ None
 unfolding wanted
 none_of_copy copies s z k none = ap (λ (o : Option Copied). if is_page_text k (shown (Space z) 16384 k s) then None else option_map (λ c. c.text) o) none ∙ by (is_page_text k (shown (Space z) 16384 k s))
   where
@@ -35,7 +35,7 @@ none_of_copy copies s z k none = ap (λ (o : Option Copied). if is_page_text k (
     by true = refl
     by false = refl
 
-some_of_copy : (copies : List Copied) (s : List Event) (z k : ℕ) (c : Copied) → is_page_text k (shown (Space z) 16384 k s) ≡ false → newest copies z k ≡ Some c → wanted copies s z k ≡ Some c.text
+pub some_of_copy : (copies : List Copied) (s : List Event) (z k : ℕ) (c : Copied) → is_page_text k (shown (Space z) 16384 k s) ≡ false → newest copies z k ≡ Some c → wanted copies s z k ≡ Some c.text
 unfolding wanted
 some_of_copy copies s z k c torn is =
     ap (λ (b : Bool). if b then None else option_map (λ c. c.text) (newest copies z k)) torn ∙ ap (λ (o : Option Copied). option_map (λ c. c.text) o) is

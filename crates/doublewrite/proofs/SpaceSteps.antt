@@ -19,7 +19,7 @@ use Rattle.page_places.specs.Texts.{is_page_text, pages}
 use Rattle.doublewrite.specs.Restore.{wanted, newest, PagesFilling, PagesRestored, space_at, AreSpacesApart, HaveAll, IsUntouched, SpacesFilling, AreRestored, SpacesRestored, HomesRestoring}
 use Rattle.doublewrite.specs.declared.listing.Copied.{Copied}
 
-same_want : (copies : List Copied) (s t : List Event) (z k : ℕ) → shown (Space z) 16384 k t ≡ shown (Space z) 16384 k s → wanted copies t z k ≡ wanted copies s z k
+pub same_want : (copies : List Copied) (s t : List Event) (z k : ℕ) → shown (Space z) 16384 k t ≡ shown (Space z) 16384 k s → wanted copies t z k ≡ wanted copies s z k
 unfolding wanted
 same_want copies s t z k is = ap (λ (l : List ℕ). if is_page_text k l then None else option_map (λ c. c.text) (newest copies z k)) is
 

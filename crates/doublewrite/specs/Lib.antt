@@ -7,3 +7,4 @@ pub mod Group
 pub mod Refuse
 pub mod Images
 pub mod Chosen
+pub mod Events

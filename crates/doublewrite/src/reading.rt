@@ -1,9 +1,10 @@
 // The doublewrite file is read back. Reading adds no event.
-ghost use Rattle.std.specs.Prelude.{◌≡◌, ◌≤◌, ◌<◌, ◌++◌, List, ℕ, length, IfOk, OnOk};
+ghost use Rattle.std.specs.Prelude.{◌≡◌, ◌+◌, ◌≤◌, ◌<◌, ◌++◌, List, ℕ, length, IfOk, OnOk, IsErrOf};
 ghost use Rattle.std.specs.Int.{to_be_bytes, w32};
 ghost use Rattle.bytes_core.specs.Crc.{crc32c};
 ghost use Rattle.disk_model.specs.Past.{At, HasDiskCause};
 ghost use Rattle.disk_model.specs.Past.{HasDiskMemoryCause};
+ghost use Rattle.disk_model.specs.declared.names.DiskError.TheVariants.{NoMemory};
 ghost use Rattle.disk_model.specs.declared.names.FileName.TheVariants.{Double};
 ghost use Rattle.places.specs.Places.{HasPlaces, shown};
 ghost use Rattle.page_places.specs.Texts.{has_magic, is_page_text, is_slot, slot_held, slots};
@@ -92,9 +93,11 @@ fn read_slot<D: Disk>(disk: &mut D, i: usize, slot: &mut [u8]) -> Result<(), Dis
     ensures bytes { OnOk result (At (λ es. slot.new ≡ shown Double 16896 i es) (D.past disk.old)) }
     ensures same { D.past disk.new ≡ D.past disk.old }
     ensures later { D.is_later disk.old disk.new }
+    ensures calls { D.clock disk.new ≤ D.clock disk.old + 1 }
     ensures cause { HasDiskCause (D.faults disk.old) (D.faults disk.new) result }
     ensures memory { HasDiskMemoryCause (D.memory_refusals disk.old) (D.memory_refusals disk.new) result }
     ensures no_fault { OnOk result (D.faults disk.new ≡ D.faults disk.old) }
+    ensures no_fault_at_want { IsErrOf result NoMemory → D.faults disk.new ≡ D.faults disk.old }
     ensures no_refusal { OnOk result (D.memory_refusals disk.new ≡ D.memory_refusals disk.old) }
 {
     disk.read(FileName::Double, i as u64 * SLOT_BYTES, slot)
@@ -110,9 +113,11 @@ fn read_copies<D: Disk>(
     ensures copies { IfOk result (λ copies. At (λ es. copies.items ≡ copies_to 64 es) (D.past disk.old)) }
     ensures same { D.past disk.new ≡ D.past disk.old }
     ensures later { D.is_later disk.old disk.new }
+    ensures calls { D.clock disk.new ≤ D.clock disk.old + 64 }
     ensures cause { HasDiskCause (D.faults disk.old) (D.faults disk.new) result }
     ensures memory { D.memory_refusals disk.old ≤ D.memory_refusals disk.new }
     ensures no_fault { OnOk result (D.faults disk.new ≡ D.faults disk.old) }
+    ensures no_fault_at_want { IsErrOf result NoMemory → D.faults disk.new ≡ D.faults disk.old }
     ensures no_refusal { OnOk result (D.memory_refusals disk.new ≡ D.memory_refusals disk.old) }
 {
     let mut copies = Vec::new(alloc);
@@ -139,15 +144,21 @@ fn keep(copies: &mut Vec<Copied>, copy: Option<Copied>) -> Result<(), AllocError
     Ok(())
 }
 
-/// The valid slots of the doublewrite file, in order.
+/// The valid slots of the doublewrite file, in order. Each slot is read once.
+///
+/// # Errors
+/// [`DiskError::Failed`] only where the disk's count of faults rose, [`DiskError::NoMemory`] where
+/// there was no memory, and then no call met a fault.
 pub fn copies<D: Disk>(alloc: Global, disk: &mut D) -> Result<Copies, DiskError>
     requires places { At (HasPlaces Double slots) (D.past disk.old) }
     ensures copies { IfOk result (λ copies. At (λ es. copies ≡ copies_to 64 es) (D.past disk.old)) }
     ensures same { D.past disk.new ≡ D.past disk.old }
     ensures later { D.is_later disk.old disk.new }
+    ensures calls { D.clock disk.new ≤ D.clock disk.old + 64 }
     ensures cause { HasDiskCause (D.faults disk.old) (D.faults disk.new) result }
     ensures memory { D.memory_refusals disk.old ≤ D.memory_refusals disk.new }
     ensures no_fault { OnOk result (D.faults disk.new ≡ D.faults disk.old) }
+    ensures no_fault_at_want { IsErrOf result NoMemory → D.faults disk.new ≡ D.faults disk.old }
     ensures no_refusal { OnOk result (D.memory_refusals disk.new ≡ D.memory_refusals disk.old) }
 {
     let mut slot = [0; SLOT];

@@ -1,12 +1,15 @@
 // Homes that hold no page text are written from their copies.
-ghost use Rattle.std.specs.Prelude.{◌≡◌, ◌+◌, ◌<◌, ◌≤◌, ℕ, List, Ok, Some, None, false, length, OnOk, IfOk};
+ghost use Rattle.std.specs.Prelude.{◌≡◌, ◌+◌, ◌*◌, ◌<◌, ◌≤◌, ◌++◌, ℕ, List, Ok, Some, None, false, length, is_some, OnOk, OnErr, IfOk, IsErrOf};
 ghost use Rattle.std.specs.Option.{option_map};
 ghost use Rattle.disk_model.specs.Does.{Does};
-ghost use Rattle.disk_model.specs.Past.{Past, At, HasDiskCause, HasDiskMemoryCause};
+ghost use Rattle.disk_model.specs.Event.{Sync};
+ghost use Rattle.disk_model.specs.Past.{Past, At, grow, HasDiskCause, HasDiskMemoryCause};
+ghost use Rattle.disk_model.specs.declared.names.DiskError.TheVariants.{NoMemory};
 ghost use Rattle.disk_model.specs.declared.names.FileName.TheVariants.{Space};
 ghost use Rattle.places.specs.Batches.{From};
 ghost use Rattle.places.specs.Places.{shown};
-ghost use Rattle.doublewrite.specs.Restore.{HasPages, IsSpaceEvent, PagesFilled, PagesFilling, PagesRestored, newer, newest};
+ghost use Rattle.doublewrite.specs.Events.{page_write, page_writes, is_any, space_events, IsFront};
+ghost use Rattle.doublewrite.specs.Restore.{HasPages, IsSpaceEvent, PagesFilled, PagesFilling, PagesRestored, newer, newest, wanted};
 
 use crate::reading::is_page_text;
 use crate::texts::PAGE_BYTES;
@@ -49,9 +52,11 @@ fn read_home<D: Disk>(
     ensures bytes { OnOk result (At (λ es. page.new ≡ shown (Space info.now.space) 16384 number es) (D.past disk.old)) }
     ensures same { D.past disk.new ≡ D.past disk.old }
     ensures later { D.is_later disk.old disk.new }
+    ensures calls { D.clock disk.new ≤ D.clock disk.old + 1 }
     ensures cause { HasDiskCause (D.faults disk.old) (D.faults disk.new) result }
     ensures memory { HasDiskMemoryCause (D.memory_refusals disk.old) (D.memory_refusals disk.new) result }
     ensures no_fault { OnOk result (D.faults disk.new ≡ D.faults disk.old) }
+    ensures no_fault_at_want { IsErrOf result NoMemory → D.faults disk.new ≡ D.faults disk.old }
     ensures no_refusal { OnOk result (D.memory_refusals disk.new ≡ D.memory_refusals disk.old) }
 {
     disk.read(
@@ -75,10 +80,15 @@ fn restore_page<D: Disk>(
     ensures does { (first : Past) → At (From (PagesFilled copies.now info.now number) first) (D.past disk.old) → Does (From (PagesFilling copies.now info.now) first) (IsSpaceEvent info.now) (From (PagesFilled copies.now info.now (number + 1)) first) (D.past disk.old) (D.past disk.new) result }
     ensures same { result ≡ Ok false → D.past disk.new ≡ D.past disk.old }
     ensures size { length page.new ≡ 16384 }
+    ensures exact { OnOk result (At (λ s. D.past disk.new ≡ Some (page_write info.now.space number (wanted copies.now s info.now.space number) ++ s)) (D.past disk.old)) }
+    ensures part { OnErr result (At (λ s. IsFront (page_write info.now.space number (wanted copies.now s info.now.space number)) s (D.past disk.new)) (D.past disk.old)) }
+    ensures told { IfOk result (λ w. At (λ s. w ≡ is_some (wanted copies.now s info.now.space number)) (D.past disk.old)) }
     ensures later { D.is_later disk.old disk.new }
+    ensures calls { D.clock disk.new ≤ D.clock disk.old + 2 }
     ensures cause { HasDiskCause (D.faults disk.old) (D.faults disk.new) result }
     ensures memory { HasDiskMemoryCause (D.memory_refusals disk.old) (D.memory_refusals disk.new) result }
     ensures no_fault { OnOk result (D.faults disk.new ≡ D.faults disk.old) }
+    ensures no_fault_at_want { IsErrOf result NoMemory → D.faults disk.new ≡ D.faults disk.old }
     ensures no_refusal { OnOk result (D.memory_refusals disk.new ≡ D.memory_refusals disk.old) }
 {
     read_home(disk, info, number, page)?;
@@ -105,10 +115,15 @@ fn restore_pages<D: Disk>(
     ensures does { Does (From (PagesFilling copies.now info.now) (D.past disk.old)) (IsSpaceEvent info.now) (From (PagesFilled copies.now info.now info.now.pages) (D.past disk.old)) (D.past disk.old) (D.past disk.new) result }
     ensures same { result ≡ Ok false → D.past disk.new ≡ D.past disk.old }
     ensures size { length page.new ≡ 16384 }
+    ensures exact { OnOk result (At (λ s. D.past disk.new ≡ Some (page_writes copies.now s info.now.space info.now.pages ++ s)) (D.past disk.old)) }
+    ensures part { OnErr result (At (λ s. IsFront (page_writes copies.now s info.now.space info.now.pages) s (D.past disk.new)) (D.past disk.old)) }
+    ensures told { IfOk result (λ w. At (λ s. w ≡ is_any (page_writes copies.now s info.now.space info.now.pages)) (D.past disk.old)) }
     ensures later { D.is_later disk.old disk.new }
+    ensures calls { D.clock disk.new ≤ D.clock disk.old + info.now.pages * 2 }
     ensures cause { HasDiskCause (D.faults disk.old) (D.faults disk.new) result }
     ensures memory { HasDiskMemoryCause (D.memory_refusals disk.old) (D.memory_refusals disk.new) result }
     ensures no_fault { OnOk result (D.faults disk.new ≡ D.faults disk.old) }
+    ensures no_fault_at_want { IsErrOf result NoMemory → D.faults disk.new ≡ D.faults disk.old }
     ensures no_refusal { OnOk result (D.memory_refusals disk.new ≡ D.memory_refusals disk.old) }
 {
     let mut is_written = false;
@@ -122,10 +137,14 @@ fn restore_pages<D: Disk>(
 
 fn sync_space<D: Disk>(disk: &mut D, info: &SpaceInfo, copies: &Copies) -> Result<(), DiskError>
     ensures does { (first : Past) → At (From (PagesFilled copies.now info.now info.now.pages) first) (D.past disk.old) → Does (From (PagesFilling copies.now info.now) first) (IsSpaceEvent info.now) (From (PagesRestored copies.now info.now) first) (D.past disk.old) (D.past disk.new) result }
+    ensures ok { OnOk result (D.past disk.new ≡ grow (Sync (Space info.now.space)) (D.past disk.old)) }
+    ensures err { OnErr result (D.past disk.new ≡ D.past disk.old) }
     ensures later { D.is_later disk.old disk.new }
+    ensures calls { D.clock disk.new ≤ D.clock disk.old + 1 }
     ensures cause { HasDiskCause (D.faults disk.old) (D.faults disk.new) result }
     ensures memory { HasDiskMemoryCause (D.memory_refusals disk.old) (D.memory_refusals disk.new) result }
     ensures no_fault { OnOk result (D.faults disk.new ≡ D.faults disk.old) }
+    ensures no_fault_at_want { IsErrOf result NoMemory → D.faults disk.new ≡ D.faults disk.old }
     ensures no_refusal { OnOk result (D.memory_refusals disk.new ≡ D.memory_refusals disk.old) }
 {
     let _ = copies;
@@ -143,10 +162,14 @@ pub(crate) fn restore_space<D: Disk>(
     requires places { At (HasPages info.now) (D.past disk.old) }
     ensures does { Does (From (PagesFilling copies.now info.now) (D.past disk.old)) (IsSpaceEvent info.now) (From (PagesRestored copies.now info.now) (D.past disk.old)) (D.past disk.old) (D.past disk.new) result }
     ensures size { length page.new ≡ 16384 }
+    ensures exact { OnOk result (At (λ s. D.past disk.new ≡ Some (space_events copies.now s info.now ++ s)) (D.past disk.old)) }
+    ensures part { OnErr result (At (λ s. IsFront (space_events copies.now s info.now) s (D.past disk.new)) (D.past disk.old)) }
     ensures later { D.is_later disk.old disk.new }
+    ensures calls { D.clock disk.new ≤ D.clock disk.old + (info.now.pages * 2 + 1) }
     ensures cause { HasDiskCause (D.faults disk.old) (D.faults disk.new) result }
     ensures memory { HasDiskMemoryCause (D.memory_refusals disk.old) (D.memory_refusals disk.new) result }
     ensures no_fault { OnOk result (D.faults disk.new ≡ D.faults disk.old) }
+    ensures no_fault_at_want { IsErrOf result NoMemory → D.faults disk.new ≡ D.faults disk.old }
     ensures no_refusal { OnOk result (D.memory_refusals disk.new ≡ D.memory_refusals disk.old) }
 {
     if !restore_pages(disk, info, copies, page)? {

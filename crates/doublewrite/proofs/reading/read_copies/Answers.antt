@@ -14,6 +14,7 @@ loop-i-init g c = record {
   same = refl;
   copies = record { here = λ es is. c.new-copies.ensures.items ∙ sym (copies_none es) };
   size = c.requires.size;
+  calls = omega arith;
   faults = refl;
   memory = refl;
   later = g.met.D.Disk.is_later_reflexive c.args.disk.now;
@@ -31,6 +32,7 @@ loop-i-preserved g c =
           ∙ sym (copies_more i es))
           c.loop-i.invariant.copies (at_is (sym c.loop-i.invariant.same) c.in_ok-read_slot.ensures.bytes);
       size = omega (arith, c.loop-i.invariant.size, c.read_slot.auto.slot);
+      calls = omega (arith, c.loop-i.invariant.calls, c.in_ok-read_slot.ensures.calls);
       faults = c.in_ok-read_slot.ensures.no_fault ∙ c.loop-i.invariant.faults;
       memory = c.in_ok-read_slot.ensures.no_refusal ∙ c.loop-i.invariant.memory;
       later = g.met.D.Disk.is_later_transitive _ _ _ c.loop-i.invariant.later c.in_ok-read_slot.ensures.later;

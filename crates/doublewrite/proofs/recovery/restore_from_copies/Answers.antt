@@ -1,8 +1,12 @@
-use Rattle.std.proofs.Common.{List, subst}
-use Rattle.disk_model.specs.Past.{Past}
+use Rattle.std.proofs.Common.{◌≡◌, ◌++◌, ◌∙◌, List, Some, length, ap, subst}
+use Rattle.std.proofs.lemmas.Result.{on_ok_weaker, on_err_weaker}
+use Rattle.disk_model.specs.Past.{Past, At}
+use Rattle.disk_model.proofs.Moments.{at_both}
 use Rattle.disk_model.specs.Does.{Does}
 use Rattle.places.specs.Batches.{From}
 use Rattle.places.proofs.Batches.{does_failed, from_known}
+use Rattle.doublewrite.specs.Events.{spaces_events, restore_events, IsFront}
+use Rattle.doublewrite.proofs.EventSteps.{at_error, front_none}
 use Rattle.doublewrite.specs.Restore.{SpacesFilling, SpacesRestored, IsRestoreEvent}
 use Rattle.doublewrite.specs.declared.listing.Copied.{Copied}
 use Rattle.doublewrite.proofs.SpaceSteps.{restoring_begin}
@@ -20,3 +24,32 @@ returns-clause-does g c =
     (λ s m is r. subst (λ (cs : List Copied). SpacesRestored cs spaces s m) is r) (λ e k. k)
     (subst (λ (h : Past). Does (From (SpacesFilling c.in_ok-copies.copies spaces) h) (IsRestoreEvent spaces) (From (SpacesRestored c.in_ok-copies.copies spaces) h) h (g.D.Disk.past c.restore_spaces.new.disk) c.restore_spaces.result)
     c.in_ok-copies.ensures.same c.restore_spaces.ensures.does)
+
+pub returns-in_err-copies-clause-part : goal.returns-in_err-copies-clause-part
+returns-in_err-copies-clause-part g c =
+    let old = g.D.Disk.past c.args.disk.now in
+    at_error c.from_residual.result (record { here = λ s is. front_none (restore_events c.args.spaces.now s) s old _ is c.in_err-copies.ensures.same })
+
+pub returns-clause-exact : goal.returns-clause-exact
+returns-clause-exact g c =
+    let spaces = c.args.spaces.now in
+    let copies = c.in_ok-copies.copies in
+    let old = g.D.Disk.past c.args.disk.now in
+    let new = g.D.Disk.past c.restore_spaces.new.disk in
+    on_ok_weaker c.restore_spaces.result
+    (λ (exact : At (λ s. new ≡ Some (spaces_events copies s spaces (length spaces) ++ s)) (g.D.Disk.past c.copies.new.disk)).
+    at_both (λ s listed is. is ∙ ap (λ (cs : List Copied). Some (spaces_events cs s spaces (length spaces) ++ s)) listed) c.in_ok-copies.ensures.copies
+    (subst (At (λ s. new ≡ Some (spaces_events copies s spaces (length spaces) ++ s))) c.in_ok-copies.ensures.same exact))
+    c.restore_spaces.ensures.exact
+
+pub returns-clause-part : goal.returns-clause-part
+returns-clause-part g c =
+    let spaces = c.args.spaces.now in
+    let copies = c.in_ok-copies.copies in
+    let old = g.D.Disk.past c.args.disk.now in
+    let new = g.D.Disk.past c.restore_spaces.new.disk in
+    on_err_weaker c.restore_spaces.result
+    (λ (part : At (λ s. IsFront (spaces_events copies s spaces (length spaces)) s new) (g.D.Disk.past c.copies.new.disk)).
+    at_both (λ s listed front. subst (λ (cs : List Copied). IsFront (spaces_events cs s spaces (length spaces)) s new) listed front) c.in_ok-copies.ensures.copies
+    (subst (At (λ s. IsFront (spaces_events copies s spaces (length spaces)) s new)) c.in_ok-copies.ensures.same part))
+    c.restore_spaces.ensures.part

@@ -1,6 +1,10 @@
-use Rattle.std.proofs.Common.{◌≡◌, length, arith, refl, ◌∙◌}
+use Rattle.std.proofs.Common.{◌≡◌, ◌+◌, ◌<◌, ◌++◌, List, Some, length, arith, refl, sym, ap, ◌∙◌}
+use Rattle.disk_model.specs.Event.{Event}
+use Rattle.disk_model.proofs.Moments.{at_each}
 use Rattle.disk_model.proofs.Layers.{does_err, so_far_none, so_far_more, so_far_then, so_far_done}
 use Rattle.places.proofs.Batches.{at_end}
+use Rattle.doublewrite.specs.Events.{spaces_events}
+use Rattle.doublewrite.proofs.EventSteps.{at_error, spaces_none, next_space, next_space_part, calls_none, calls_more, calls_below}
 use Rattle.doublewrite.proofs.SpaceSteps.{spaces_begin, spaces_now, all_places, all_done}
 use Rattle.doublewrite.proofs.recovery.restore_spaces.Goals as goal
 
@@ -9,6 +13,8 @@ loop-i-init g c =
     let first = g.D.Disk.past c.args.disk.now in
     record {
       so_far = so_far_none (spaces_now c.args.copies.now c.args.spaces.now c.requires.apart 0 first) (spaces_begin c.args.copies.now c.args.spaces.now c.requires.apart first c.requires.places);
+      exact = record { here = λ s is. is ∙ ap (λ (l : List Event). Some (l ++ s)) (sym (spaces_none c.args.copies.now c.args.spaces.now s)) };
+      calls = omega (arith, calls_none c.args.spaces.now);
       size = c.requires.size;
       faults = refl;
       memory = refl;
@@ -24,10 +30,33 @@ returns-in_err-restore_next-clause-does g c =
     let first = g.D.Disk.past c.args.disk.now in
     does_err _ _ c.from_residual.ensures.1 (so_far_then c.loop-i.invariant.so_far (c.in_err-restore_next.ensures.does first c.loop-i.invariant.so_far.at))
 
+pub returns-in_err-restore_next-clause-part : goal.returns-in_err-restore_next-clause-part
+returns-in_err-restore_next-clause-part g c =
+    let copies = c.args.copies.now in
+    let spaces = c.args.spaces.now in
+    let i = c.loop-i.i in
+    let first = g.D.Disk.past c.args.disk.now in
+    let more : i < length spaces = omega (arith, c.loop-i-test.true) in
+    at_error c.from_residual.result
+    (next_space_part copies spaces i more first (g.D.Disk.past c.loop-i.disk) c.loop-i.invariant.exact c.loop-i.invariant.so_far.at (g.D.Disk.past c.restore_next.new.disk) c.in_err-restore_next.ensures.part)
+
+pub returns-in_err-restore_next-clause-calls : goal.returns-in_err-restore_next-clause-calls
+returns-in_err-restore_next-clause-calls g c =
+    let spaces = c.args.spaces.now in
+    let i = c.loop-i.i in
+    let most = calls_below spaces (i + 1) (length spaces) (omega (arith, c.loop-i-test.true)) in
+    omega (arith, c.loop-i.invariant.calls, c.in_err-restore_next.ensures.calls, calls_more spaces i, most)
+
 pub loop-i-preserved : goal.loop-i-preserved
 loop-i-preserved g c =
     let first = g.D.Disk.past c.args.disk.now in
+    let copies = c.args.copies.now in
+    let spaces = c.args.spaces.now in
+    let i = c.loop-i.i in
+    let more : i < length spaces = omega (arith, c.loop-i-test.true) in
     record {
+      exact = next_space copies spaces i more first (g.D.Disk.past c.loop-i.disk) c.loop-i.invariant.exact c.loop-i.invariant.so_far.at (g.D.Disk.past c.restore_next.new.disk) c.in_ok-restore_next.ensures.exact;
+      calls = omega (arith, c.loop-i.invariant.calls, c.in_ok-restore_next.ensures.calls, calls_more spaces i);
       so_far = so_far_more c.loop-i.invariant.so_far (c.in_ok-restore_next.ensures.does first c.loop-i.invariant.so_far.at);
       size = c.in_ok-restore_next.ensures.size;
       faults = c.in_ok-restore_next.ensures.no_fault ∙ c.loop-i.invariant.faults;
@@ -39,3 +68,13 @@ pub returns-clause-does : goal.returns-clause-does
 returns-clause-does g c =
     let all : c.loop-i.i ≡ length c.args.spaces.now = omega (arith, c.loop-i.auto.i-end, c.loop-i-test.false) in
     so_far_done (all_done c.args.copies.now c.args.spaces.now c.requires.apart c.loop-i.i all (g.D.Disk.past c.args.disk.now)) c.loop-i.invariant.so_far
+
+pub returns-clause-exact : goal.returns-clause-exact
+returns-clause-exact g c =
+    let all : c.loop-i.i ≡ length c.args.spaces.now = omega (arith, c.loop-i.auto.i-end, c.loop-i-test.false) in
+    at_each (λ s is. is ∙ ap (λ n. Some (spaces_events c.args.copies.now s c.args.spaces.now n ++ s)) all) c.loop-i.invariant.exact
+
+pub returns-clause-calls : goal.returns-clause-calls
+returns-clause-calls g c =
+    let most = calls_below c.args.spaces.now c.loop-i.i (length c.args.spaces.now) (omega (arith, c.loop-i.auto.i-end)) in
+    omega (arith, c.loop-i.invariant.calls, most)

@@ -1,8 +1,12 @@
-use Rattle.std.proofs.Common.{◌≡◌, ◌∙◌, Ok, ap, sym, refl, subst, arith, true≢false}
+use Rattle.std.proofs.Common.{◌≡◌, ◌++◌, ◌∙◌, Ok, Some, List, true, if◌then◌else◌, ap, sym, refl, subst, arith, true≢false}
+use Rattle.disk_model.specs.Event.{Event}
+use Rattle.disk_model.proofs.Moments.{at_each}
 use Rattle.disk_model.proofs.Layers.{does_err, so_far_none, so_far_more, so_far_then, so_far_done}
 use Rattle.places.proofs.Batches.{at_end}
 use Rattle.places.specs.Batches.{From}
 use Rattle.doublewrite.specs.Restore.{PagesFilled}
+use Rattle.doublewrite.specs.Events.{page_writes, is_any}
+use Rattle.doublewrite.proofs.EventSteps.{at_error, pages_none, next_page, next_part, next_told}
 use Rattle.doublewrite.proofs.RestoreSteps.{pages_begin, pages_now}
 use Rattle.doublewrite.proofs.restoring.restore_pages.Goals as goal
 use Rattle.doublewrite.proofs.restoring.restore_pages.Goals.{then-branch, else-branch}
@@ -14,6 +18,9 @@ loop-number-init g c =
     let first = g.D.Disk.past c.args.disk.now in
     record {
       so_far = so_far_none (pages_now copies info 0 (omega arith) first) (pages_begin copies info first c.requires.places);
+      exact = record { here = λ s is. is ∙ ap (λ (l : List Event). Some (l ++ s)) (sym (pages_none copies info.space s)) };
+      told = record { here = λ s is. sym (ap is_any (pages_none copies info.space s)) };
+      calls = omega arith;
       clean = λ is. refl;
       size = c.requires.size;
       faults = refl;
@@ -30,10 +37,30 @@ returns-in_err-restore_page-clause-does g c =
     let first = g.D.Disk.past c.args.disk.now in
     does_err _ _ c.from_residual.ensures.1 (so_far_then c.loop-number.invariant.so_far (c.in_err-restore_page.ensures.does first c.loop-number.invariant.so_far.at))
 
+pub returns-in_err-restore_page-clause-part : goal.returns-in_err-restore_page-clause-part
+returns-in_err-restore_page-clause-part g c =
+    let first = g.D.Disk.past c.args.disk.now in
+    let info = c.args.info.now in
+    at_error c.from_residual.result
+    (next_part c.args.copies.now info c.loop-number.number first (g.D.Disk.past c.loop-number.disk) c.loop-number.invariant.exact c.loop-number.invariant.so_far.at (g.D.Disk.past c.restore_page.new.disk) info.pages
+    (omega (arith, c.loop-number-test.true)) c.in_err-restore_page.ensures.part)
+
 pub loop-number-preserved : goal.loop-number-preserved
 loop-number-preserved g c =
     let first = g.D.Disk.past c.args.disk.now in
+    let copies = c.args.copies.now in
+    let info = c.args.info.now in
+    let k = c.loop-number.number in
+    let mid = g.D.Disk.past c.loop-number.disk in
+    let before = c.loop-number.is_written in
+    let told = next_told copies info k first mid c.loop-number.invariant.exact c.loop-number.invariant.so_far.at in
     record {
+      exact = next_page copies info k first mid c.loop-number.invariant.exact c.loop-number.invariant.so_far.at (g.D.Disk.past c.restore_page.new.disk) c.in_ok-restore_page.ensures.exact;
+      told = elim c.if-branch.branch [
+        | then-branch w ↦ told _ before _ (w.is_written-is ∙ ap (λ b. if b then true else before) (sym w.if-branch.true)) c.loop-number.invariant.told c.in_ok-restore_page.ensures.told
+        | else-branch w ↦ told _ before _ (w.is_written-is ∙ ap (λ b. if b then true else before) (sym w.if-branch.false)) c.loop-number.invariant.told c.in_ok-restore_page.ensures.told
+      ];
+      calls = omega (arith, c.loop-number.invariant.calls, c.in_ok-restore_page.ensures.calls);
       so_far = so_far_more c.loop-number.invariant.so_far (c.in_ok-restore_page.ensures.does first c.loop-number.invariant.so_far.at);
       clean = λ is. elim c.if-branch.branch [
         | then-branch w ↦ absurd (true≢false (sym w.is_written-is ∙ is))
@@ -51,3 +78,17 @@ returns-clause-does g c =
     let info = c.args.info.now in
     let all : c.loop-number.number ≡ info.pages = omega (arith, c.loop-number.auto.number-end, c.loop-number-test.false) in
     so_far_done (λ es r. subst (λ n. From (PagesFilled copies info n) (g.D.Disk.past c.args.disk.now) es) all r) c.loop-number.invariant.so_far
+
+pub returns-clause-exact : goal.returns-clause-exact
+returns-clause-exact g c =
+    let copies = c.args.copies.now in
+    let info = c.args.info.now in
+    let all : c.loop-number.number ≡ info.pages = omega (arith, c.loop-number.auto.number-end, c.loop-number-test.false) in
+    at_each (λ s is. is ∙ ap (λ n. Some (page_writes copies s info.space n ++ s)) all) c.loop-number.invariant.exact
+
+pub returns-clause-told : goal.returns-clause-told
+returns-clause-told g c =
+    let copies = c.args.copies.now in
+    let info = c.args.info.now in
+    let all : c.loop-number.number ≡ info.pages = omega (arith, c.loop-number.auto.number-end, c.loop-number-test.false) in
+    at_each (λ s is. is ∙ ap (λ n. is_any (page_writes copies s info.space n)) all) c.loop-number.invariant.told

@@ -1,0 +1,230 @@
+-- The events of homes that are restored, one after another.
+use Rattle.std.proofs.Common.{◌≡◌, ℕ, zero, suc, ◌+◌, ◌*◌, ◌<◌, ◌≤◌, ◌≢◌, ◌⊎◌, inl, inr, ⊎_elim, Bool, true, false, is_some, if◌then◌else◌, List, [], ◌∷◌, ◌++◌, length, Option, Some, None, refl, sym, ap, subst, ◌∙◌, append_assoc, arith, Result, Ok, Err, OnErr}
+use Rattle.std.proofs.lemmas.Bool.{cases_eq}
+use Rattle.disk_model.specs.Event.{Event, Write, Sync}
+use Rattle.disk_model.specs.Past.{Past, At, MayGrow, IsWrite, grow}
+use Rattle.disk_model.specs.declared.names.FileName.{FileName}
+use Rattle.disk_model.specs.declared.names.FileName.TheVariants.{Space}
+use Rattle.disk_model.proofs.Moments.{at_each}
+use Rattle.places.specs.Batches.{From}
+use Rattle.space_head.specs.declared.space.SpaceInfo.{SpaceInfo}
+use Rattle.doublewrite.specs.Restore.{wanted, space_at, PagesFilled, IsUntouched, AreRestored}
+use Rattle.doublewrite.specs.Events.{page_write, page_writes, synced, is_any, space_events, spaces_events, calls_to, IsFront, Done, Failed}
+use Rattle.doublewrite.specs.declared.listing.Copied.{Copied}
+use Rattle.doublewrite.proofs.SpaceSteps.{same_want}
+
+-- what holds whatever the answer is holds at an error
+pub at_error : {T X : Type 0} {P : Type 0} (result : Result T X) → P → OnErr result P
+at_error (Ok v) p = tt
+at_error (Err x) p = p
+
+append_nil : (xs : List Event) → xs ≡ xs ++ []
+append_nil [] = refl
+append_nil (x ∷ xs) = ap (λ (l : List Event). x ∷ l) (append_nil xs)
+
+-- ---- a front of events
+
+-- nothing was done yet
+pub front_none : (all s : List Event) (old new : Past) → old ≡ Some s → new ≡ old → IsFront all s new
+front_none all s old new is same = Done all [] (append_nil all) (same ∙ is)
+
+-- all were done
+pub front_all : (all s : List Event) (new : Past) → new ≡ Some (all ++ s) → IsFront all s new
+front_all all s new is = Done [] all refl is
+
+-- behind events that were done
+pub front_behind : (all before s : List Event) (new : Past) → IsFront all (before ++ s) new → IsFront (all ++ before) s new
+front_behind all before s new (Done rest done is now) =
+    Done rest (done ++ before) (ap (λ (l : List Event). l ++ before) is ∙ append_assoc rest done before) (now ∙ ap (λ (l : List Event). Some l) (sym (append_assoc done before s)))
+front_behind all before s new (Failed rest done f at bytes e is kind now) =
+    Failed rest (done ++ before) f at bytes e (ap (λ (l : List Event). l ++ before) is ∙ append_assoc rest (Write f at bytes bytes ∷ done) before) kind (now ∙ ap (λ (l : List Event). Some (e ∷ l)) (sym (append_assoc done before s)))
+
+-- of more events
+pub front_more : (more all s : List Event) (new : Past) → IsFront all s new → IsFront (more ++ all) s new
+front_more more all s new (Done rest done is now) = Done (more ++ rest) done (ap (λ (l : List Event). more ++ l) is ∙ sym (append_assoc more rest done)) now
+front_more more all s new (Failed rest done f at bytes e is kind now) =
+    Failed (more ++ rest) done f at bytes e (ap (λ (l : List Event). more ++ l) is ∙ sym (append_assoc more rest (Write f at bytes bytes ∷ done))) kind now
+
+-- the events begin, in their order, with these
+pub record BeginsWith (all first : List Event) : Type 0 where
+  pub more : List Event
+  pub is : all ≡ more ++ first
+
+begins_same : (all : List Event) → BeginsWith all all
+begins_same all = record { more = []; is = refl }
+
+begins_more : (e all first : List Event) → BeginsWith all first → BeginsWith (e ++ all) first
+begins_more e all first b = record { more = e ++ b.more; is = ap (λ (l : List Event). e ++ l) b.is ∙ sym (append_assoc e b.more first) }
+
+pub front_of : (all first s : List Event) (new : Past) → BeginsWith all first → IsFront first s new → IsFront all s new
+front_of all first s new b front = subst (λ (l : List Event). IsFront l s new) (sym b.is) (front_more b.more first s new front)
+
+-- ---- the sync of a space
+
+pub synced_any : (f : FileName) (es : List Event) → true ≡ is_any es → synced f es ≡ Sync f ∷ es
+synced_any f [] is = absurd (cc)
+synced_any f (e ∷ es) is = refl
+
+pub synced_none : (f : FileName) (es : List Event) → false ≡ is_any es → (synced f es ≡ []) × (es ≡ [])
+synced_none f [] is = (refl, refl)
+synced_none f (e ∷ es) is = absurd (cc)
+
+pub synced_begins : (f : FileName) (es : List Event) → BeginsWith (synced f es) es
+synced_begins f [] = record { more = []; is = refl }
+synced_begins f (e ∷ es) = record { more = Sync f ∷ []; is = refl }
+
+-- the part of its writes that was done is one of all
+pub synced_part : (f : FileName) (es s : List Event) (new : Past) → IsFront es s new → IsFront (synced f es) s new
+synced_part f es s new front = front_of (synced f es) es s new (synced_begins f es) front
+
+any_more : (z k : ℕ) (o : Option (List ℕ)) (es : List Event) (w before : Bool) → w ≡ is_some o → before ≡ is_any es → (if w then true else before) ≡ is_any (page_write z k o ++ es)
+any_more z k None es w before is earlier = ap (λ (b : Bool). if b then true else before) is ∙ earlier
+any_more z k (Some text) es w before is earlier = ap (λ (b : Bool). if b then true else before) is
+
+-- ---- the pages of a space
+
+module _ (copies : List Copied) (z : ℕ) where
+  pub pages_none : (s : List Event) → page_writes copies s z 0 ≡ []
+  unfolding page_writes
+  pages_none s = refl
+
+  pub pages_more : (s : List Event) (k : ℕ) → page_writes copies s z (k + 1) ≡ page_write z k (wanted copies s z k) ++ page_writes copies s z k
+  unfolding page_writes
+  pages_more s k = let e : k + 1 ≡ suc k = omega arith in ap (page_writes copies s z) e
+
+  -- the writes of more pages begin with those of fewer
+  pub pages_begin_with : (s : List Event) (j n : ℕ) → j ≤ n → BeginsWith (page_writes copies s z n) (page_writes copies s z j)
+  unfolding page_writes
+  pages_begin_with s j zero le = let e : j ≡ 0 = omega (arith, le) in subst (λ (k : ℕ). BeginsWith (page_writes copies s z 0) (page_writes copies s z k)) (sym e) (begins_same (page_writes copies s z 0))
+  pages_begin_with s j (suc n) le = ⊎_elim
+      (λ (e : j ≡ suc n). subst (λ (k : ℕ). BeginsWith (page_writes copies s z (suc n)) (page_writes copies s z k)) (sym e) (begins_same (page_writes copies s z (suc n))))
+      (λ (ne : j ≢ suc n). begins_more (page_write z n (wanted copies s z n)) (page_writes copies s z n) (page_writes copies s z j) (pages_begin_with s j n (omega (arith, le, ne))))
+      (cases_eq j (suc n))
+
+  -- the same pages are wanted
+  pub same_pages : (s t : List Event) → ((k : ℕ) → wanted copies t z k ≡ wanted copies s z k) → (n : ℕ) → page_writes copies t z n ≡ page_writes copies s z n
+  unfolding page_writes
+  same_pages s t same zero = refl
+  same_pages s t same (suc n) =
+      ap (λ (o : Option (List ℕ)). page_write z n o ++ page_writes copies t z n) (same n) ∙ ap (λ (l : List Event). page_write z n (wanted copies s z n) ++ l) (same_pages s t same n)
+
+  module _ (k : ℕ) (old : Past) where
+    -- the call on a page that isn't written
+    pub page_stays : (new : Past) → new ≡ old → At (λ es. wanted copies es z k ≡ None) old → At (λ es. new ≡ Some (page_write z k (wanted copies es z k) ++ es)) old
+    page_stays new same none = record { here = λ es is. same ∙ is ∙ ap (λ (o : Option (List ℕ)). Some (page_write z k o ++ es)) (sym (none.here es is)) }
+
+    -- and on one that is, done or failed
+    pub page_done : (mid new : Past) (at : ℕ) (bytes text : List ℕ) → at ≡ k * 16384 → bytes ≡ text → mid ≡ old → new ≡ grow (Write (Space z) at bytes bytes) mid → At (λ es. wanted copies es z k ≡ Some text) old
+        → At (λ es. new ≡ Some (page_write z k (wanted copies es z k) ++ es)) old
+    page_done mid new at bytes text at_is bytes_is same more want = record {
+      here = λ es is.
+          more ∙ ap (grow (Write (Space z) at bytes bytes)) (same ∙ is)
+          ∙ ap (λ (p : ℕ). Some (Write (Space z) p bytes bytes ∷ es)) at_is
+          ∙ ap (λ (l : List ℕ). Some (Write (Space z) (k * 16384) l l ∷ es)) bytes_is
+          ∙ ap (λ (o : Option (List ℕ)). Some (page_write z k o ++ es)) (sym (want.here es is));
+    }
+
+    pub page_failed : (mid new : Past) (at : ℕ) (bytes text : List ℕ) → at ≡ k * 16384 → bytes ≡ text → mid ≡ old → MayGrow (IsWrite (Space z) at bytes) mid new → At (λ es. wanted copies es z k ≡ Some text) old
+        → At (λ es. IsFront (page_write z k (wanted copies es z k)) es new) old
+    page_failed mid new at bytes text at_is bytes_is same may want = record { here = λ es is. part es is may }
+      where
+        part : (es : List Event) → old ≡ Some es → (new ≡ mid) ⊎ ((e : Event) × IsWrite (Space z) at bytes e × (new ≡ grow e mid)) → IsFront (page_write z k (wanted copies es z k)) es new
+        part es is (inl stays) = front_none (page_write z k (wanted copies es z k)) es old new is (stays ∙ same)
+        part es is (inr (e, kind, more)) =
+            Failed [] [] (Space z) (k * 16384) text e (ap (page_write z k) (want.here es is))
+            (subst (λ (l : List ℕ). IsWrite (Space z) (k * 16384) l e) bytes_is (subst (λ (p : ℕ). IsWrite (Space z) p bytes e) at_is kind)) (more ∙ ap (grow e) (same ∙ is))
+
+    -- nothing was done
+    pub page_unread : (new : Past) → new ≡ old → At (λ es. IsFront (page_write z k (wanted copies es z k)) es new) old
+    page_unread new same = record { here = λ es is. front_none (page_write z k (wanted copies es z k)) es old new is same }
+
+-- what is wanted of the next page is what was wanted of it at first
+module _ (copies : List Copied) (info : SpaceInfo) (k : ℕ) (first mid : Past) (exact : At (λ s. mid ≡ Some (page_writes copies s info.space k ++ s)) first) (filled : At (From (PagesFilled copies info k) first) mid) where
+  abbrev z : ℕ
+  z = info.space
+
+  behind_pages : (F : Option (List ℕ) → List Event → Type 0) → At (λ es. F (wanted copies es z k) es) mid → At (λ s. F (wanted copies s z k) (page_writes copies s z k ++ s)) first
+  behind_pages F now = record {
+    here = λ s is.
+        let es : List Event = page_writes copies s z k ++ s in
+        let still : PagesFilled copies info k s es = (filled.here es (exact.here s is)).here s is in
+        subst (λ (o : Option (List ℕ)). F o es) (same_want copies s es z k (still.old k (λ lt. absurd (omega (arith, lt))))) (now.here es (exact.here s is));
+  }
+
+  pub next_page : (new : Past) → At (λ es. new ≡ Some (page_write z k (wanted copies es z k) ++ es)) mid → At (λ s. new ≡ Some (page_writes copies s z (k + 1) ++ s)) first
+  next_page new now = at_each
+      (λ s is. is ∙ ap (λ (l : List Event). Some l) (sym (append_assoc (page_write z k (wanted copies s z k)) (page_writes copies s z k) s) ∙ ap (λ (l : List Event). l ++ s) (sym (pages_more copies z s k))))
+      (behind_pages (λ o es. new ≡ Some (page_write z k o ++ es)) now)
+
+  pub next_part : (new : Past) (n : ℕ) → k < n → At (λ es. IsFront (page_write z k (wanted copies es z k)) es new) mid → At (λ s. IsFront (page_writes copies s z n) s new) first
+  next_part new n lt now = at_each
+      (λ s front. front_of (page_writes copies s z n) (page_writes copies s z (k + 1)) s new (pages_begin_with copies z s (k + 1) n (omega (arith, lt)))
+      (subst (λ (l : List Event). IsFront l s new) (sym (pages_more copies z s k)) (front_behind (page_write z k (wanted copies s z k)) (page_writes copies s z k) s new front)))
+      (behind_pages (λ o es. IsFront (page_write z k o) es new) now)
+
+  pub next_told : (w before after : Bool) → after ≡ (if w then true else before) → At (λ s. before ≡ is_any (page_writes copies s z k)) first → At (λ es. w ≡ is_some (wanted copies es z k)) mid
+      → At (λ s. after ≡ is_any (page_writes copies s z (k + 1))) first
+  next_told w before after after_is earlier now = record {
+    here = λ s is.
+        after_is ∙ any_more z k (wanted copies s z k) (page_writes copies s z k) w before ((behind_pages (λ o es. w ≡ is_some o) now).here s is) (earlier.here s is)
+        ∙ ap is_any (sym (pages_more copies z s k));
+  }
+
+-- ---- the spaces, one after the other
+
+module _ (copies : List Copied) (spaces : List SpaceInfo) where
+  pub spaces_none : (s : List Event) → spaces_events copies s spaces 0 ≡ []
+  unfolding spaces_events
+  spaces_none s = refl
+
+  pub spaces_more : (s : List Event) (k : ℕ) → spaces_events copies s spaces (k + 1) ≡ space_events copies s (space_at spaces k) ++ spaces_events copies s spaces k
+  unfolding spaces_events
+  spaces_more s k = let e : k + 1 ≡ suc k = omega arith in ap (spaces_events copies s spaces) e
+
+  spaces_begin_with : (s : List Event) (j n : ℕ) → j ≤ n → BeginsWith (spaces_events copies s spaces n) (spaces_events copies s spaces j)
+  unfolding spaces_events
+  spaces_begin_with s j zero le = let e : j ≡ 0 = omega (arith, le) in subst (λ (k : ℕ). BeginsWith (spaces_events copies s spaces 0) (spaces_events copies s spaces k)) (sym e) (begins_same (spaces_events copies s spaces 0))
+  spaces_begin_with s j (suc n) le = ⊎_elim
+      (λ (e : j ≡ suc n). subst (λ (k : ℕ). BeginsWith (spaces_events copies s spaces (suc n)) (spaces_events copies s spaces k)) (sym e) (begins_same (spaces_events copies s spaces (suc n))))
+      (λ (ne : j ≢ suc n). begins_more (space_events copies s (space_at spaces n)) (spaces_events copies s spaces n) (spaces_events copies s spaces j) (spaces_begin_with s j n (omega (arith, le, ne))))
+      (cases_eq j (suc n))
+
+  module _ (k : ℕ) (more : k < length spaces) (first mid : Past) (exact : At (λ s. mid ≡ Some (spaces_events copies s spaces k ++ s)) first) (restored : At (From (AreRestored copies spaces k) first) mid) where
+    abbrev info : SpaceInfo
+    info = space_at spaces k
+
+    behind_spaces : (F : List Event → List Event → Type 0) → At (λ es. F (space_events copies es info) es) mid → At (λ s. F (space_events copies s info) (spaces_events copies s spaces k ++ s)) first
+    behind_spaces F now = record {
+      here = λ s is.
+          let es : List Event = spaces_events copies s spaces k ++ s in
+          let as_it_was : IsUntouched info s es = ((restored.here es (exact.here s is)).here s is).rest k (omega arith) more in
+          let same = same_pages copies info.space s es (λ p. same_want copies s es info.space p (as_it_was.shows p)) info.pages in
+          subst (λ (l : List Event). F (synced (Space info.space) l) es) same (now.here es (exact.here s is));
+    }
+
+    pub next_space : (new : Past) → At (λ es. new ≡ Some (space_events copies es info ++ es)) mid → At (λ s. new ≡ Some (spaces_events copies s spaces (k + 1) ++ s)) first
+    next_space new now = at_each
+        (λ s is. is ∙ ap (λ (l : List Event). Some l) (sym (append_assoc (space_events copies s info) (spaces_events copies s spaces k) s) ∙ ap (λ (l : List Event). l ++ s) (sym (spaces_more s k))))
+        (behind_spaces (λ l es. new ≡ Some (l ++ es)) now)
+
+    pub next_space_part : (new : Past) → At (λ es. IsFront (space_events copies es info) es new) mid → At (λ s. IsFront (spaces_events copies s spaces (length spaces)) s new) first
+    next_space_part new now = at_each
+        (λ s front. front_of (spaces_events copies s spaces (length spaces)) (spaces_events copies s spaces (k + 1)) s new (spaces_begin_with s (k + 1) (length spaces) (omega (arith, more)))
+        (subst (λ (l : List Event). IsFront l s new) (sym (spaces_more s k)) (front_behind (space_events copies s info) (spaces_events copies s spaces k) s new front)))
+        (behind_spaces (λ l es. IsFront l es new) now)
+
+pub calls_none : (spaces : List SpaceInfo) → calls_to spaces 0 ≡ 0
+unfolding calls_to
+calls_none spaces = refl
+
+pub calls_more : (spaces : List SpaceInfo) (k : ℕ) → calls_to spaces (k + 1) ≡ calls_to spaces k + ((space_at spaces k).pages * 2 + 1)
+unfolding calls_to
+calls_more spaces k = let e : k + 1 ≡ suc k = omega arith in ap (calls_to spaces) e
+
+pub calls_below : (spaces : List SpaceInfo) (j n : ℕ) → j ≤ n → calls_to spaces j ≤ calls_to spaces n
+unfolding calls_to
+calls_below spaces j zero le = let e : j ≡ 0 = omega (arith, le) in subst (λ (k : ℕ). calls_to spaces k ≤ calls_to spaces 0) (sym e) (omega arith)
+calls_below spaces j (suc n) le = ⊎_elim
+    (λ (e : j ≡ suc n). subst (λ (k : ℕ). calls_to spaces k ≤ calls_to spaces (suc n)) (sym e) (omega arith))
+    (λ (ne : j ≢ suc n). let earlier = calls_below spaces j n (omega (arith, le, ne)) in omega (arith, earlier))
+    (cases_eq j (suc n))
