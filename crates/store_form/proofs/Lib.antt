@@ -1,2 +1,5 @@
 pub mod HeaderLaws
 pub mod SpaceLists
+pub mod Zeros
+pub mod RestLaws
+pub mod PageReads

@@ -1,8 +1,11 @@
 -- What is told of a store at rest: what its header, its spaces and the homes of their pages say, and what its disk then reads as.
-use Rattle.std.specs.Prelude.{◌≡◌, ◌≢◌, ℕ, ◌+◌, ◌*◌, ◌<◌, ◌≤◌, ◌^◌, true, if◌then◌else◌, List, [], ◌∷◌, length, slice_index_or, Some, Ok}
-use Rattle.std.specs.List.{All}
+use Rattle.std.specs.Prelude.{◌≡◌, ◌≢◌, ℕ, ◌+◌, ◌*◌, ◌<◌, ◌≤◌, ◌^◌, true, not, nat_eq, if◌then◌else◌, List, [], ◌∷◌, length, slice_index_or, refl, Some, Ok}
+use Rattle.std.specs.Coded.{Coded, code_by, coded×, coded_ℕ, coded_list}
+use Rattle.std.specs.List.{All, prefix_len}
+use Rattle.aes_core.specs.declared.algorithm.Algorithm.{Algorithm}
 use Rattle.byte_list.specs.Fields.{be32_at}
-use Rattle.disk_model.specs.Event.{Event, reads}
+use Rattle.disk_model.specs.Event.{Event, is_there, reads}
+use Rattle.disk_model.specs.Past.{Past, At}
 use Rattle.disk_model.specs.declared.names.FileName.TheVariants.{Log, Double, Space}
 use Rattle.places.specs.Places.{place}
 use Rattle.page_places.specs.Texts.{page_bytes, are_zero}
@@ -41,8 +44,9 @@ pub record IsRestForm (header : HeldHeader) (spaces : List SpaceInfo) (homes : L
 abbrev pub home_told : List ℕ → Home
 home_told bytes = if are_zero bytes then Unused else Clean (be32_at bytes 0)
 
--- the file of a space has its pages, page 0 says what is told of it, and each home tells what is told
+-- the file of a space is there and has its pages, page 0 says what is told of it, and each home tells what is told
 pub record SpaceReads (info : SpaceInfo) (homes : List Home) (es : List Event) : Type 0 where
+  pub there : is_there (Space info.space) es ≡ true
   pub long : length (reads (Space info.space) es) ≡ info.pages * page_bytes
   pub head : head_of (place page_bytes 0 (reads (Space info.space) es)) ≡ Ok (head_of_space info)
   pub told : (p : ℕ) → p < info.pages → slice_index_or homes p Unused ≡ home_told (place page_bytes p (reads (Space info.space) es))
@@ -55,7 +59,56 @@ SpacesRead (s ∷ ss) (o ∷ os) es = SpaceReads s o es × SpacesRead ss os es
 -- the disk reads as the store that is told
 pub record ReadsAtRest (header : HeldHeader) (spaces : List SpaceInfo) (homes : List (List Home)) (next sequence : ℕ) (es : List Event) : Type 0 where
   pub is_header : header_in (place 4096 0 (reads Log es)) ≡ Some header
+  pub log_there : is_there Log es ≡ true
   pub log : length (reads Log es) ≡ (3 + header.blocks) * 4096
+  pub double_there : is_there Double es ≡ true
   pub double : length (reads Double es) ≡ 64 * 16896
   pub checkpoint : IsNewestCheckpoint (reads Log es) (record { sequence = sequence; from = next })
   pub spaces_read : SpacesRead spaces homes es
+
+-- A store at rest as contracts see it: its disk, its header, its spaces in order of id, what is known of each page of them, the number of the log's next block, and the sequence of the newest checkpoint.
+pub record StoreAtRest (D : Type 0) : Type 0 where
+  pub disk : D
+  pub header : HeldHeader
+  pub spaces : List SpaceInfo
+  pub homes : List (List Home)
+  pub next : ℕ
+  pub sequence : ℕ
+
+abbrev pub held_space_code : Coded HeldSpace
+held_space_code = code_by (ℕ × (ℕ × ℕ)) (coded× coded_ℕ (coded× coded_ℕ coded_ℕ)) (λ s. (s.space, (s.pages, s.key_id))) (λ p. record { space = p.0; pages = p.1.0; key_id = p.1.1 }) (λ _. refl)
+
+abbrev pub held_header_code : Coded Algorithm → Coded HeldHeader
+held_header_code algorithm =
+    code_by (Algorithm × (ℕ × (List ℕ × List HeldSpace))) (coded× algorithm (coded× coded_ℕ (coded× (coded_list coded_ℕ) (coded_list held_space_code))))
+    (λ h. (h.algorithm, (h.blocks, (h.salt, h.spaces)))) (λ p. record { algorithm = p.0; blocks = p.1.0; salt = p.1.1.0; spaces = p.1.1.1 }) (λ _. refl)
+
+abbrev pub store_at_rest_code : {D : Type 0} → Coded D → Coded Algorithm → Coded SpaceInfo → Coded Home → Coded (StoreAtRest D)
+store_at_rest_code {D} disk algorithm space home =
+    code_by (D × (HeldHeader × (List SpaceInfo × (List (List Home) × (ℕ × ℕ))))) (coded× disk (coded× (held_header_code algorithm) (coded× (coded_list space) (coded× (coded_list (coded_list home)) (coded× coded_ℕ coded_ℕ)))))
+    (λ r. (r.disk, (r.header, (r.spaces, (r.homes, (r.next, r.sequence))))))
+    (λ p. record { disk = p.0; header = p.1.0; spaces = p.1.1.0; homes = p.1.1.1.0; next = p.1.1.1.1.0; sequence = p.1.1.1.1.1 }) (λ _. refl)
+
+-- The type of a store at rest keeps this: what it tells fits together, and is what its disk reads as, where that is told.
+pub record IsStoreAtRest {D : Type 0} (past : D → Past) (r : StoreAtRest D) : Type 0 where
+  pub form : IsRestForm r.header r.spaces r.homes r.next r.sequence
+  pub reads : At (ReadsAtRest r.header r.spaces r.homes r.next r.sequence) (past r.disk)
+
+-- the same store over a disk
+abbrev pub with_disk : {D : Type 0} → StoreAtRest D → D → StoreAtRest D
+with_disk r disk = record { disk = disk; header = r.header; spaces = r.spaces; homes = r.homes; next = r.next; sequence = r.sequence }
+
+-- the place of a space: how many stand before the first one of its id
+abbrev pub place_in : List SpaceInfo → ℕ → ℕ
+place_in spaces s = prefix_len (λ x. not (nat_eq x.space s)) spaces
+
+-- the salt of a space
+abbrev pub salt_in : List SpaceInfo → ℕ → List ℕ
+salt_in [] s = []
+salt_in (x ∷ xs) s = if nat_eq x.space s then x.salt else salt_in xs s
+
+-- what is known of the pages of a space
+abbrev pub homes_of : List SpaceInfo → List (List Home) → ℕ → List Home
+homes_of [] os s = []
+homes_of (x ∷ xs) [] s = []
+homes_of (x ∷ xs) (o ∷ os) s = if nat_eq x.space s then o else homes_of xs os s

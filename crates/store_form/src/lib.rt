@@ -10,12 +10,15 @@
 //!    and take no memory. No call makes one of a disk yet but [`AtRest::new`].
 #![tactic(auto)]
 
+mod fault;
 mod header;
 mod lists;
 mod plan;
+mod reading;
 mod rest;
 mod space_list;
 
+pub use fault::RestFault;
 pub use header::{Header, HeaderSpace, read_header};
 pub use lists::{HomeList, Homes, Spaces};
 pub use plan::{SpacePlan, SpacePlans, StorePlan};
