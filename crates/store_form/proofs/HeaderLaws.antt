@@ -1,5 +1,5 @@
 -- What a valid header is, part by part.
-use Rattle.std.proofs.Common.{◌≡◌, ℕ, ◌≤◌, Bool, true, false, true≢false, nat_eq, nat_le, ◌&&◌, ◌||◌, if◌then◌else◌, List, length, take, codes, Option, Some, None, refl, sym, ap, ◌∙◌}
+use Rattle.std.proofs.Common.{◌≡◌, ℕ, Bool, true, false, true≢false, nat_eq, nat_le, ◌&&◌, ◌||◌, if◌then◌else◌, List, length, take, codes, Some, None, refl, sym, ap, ◌∙◌}
 use Rattle.std.proofs.lemmas.Slice.Eq.{bytes_eq-Decides}
 use Rattle.std.specs.Str.{bytes_eq}
 use Rattle.aes_core.specs.declared.algorithm.Algorithm.{Algorithm}
@@ -8,7 +8,7 @@ use Rattle.byte_list.specs.Bytes.{range}
 use Rattle.byte_list.specs.Fields.{be32_at}
 use Rattle.page_places.specs.Texts.{ends_in_sum}
 use Rattle.page_places.proofs.Sums.{and_left, and_right, and_both, not_true}
-use Rattle.store_files.specs.Header.{HeldHeader, HeldSpace, spaces_at, are_in_order, pages_together, are_allowed, header_fields, is_header, header_in}
+use Rattle.store_files.specs.Header.{HeldSpace, spaces_at, are_in_order, pages_together, are_allowed, header_fields, is_header, header_in}
 use Rattle.store_form.specs.Said.{algorithm_named}
 use Rattle.store_form.proofs.SpaceLists.{length-spaces}
 

@@ -15,7 +15,7 @@ use Rattle.space_head.specs.declared.space.Home.TheVariants.{Unused, Clean, Dirt
 use Rattle.space_head.specs.declared.space.SpaceInfo.{SpaceInfo}
 use Rattle.store_files.specs.Header.{HeldHeader}
 use Rattle.store_files.specs.Pages.{key_at, key_id_of}
-use Rattle.store_form.specs.PageRead.{IsHomeOpened, IsTextOpened, IsPageRead, ReadsPage}
+use Rattle.store_form.specs.PageRead.{IsHomeOpened, IsTextOpened, ReadsPage}
 use Rattle.store_form.specs.Rest.{home_told, salt_in}
 use Rattle.store_form.specs.declared.fault.RestFault.{RestFault}
 use Rattle.store_form.specs.declared.fault.RestFault.TheVariants.{NoVersion, Damaged, DiskFault, OutOfMemory}

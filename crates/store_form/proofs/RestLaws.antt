@@ -1,5 +1,5 @@
 -- A space of a store at rest is found by its id.
-use Rattle.std.proofs.Common.{◌≡◌, ℕ, suc, zero, ◌+◌, ◌<◌, Bool, true, false, true≢false, nat_eq, nat_lt, not, if◌then◌else◌, cond, List, [], ◌∷◌, length, slice_index_or, refl, sym, ◌*◌, ◌≤◌, ap, ◌∙◌, subst, arith}
+use Rattle.std.proofs.Common.{◌≡◌, ℕ, suc, zero, ◌+◌, ◌<◌, Bool, true, false, true≢false, nat_eq, nat_lt, not, if◌then◌else◌, List, [], ◌∷◌, length, slice_index_or, refl, sym, ◌*◌, ◌≤◌, ap, ◌∙◌, subst, arith}
 use Rattle.std.proofs.lemmas.Bool.Decides.{nat_tests}
 use Rattle.space_head.specs.declared.space.SpaceInfo.{SpaceInfo}
 use Rattle.space_head.specs.declared.space.Home.{Home}

@@ -13,7 +13,6 @@ use Rattle.space_head.specs.Head.{head_of}
 use Rattle.space_head.specs.declared.space.SpaceInfo.{SpaceInfo}
 use Rattle.space_head.specs.declared.space.Home.{Home}
 use Rattle.space_head.specs.declared.space.Home.TheVariants.{Unused, Clean, Dirty}
-use Rattle.store_image.specs.Checkpoint.{HeldCheckpoint}
 use Rattle.store_files.specs.Header.{HeldHeader, HeldSpace, header_in, are_allowed}
 use Rattle.store_files.specs.Checkpoint.{IsNewestCheckpoint}
 use Rattle.store_files.specs.Pages.{head_of_space}

@@ -1,5 +1,5 @@
 -- What a header says, in the words of the store's files.
-use Rattle.std.specs.Prelude.{ℕ, nat_eq, if◌then◌else◌, List, take, map, Option, Some, None}
+use Rattle.std.specs.Prelude.{ℕ, nat_eq, if◌then◌else◌, take, map, Option, Some, None}
 use Rattle.aes_core.specs.declared.algorithm.Algorithm.{Algorithm}
 use Rattle.aes_core.specs.declared.algorithm.Algorithm.TheVariants.{Cbc, Ctr}
 use Rattle.store_files.specs.Header.{HeldHeader, HeldSpace}

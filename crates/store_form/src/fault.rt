@@ -7,7 +7,10 @@ use thiserror::Error;
 pub enum RestFault {
     /// The page's home names a version of its key that isn't at hand.
     #[error("no key {id} version {version}")]
-    NoVersion { id: u32, version: u32 },
+    NoVersion {
+        id: u32,
+        version: u32,
+    },
     /// The page's home isn't its text: the first fault of it.
     #[error("page {page} of space {space} is damaged")]
     Damaged {

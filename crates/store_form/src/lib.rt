@@ -6,8 +6,11 @@
 //!    format 2: its checksum, magic, format, page size, algorithm, number of ring blocks, number and
 //!    order of spaces and the limits are right. It takes no memory.
 //! 2. [`StorePlan`] and [`SpacePlan`] are what a store is to be made as.
-//! 3. [`AtRest`] is a store at rest: a disk with what it reads as. Its calls tell what it was made of,
-//!    and take no memory. No call makes one of a disk yet but [`AtRest::new`].
+//! 3. [`AtRest`] is a store at rest: a disk with what it reads as, which its type keeps. Its calls tell
+//!    what it was made of, and take no memory. No call makes one of a disk yet but [`AtRest::new`].
+//! 4. [`AtRest::read_page`] answers a page by the bytes of its home alone: that it is unused, its plain
+//!    page, the version that the ring lacks, or the first fault of its text; and what it answers is
+//!    what is known of the page.
 #![tactic(auto)]
 
 mod fault;
@@ -24,5 +27,7 @@ pub use lists::{HomeList, Homes, Spaces};
 pub use plan::{SpacePlan, SpacePlans, StorePlan};
 pub use rest::AtRest;
 
+#[cfg(test)]
+mod page_tests;
 #[cfg(test)]
 mod tests;

@@ -1,9 +1,8 @@
-use Rattle.std.proofs.Common.{◌≡◌, ℕ, ◌||◌, ◌&&◌, nat_eq, nat_le, if◌then◌else◌, List, map, take, Some, None, true, false, true≢false, sym, ap, ap₂, ◌∙◌, rules}
-use Rattle.aes_core.specs.declared.algorithm.Algorithm.{Algorithm}
+use Rattle.std.proofs.Common.{◌≡◌, ℕ, ◌&&◌, nat_le, List, Some, None, true≢false, sym, ap, ap₂, ◌∙◌}
 use Rattle.byte_list.specs.Fields.{be32_at}
 use Rattle.store_files.specs.Header.{HeldHeader, HeldSpace, spaces_at, are_in_order, pages_together}
-use Rattle.store_form.specs.Said.{algorithm_named, space_said}
-use Rattle.store_form.proofs.HeaderLaws.{IsHeaderBlock, spaces_of_block, header_none, header_some, named_none, named_some, fields_are}
+use Rattle.store_form.specs.Said.{algorithm_named}
+use Rattle.store_form.proofs.HeaderLaws.{IsHeaderBlock, header_none, header_some, named_none, named_some, fields_are}
 use Rattle.store_form.proofs.header.read_header.Goals as goal
 
 pub returns-then-not-ends_in_sum-clause-none : goal.returns-then-not-ends_in_sum-clause-none

@@ -1,4 +1,4 @@
-use Rattle.std.proofs.Common.{◌≡◌, ◌≢◌, ◌∙◌, Bool, true, false, ℕ, List, Option, refl, sym, ap, subst, option_map}
+use Rattle.std.proofs.Common.{◌≡◌, ◌∙◌, Bool, true, false, ℕ, List, Option, refl, sym, ap, subst, option_map}
 use Rattle.std.specs.Prelude.{MatchBool, Result, Ok}
 use Rattle.byte_list.specs.Fields.{be32_at}
 use Rattle.key_ring.specs.Local.{local_key}

@@ -1,5 +1,5 @@
 use Rattle.std.proofs.Common.{◌≡◌, ℕ, ◌+◌, ◌<◌, List, ◌∷◌, length, slice_index_or, drop, map, sym, ap, ◌∙◌, arith}
-use Rattle.store_files.specs.Header.{HeldSpace, are_in_order}
+use Rattle.store_files.specs.Header.{are_in_order}
 use Rattle.store_form.specs.Said.{space_said}
 use Rattle.store_form.specs.declared.header.HeaderSpace.{HeaderSpace}
 use Rattle.store_form.proofs.SpaceLists.{rest_at, rest_none, order_none, order_more, order_ends}

@@ -1,5 +1,5 @@
-use Rattle.std.proofs.Common.{◌≡◌, ℕ, ◌+◌, ◌*◌, ◌<◌, ◌≤◌, ◌^◌, List, length, slice_index_or, drop, map, sym, ap, ◌∙◌, arith, rules}
-use Rattle.store_files.specs.Header.{HeldSpace, pages_together}
+use Rattle.std.proofs.Common.{◌≡◌, ◌+◌, ◌<◌, ◌^◌, List, length, slice_index_or, drop, map, ap, ◌∙◌, arith, rules}
+use Rattle.store_files.specs.Header.{pages_together}
 use Rattle.store_form.specs.Said.{space_said}
 use Rattle.store_form.specs.declared.header.HeaderSpace.{HeaderSpace}
 use Rattle.store_form.proofs.SpaceLists.{rest_at, rest_none, pages_none, pages_more}

@@ -1,4 +1,4 @@
-use Rattle.std.proofs.Common.{◌≡◌, ℕ, length, sym, ◌∙◌, refl, arith, length-set}
+use Rattle.std.proofs.Common.{sym, ◌∙◌, refl, arith, length-set}
 use Rattle.store_form.proofs.SpaceLists.{spaces_none, spaces_filled}
 use Rattle.store_form.proofs.space_list.read_spaces.Goals as goal
 

@@ -1,12 +1,11 @@
-use Rattle.std.proofs.Common.{◌≡◌, ◌∙◌, ap, sym, subst, ℕ, ◌<◌, length, List, [], slice_index_or, true, refl}
+use Rattle.std.proofs.Common.{◌≡◌, ◌∙◌, ap, sym, subst, ℕ, ◌<◌, length, List, slice_index_or, true, refl}
 use Rattle.std.specs.Prelude.{IfOk}
 use Rattle.disk_model.specs.Past.{At}
 use Rattle.disk_model.proofs.Moments.{at_each}
-use Rattle.space_head.specs.declared.space.Home.{Home}
 use Rattle.space_head.specs.declared.space.SpaceInfo.{SpaceInfo}
 use Rattle.store_files.specs.Pages.{has_page}
 use Rattle.store_form.specs.PageRead.{ReadsPage}
-use Rattle.store_form.specs.Rest.{SpaceReads, StoreAtRest, homes_of, place_in, salt_in}
+use Rattle.store_form.specs.Rest.{StoreAtRest, homes_of, place_in, salt_in}
 use Rattle.store_form.specs.Said.{header_said}
 use Rattle.byte_list.specs.Fields.{be32_at}
 use Rattle.space_head.specs.declared.space.Home.TheVariants.{Unused}
