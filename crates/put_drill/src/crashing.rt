@@ -1,7 +1,7 @@
 // A drill: the files are made, a batch is put, and the disk crashes.
 ghost use Rattle.std.specs.Prelude.{◌≡◌, ◌<◌, ◌≤◌, ℕ, List, [], ◌∷◌, length, IfOk, OnOk};
 ghost use Rattle.disk_model.specs.Contents.{events};
-ghost use Rattle.disk_model.specs.Crash.{crash_image};
+ghost use Rattle.disk_model.specs.Crash.{crash_image, IsCrash};
 ghost use Rattle.disk_model.specs.Event.{Event, Open};
 ghost use Rattle.disk_model.specs.Past.{At};
 ghost use Rattle.disk_model.specs.declared.names.FileName.TheVariants.{Double, Space};
@@ -26,13 +26,15 @@ pub struct PutCrash {
 
 fn make_files<D: Disk>(disk: &mut D) -> Result<(), DiskError>
     requires { At (λ es. es ≡ Open [] [] [] ∷ []) (D.past disk.old) }
-    ensures { OnOk result (At AreFilesMade (D.past disk.new)) }
+    ensures made { OnOk result (At AreFilesMade (D.past disk.new)) }
+    ensures later { D.is_later disk.old disk.new }
 {
     disk.make(FileName::Double, 1081344)?;
     disk.make(FileName::Space(5), 1048576)
 }
 
-/// Puts a batch of space 5, which has 64 pages, and crashes the disk. The listed turns fail.
+/// Puts a batch of space 5, which has 64 pages, and crashes the disk with these choices. The listed
+/// turns fail.
 pub fn drill(
     alloc: Global,
     batch: &Texts,
@@ -45,6 +47,8 @@ pub fn drill(
     requires space { batch.now.space ≡ 5 }
     requires numbers { (i : ℕ) → i < length batch.now.pages → page_number_of (text_at batch.now i) < 64 }
     requires texts { ArePageTexts batch.now.pages }
+    ensures crash { IfOk result (λ d. IsCrash choice.now (events d.disk.contents) (events d.crashed.contents)) }
+    ensures plan { IfOk result (λ d. d.disk.contents.log.failing.items ≡ failing.items) }
     ensures stands { IfOk result (λ d. (s : List Event) × ShowsBatch batch.now s (crash_image choice.now (events d.disk.contents))) }
     ensures slots { IfOk result (λ d. HasPlaces Double slots (events d.crashed.contents)) }
     ensures pages { IfOk result (λ d. HasPlaces (Space 5) (pages 64) (events d.crashed.contents)) }

@@ -15,11 +15,13 @@ use disk_model::{Choice, Disk, DiskError, FileName};
 use doublewrite::{PageText, PageTexts, Texts, restore};
 use space_head::SpaceInfo;
 use std::alloc::{AllocError, Global};
-use std::process::Abort;
 use std::test::Fail;
 
 // Turns of a batch of 64 pages: 64 slots and a sync, 64 homes and a sync.
 const TURNS: u64 = 130;
+
+// The first turn that a stop may have with the slots durable: the one behind their sync.
+const DURABLE: u64 = 66;
 
 const LETTERS: [Choice; 3] = [Choice::Lost, Choice::Kept, Choice::Torn];
 
@@ -145,48 +147,86 @@ fn is_new<D: Disk>(disk: &mut D, batch: &Texts, i: usize) -> Result<bool, Fail>
     Ok(true)
 }
 
-// The fewest and the most new pages over each two letters.
-fn counts(alloc: Global, batch: &Texts, stop: u64, first: Choice) -> Result<(usize, usize), Fail>
+const fn is_kept(letter: Choice) -> u64 {
+    match letter {
+        Choice::Kept => 1,
+        Choice::Lost | Choice::Torn => 0,
+    }
+}
+
+// How many pages are to be new where the turns from `stop` on fail and the slots are durable where
+// it is `durable` or later: each whose slot is durable or was kept. The write that failed also takes
+// its letter, the first write the first one.
+fn new_pages(stop: u64, durable: u64, first: Choice, last: Choice) -> u64 {
+    if stop >= durable {
+        return 64;
+    }
+    let others = stop.min(64).saturating_sub(1);
+    if is_kept(last) == 1 {
+        return is_kept(first).saturating_add(others);
+    }
+    is_kept(first)
+}
+
+// How many rows of a stop are wrong, of one row for each last letter.
+fn wrong_rows(
+    alloc: Global,
+    batch: &Texts,
+    stop: u64,
+    durable: u64,
+    first: Choice,
+) -> Result<u64, Fail>
     requires low { stop ≤ 131 }
 {
-    let mut least = 64;
-    let mut most = 0;
+    let mut wrong = 0u64;
     for last in LETTERS {
         let mut crash = crash_at(alloc, batch, stop, &[first, last])?;
         let new = count_new(alloc, &mut crash.crashed, batch)?;
-        least = least.min(new);
-        most = most.max(new);
-    }
-    Ok((least, most))
-}
-
-// A batch whose slots are synced is there whole, and without a write that is kept nothing is.
-fn stop_at_each_turn(rt: &impl Abort, alloc: Global, first: Choice) -> Result<(), Fail> {
-    let batch = batch_of(alloc)?;
-    for stop in 1..TURNS + 2 {
-        let (least, most) = counts(alloc, &batch, stop, first)?;
-        if stop > 65 {
-            assert!(rt; least == 64);
-        } else {
-            assert!(rt; least <= 1 && most <= 64);
+        if new as u64 != new_pages(stop, durable, first, last) {
+            wrong = wrong.saturating_add(1);
         }
     }
-    Ok(())
+    Ok(wrong)
+}
+
+// The slots of a batch are durable where the turn of their sync was answered Ok.
+fn wrong_at_each_turn(alloc: Global, first: Choice) -> Result<u64, Fail> {
+    let batch = batch_of(alloc)?;
+    let mut wrong = 0u64;
+    for stop in 1..TURNS + 2 {
+        wrong = wrong.saturating_add(wrong_rows(alloc, &batch, stop, DURABLE, first)?);
+    }
+    Ok(wrong)
 }
 
 #[test]
 fn each_page_is_old_or_new_where_the_first_write_is_lost(rt: HostRuntime) -> Result<(), Fail> {
-    stop_at_each_turn(&rt, rt.alloc(), Choice::Lost)
+    assert_eq!(rt; wrong_at_each_turn(rt.alloc(), Choice::Lost)?, 0);
+    Ok(())
 }
 
 #[test]
 fn each_page_is_old_or_new_where_the_first_write_is_kept(rt: HostRuntime) -> Result<(), Fail> {
-    stop_at_each_turn(&rt, rt.alloc(), Choice::Kept)
+    assert_eq!(rt; wrong_at_each_turn(rt.alloc(), Choice::Kept)?, 0);
+    Ok(())
 }
 
 #[test]
 fn each_page_is_old_or_new_where_the_first_write_is_torn(rt: HostRuntime) -> Result<(), Fail> {
-    stop_at_each_turn(&rt, rt.alloc(), Choice::Torn)
+    assert_eq!(rt; wrong_at_each_turn(rt.alloc(), Choice::Torn)?, 0);
+    Ok(())
+}
+
+// Rows that call the slots durable a turn too early are wrong, but for the one in which each write is
+// kept; rows that call them so a turn too late are wrong alike.
+#[test]
+fn a_wrong_row_is_counted(rt: HostRuntime) -> Result<(), Fail> {
+    let alloc = rt.alloc();
+    let batch = batch_of(alloc)?;
+    assert_eq!(rt; wrong_rows(alloc, &batch, 65, 65, Choice::Kept)?, 2);
+    assert_eq!(rt; wrong_rows(alloc, &batch, 65, 65, Choice::Lost)?, 3);
+    assert_eq!(rt; wrong_rows(alloc, &batch, 66, 67, Choice::Torn)?, 3);
+    Ok(())
 }
 
 // The second letter serves all writes but the first.

@@ -10,17 +10,17 @@ use Rattle.put_drill.proofs.Images.{made_double, made_now, crash_stands, put_dou
 use Rattle.put_drill.proofs.crashing.drill.Goals as goal
 
 pub put-requires-clause-places : goal.put-requires-clause-places
-put-requires-clause-places c = at_each made_double c.in_ok-make_files.ensures
+put-requires-clause-places c = at_each made_double c.in_ok-make_files.ensures.made
 
 pub put-requires-clause-inside : goal.put-requires-clause-inside
-put-requires-clause-inside c = at_each (made_now c.args.batch.now c.requires.space c.requires.numbers) c.in_ok-make_files.ensures
+put-requires-clause-inside c = at_each (made_now c.args.batch.now c.requires.space c.requires.numbers) c.in_ok-make_files.ensures.made
 
 pub returns-clause-stands : goal.returns-clause-stands
 returns-clause-stands c =
     let batch = c.args.batch.now in
     let s = events c.make_files.new.disk.contents in
     let m = events c.put.new.disk.contents in
-    let made : AreFilesMade s = c.in_ok-make_files.ensures.here s refl in
+    let made : AreFilesMade s = c.in_ok-make_files.ensures.made.here s refl in
     let last : Putting batch s m = ((at_last (From (Putting batch) (Some s)) _ _ c.put.ensures.does.moments).here m refl).here s refl in
     (s, crash_stands batch c.requires.space c.requires.texts c.requires.numbers s made c.args.choice.now m last)
 
@@ -29,7 +29,7 @@ returns-clause-slots c =
     let batch = c.args.batch.now in
     let s = events c.make_files.new.disk.contents in
     let m = events c.put.new.disk.contents in
-    let made : AreFilesMade s = c.in_ok-make_files.ensures.here s refl in
+    let made : AreFilesMade s = c.in_ok-make_files.ensures.made.here s refl in
     let last : Putting batch s m = ((at_last (From (Putting batch) (Some s)) _ _ c.put.ensures.does.moments).here m refl).here s refl in
     crashed_places Double slots c.args.choice.now m (events c.in-Ok.crashed.contents) c.in-Ok.ensures.crash (put_double batch c.requires.space c.requires.texts c.requires.numbers s made m last)
 
@@ -38,6 +38,6 @@ returns-clause-pages c =
     let batch = c.args.batch.now in
     let s = events c.make_files.new.disk.contents in
     let m = events c.put.new.disk.contents in
-    let made : AreFilesMade s = c.in_ok-make_files.ensures.here s refl in
+    let made : AreFilesMade s = c.in_ok-make_files.ensures.made.here s refl in
     let last : Putting batch s m = ((at_last (From (Putting batch) (Some s)) _ _ c.put.ensures.does.moments).here m refl).here s refl in
     crashed_places (Space 5) (pages 64) c.args.choice.now m (events c.in-Ok.crashed.contents) c.in-Ok.ensures.crash (put_pages batch c.requires.space c.requires.texts c.requires.numbers s made m last)
