@@ -46,14 +46,20 @@ def compare_options(program):
     return 2, failed
 
 
-def as_fault(line):
-    """The line on standard error that a line FAULT asks for, as a pattern."""
+def as_fault(line, listed):
+    """The line on standard error that a line FAULT asks for, as a pattern. The place is that of the event behind
+    those that are listed, each of which says where it begins and how long it is; at 0 a file is no binary log."""
     words = line.replace("FAULT ", "")
+    at = 4
+    for event in listed:
+        begins, length = re.match(r"(\d+) .* length (\d+) ", event).groups()
+        at = int(begins) + int(length)
     found = re.fullmatch(r"(\w+) at (\d+)", words)
     if found:
-        return rf"binlog: log {found[1]} {found[2]}( \d+)*\n"
+        return rf"binlog: log at {at}: {found[1]} {found[2]}( \d+)*\n"
     name, *numbers = re.findall(r"\w+", words)
-    return re.escape(" ".join([f"binlog: log {name}", *numbers])) + "\n"
+    place = 0 if name == "BadMagic" else at
+    return re.escape(" ".join([f"binlog: log at {place}: {name}", *numbers])) + "\n"
 
 
 def compare_listing(program, fixtures, name, keys):
@@ -68,7 +74,7 @@ def compare_listing(program, fixtures, name, keys):
     for words in choices:
         ran = run([program, *words, name], fixtures)
         status = 1 if fault else 0
-        said = re.fullmatch(as_fault(fault) if fault else "", ran.stderr)
+        said = re.fullmatch(as_fault(fault, wanted) if fault else "", ran.stderr)
         if ran.returncode != status or ran.stdout.splitlines() != wanted or not said:
             failed += 1
             print(f"{name} {words}: {ran.returncode} {ran.stderr!r}\n{ran.stdout}wanted {status} {fault}")

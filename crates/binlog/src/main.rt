@@ -3,7 +3,7 @@
 //! being done, and ends with the status' number.
 #![tactic(auto)]
 
-use binlog_cli::{ListStatus, binlog, end_with, read_words};
+use binlog_cli::{ListOutcome, ListStatus, end_with, list_binlog, read_words};
 use io_core::{Folder, StdSink};
 use std::io::ErrorKind;
 use std::process::ExitCode;
@@ -14,17 +14,17 @@ fn main(rt: HostRuntime) -> ExitCode {
     let words = match words(&rt) {
         Ok(words) => words,
         Err(e) if e.kind() == ErrorKind::OutOfMemory => {
-            return end(&rt, &ListStatus::OutOfMemory, "");
+            return end_early(&rt, ListStatus::OutOfMemory);
         }
-        Err(_) => return end(&rt, &ListStatus::Usage, ""),
+        Err(_) => return end_early(&rt, ListStatus::Usage),
     };
     let mut files = Folder::new(rt.alloc(), &rt);
     let mut out = StdSink::new(io::writer(&rt));
-    let status = binlog(rt.alloc(), &words, &mut files, &mut out);
+    let outcome = list_binlog(rt.alloc(), &words, &mut files, &mut out);
     match read_words(rt.alloc(), &words) {
-        Ok(asked) => end(&rt, &status, asked.name),
-        Err(e) if status.number() == ListStatus::Usage.number() => explain(&rt, &e),
-        Err(_) => end(&rt, &status, ""),
+        Ok(asked) => end(&rt, &outcome, asked.name),
+        Err(e) if outcome.status.number() == ListStatus::Usage.number() => explain(&rt, &e),
+        Err(_) => end(&rt, &outcome, ""),
     }
 }
 
@@ -34,9 +34,18 @@ fn words(rt: &(impl Env + AllocGlobal)) -> io::Result<Vec<String>> {
     Ok(words)
 }
 
-// Prints the status' line, and answers its number.
-fn end(rt: &(impl Eprint + AllocGlobal), status: &ListStatus, name: &str) -> ExitCode {
-    match end_with(rt.alloc(), status, name) {
+// Prints the line of a status that the words came to, and answers its number.
+fn end_early(rt: &(impl Eprint + AllocGlobal), status: ListStatus) -> ExitCode {
+    let outcome = ListOutcome {
+        status,
+        reached: None,
+    };
+    end(rt, &outcome, "")
+}
+
+// Prints the outcome's line, and answers its number.
+fn end(rt: &(impl Eprint + AllocGlobal), outcome: &ListOutcome, name: &str) -> ExitCode {
+    match end_with(rt.alloc(), outcome, name) {
         Ok(ended) => {
             let _ = rt.eprint(ended.line.as_str());
             ExitCode::from(ended.number)

@@ -1,7 +1,7 @@
 -- What an answer of the reader says of what was listed so far.
-use Rattle.std.proofs.Common.{◌≡◌, ◌⊎◌, ℕ, ◌+◌, Bool, false, List, [], ◌∷◌, ◌++◌, length, refl, sym, ap, subst, ◌∙◌, Option, Some, None, Result, Ok, Err, IfOk, IfSome, IfErr, IsErrAnd, MatchResult, unwrap_or}
+use Rattle.std.proofs.Common.{◌≡◌, ◌≢◌, ℕ, ◌+◌, Bool, false, List, [], ◌∷◌, ◌++◌, length, refl, sym, subst, ◌∙◌, Option, Some, None, Result, Ok, Err, IfOk, IfSome, IsErrAnd}
 use Rattle.io_core.specs.Files.{Files}
-use Rattle.io_core.specs.Stream.{IsPartlyGiven, extended}
+use Rattle.io_core.specs.Stream.{IsPartlyGiven}
 use Rattle.key_ring.specs.Ring.{RingEntry}
 use Rattle.binlog_text.specs.Advances.{Advances}
 use Rattle.binlog_text.specs.Events.{BinlogEvent, answered}
@@ -9,15 +9,14 @@ use Rattle.binlog_text.specs.Faults.{is_outside}
 use Rattle.binlog_text.specs.Reading.{IsAnswer, IsBehindEvent, StandsAt, is_outside_fault}
 use Rattle.binlog_text.specs.declared.fault.BinlogFault.{BinlogFault}
 use Rattle.binlog_text.specs.declared.reader.LogReader.{LogReader}
-use Rattle.binlog_text.specs.declared.stage.Position.{Position}
 use Rattle.binlog_text.specs.declared.stage.Stage.{Stage}
 use Rattle.binlog_text.specs.declared.stage.Stage.TheVariants.{Events, Refused, Start}
-use Rattle.binlog_cli.specs.EventLines.{end_line, event_lines}
+use Rattle.binlog_cli.specs.EventLines.{event_lines}
 use Rattle.binlog_cli.specs.Printed.{IsPrinted}
-use Rattle.binlog_cli.specs.Stops.{IsListStop, list_status_of, log_stop}
-use Rattle.binlog_cli.specs.Listing.{HasLogListing, lines_of_events}
+use Rattle.binlog_cli.specs.Stops.{IsListStop, list_status_of}
+use Rattle.binlog_cli.specs.Listing.{HasLogListing, IsLogListing, PrintsSome, lines_of_events}
 use Rattle.binlog_cli.specs.declared.status.ListStatus.{ListStatus}
-use Rattle.binlog_cli.proofs.SoFar.{ReadTo, SoFar, events_partly, lines_push, read_more}
+use Rattle.binlog_cli.proofs.SoFar.{ReadTo, SoFar, events_partly, events_some, lines_push, place_push, read_more}
 
 -- the next event begins where the last one ended
 stands_next : (old : Stage) (event : BinlogEvent) (stage : Stage) (end : ℕ) → IsBehindEvent old event stage → end ≡ event.mark.place + length event.bytes → StandsAt stage end
@@ -46,20 +45,29 @@ module _ (ring : List RingEntry) (files : Option Files) (name : List ℕ) (old n
       subst (λ (s : Stage). ReadTo ring (fs name) s (events ++ event ∷ [])) (sym next.1) (read_more ring (fs name) old.stage events event next.0 read next.2)
 
   -- the event's lines were printed
-  pub so_far_event : (is_hex : Bool) (event : BinlogEvent) (fs : Files) (before mid now : Option (List ℕ)) (gathered_mid gathered : List ℕ) → r ≡ Ok (Some event) → files ≡ Some fs
-      → (so_far : SoFar is_hex ring (fs name) old.stage before mid gathered_mid)
-      → IsPrinted (lines_of_events is_hex so_far.events ++ event_lines is_hex event) before now gathered → SoFar is_hex ring (fs name) new.stage before now gathered
-  so_far_event is_hex event fs before mid now gathered_mid gathered is told so_far printed = record {
+  pub so_far_event : (is_hex : Bool) (event : BinlogEvent) (fs : Files) (begins end : ℕ) (before mid now : Option (List ℕ)) (gathered_mid gathered : List ℕ) → r ≡ Ok (Some event) → files ≡ Some fs
+      → end ≡ event.mark.place + length event.bytes → (so_far : SoFar is_hex ring (fs name) old.stage begins before mid gathered_mid)
+      → IsPrinted (lines_of_events is_hex so_far.events ++ event_lines is_hex event) before now gathered → SoFar is_hex ring (fs name) new.stage end before now gathered
+  so_far_event is_hex event fs begins end before mid now gathered_mid gathered is told ends so_far printed = record {
     events = so_far.events ++ event ∷ [];
+    behind = ends ∙ sym (place_push 4 so_far.events event);
     read = read_event event so_far.events is fs told so_far.read;
     printed = subst (λ (t : List ℕ). IsPrinted t before now gathered) (sym (lines_push is_hex so_far.events event)) printed;
   }
 
   -- they were printed in part
-  pub partly_event : (is_hex : Bool) (event : BinlogEvent) (fs : Files) (before mid now : Option (List ℕ)) (gathered : List ℕ) (result : Result (Unit {0}) ListStatus) → r ≡ Ok (Some event) → files ≡ Some fs
-      → (so_far : SoFar is_hex ring (fs name) old.stage before mid gathered)
+  pub partly_event : (is_hex : Bool) (event : BinlogEvent) (fs : Files) (begins : ℕ) (before mid now : Option (List ℕ)) (gathered : List ℕ) (result : Result (Unit {0}) ListStatus) → r ≡ Ok (Some event) → files ≡ Some fs
+      → (so_far : SoFar is_hex ring (fs name) old.stage begins before mid gathered)
       → IsPartlyGiven (lines_of_events is_hex so_far.events ++ event_lines is_hex event) before now → IsErrAnd result IsListStop
       → HasLogListing is_hex ring (fs name) before now (list_status_of result)
-  partly_event is_hex event fs before mid now gathered result is told so_far part stop =
+  partly_event is_hex event fs begins before mid now gathered result is told so_far part stop =
       events_partly is_hex ring (fs name) new.stage (so_far.events ++ event ∷ []) before now result (read_event event so_far.events is fs told so_far.read)
       (subst (λ (t : List ℕ). IsPartlyGiven t before now) (sym (lines_push is_hex so_far.events event)) part) stop
+
+  -- they are text
+  pub some_event : (is_hex : Bool) (event : BinlogEvent) (fs : Files) (begins : ℕ) (before mid : Option (List ℕ)) (gathered : List ℕ) → r ≡ Ok (Some event) → files ≡ Some fs
+      → (so_far : SoFar is_hex ring (fs name) old.stage begins before mid gathered)
+      → lines_of_events is_hex so_far.events ++ event_lines is_hex event ≢ [] → PrintsSome (IsLogListing is_hex ring (fs name))
+  some_event is_hex event fs begins before mid gathered is told so_far some =
+      events_some is_hex ring (fs name) new.stage (so_far.events ++ event ∷ []) (read_event event so_far.events is fs told so_far.read)
+      (λ e. some (sym (lines_push is_hex so_far.events event) ∙ e))

@@ -1,8 +1,7 @@
 -- What a fault of the key files or of the log stops with.
-use Rattle.std.proofs.Common.{◌≡◌, ◌≤◌, ◌⊎◌, inl, inr, ℕ, List, [], refl, sym, ap, subst, ◌∙◌, arith, Option, Result, Ok, Err, IfErr}
+use Rattle.std.proofs.Common.{◌≡◌, ◌≤◌, ◌⊎◌, inl, inr, ℕ, List, [], refl, sym, ap, subst, ◌∙◌, arith, Option, Result, Err, IfErr}
 use Rattle.io_core.specs.Files.{Files}
 use Rattle.cause_core.specs.Counts.{Rose}
-use Rattle.key_ring.specs.Ring.{RingEntry}
 use Rattle.key_file.specs.Cause.{HasCauses}
 use Rattle.key_file.specs.Load.{IsOutside}
 use Rattle.key_file.specs.Loaded.{IsTheAnswer, LoadsFrom}
@@ -18,7 +17,7 @@ use Rattle.binlog_text.specs.declared.stage.Stage.TheVariants.{Refused}
 use Rattle.binlog_cli.specs.Keys.{IsOneLoad}
 use Rattle.binlog_cli.specs.Stops.{FileCauses, IsKeyStop, IsListStop, key_stop, log_stop}
 use Rattle.binlog_cli.specs.declared.status.ListStatus.{ListStatus}
-use Rattle.binlog_cli.specs.declared.status.ListStatus.TheVariants.{Done, FileFault, Key, Log, OutFault, OutOfMemory, Usage}
+use Rattle.binlog_cli.specs.declared.status.ListStatus.TheVariants.{FileFault, Key, Log, OutFault, OutOfMemory}
 
 -- ---- key files
 

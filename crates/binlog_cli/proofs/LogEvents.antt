@@ -1,10 +1,9 @@
 -- Every log has a list of events, and then its end or a refusal.
-use Rattle.std.proofs.Common.{◌≡◌, ◌≢◌, ℕ, zero, suc, ◌+◌, ◌-◌, ◌<◌, ◌≤◌, ◌==◌, ◌||◌, nat_lt, Bool, true, false, cond, List, [], ◌∷◌, length, take, drop, min, refl, sym, ap, ◌∙◌, arith, length-drop, length-take, Option, Some, None, Result, Ok, Err}
+use Rattle.std.proofs.Common.{◌≡◌, ℕ, zero, suc, ◌+◌, ◌-◌, ◌<◌, ◌≤◌, ◌==◌, ◌||◌, nat_lt, Bool, true, false, cond, List, [], ◌∷◌, length, take, drop, refl, ap, ◌∙◌, arith, length-drop, length-take, Option, Some, None, Result, Ok, Err}
 use Rattle.std.proofs.lemmas.Bool.{eqb-false, ltb-false}
 use Rattle.key_ring.specs.Ring.{RingEntry, ring_key}
-use Rattle.binlog_text.specs.Cipher.{deciphered_event}
 use Rattle.binlog_text.specs.Header.{framed, is_bad_length, kind_of, least_for, least_of, least_stored, length_of, sum_length, whole_of}
-use Rattle.binlog_text.specs.Events.{BinlogEvent, Found, Lists, answered, event_at, event_in, first_position, found, is_log, judged, judged_event, opened, opened_by, opened_event, placed_event, plain_checked, taken_event, unlocked}
+use Rattle.binlog_text.specs.Events.{BinlogEvent, Found, Lists, answered, event_at, event_in, first_position, is_log, judged, judged_event, opened, opened_by, opened_event, placed_event, taken_event, unlocked}
 use Rattle.binlog_text.specs.declared.fault.BinlogFault.{BinlogFault}
 use Rattle.binlog_text.specs.declared.fault.BinlogFault.TheVariants.{BadLength, BadMagic, Missing, ShortEvent}
 use Rattle.binlog_text.specs.declared.format.ChecksumAlgorithm.{ChecksumAlgorithm}

@@ -1,12 +1,12 @@
 -- What was listed of a log so far, and what its listing comes to.
-use Rattle.std.proofs.Common.{◌≡◌, ◌⊎◌, inl, inr, ℕ, ◌+◌, ◌-◌, ◌≤◌, ◌==◌, nat_lt, nat_le, Bool, true, false, cond, List, [], ◌∷◌, ◌++◌, length, drop, take, refl, sym, ap, subst, ◌∙◌, append_assoc, arith, length-drop, unwrap_or, Option, Some, None, Result, Ok, Err, IfErr, IsErrAnd, MatchResult}
+use Rattle.std.proofs.Common.{◌≡◌, ◌≢◌, ◌⊎◌, inl, inr, ℕ, ◌+◌, ◌≤◌, ◌==◌, nat_lt, nat_le, Bool, true, false, cond, List, [], ◌∷◌, ◌++◌, length, drop, take, refl, sym, ap, subst, ◌∙◌, append_assoc, arith, length-drop, unwrap_or, Option, Some, None, Result, Ok, Err, IfErr, IsErrAnd, MatchResult}
 use Rattle.std.proofs.lemmas.Bool.{and_parts, cases_Bool, eqb-true, leb-true}
 use Rattle.std.proofs.lemmas.List.{append-nil}
 use Rattle.std.proofs.lemmas.List.Concat.{flat_map-append}
 use Rattle.io_core.specs.Stream.{IsPartlyGiven, extended}
 use Rattle.key_ring.specs.Ring.{RingEntry}
 use Rattle.binlog_text.specs.Header.{framed, is_bad_length, kind_of, least_stored, length_of, whole_of}
-use Rattle.binlog_text.specs.Events.{BinlogEvent, Found, Lists, answered, event_at, event_in, first_position, is_log, judged, judged_event, opened, opened_event, placed_event, taken_event}
+use Rattle.binlog_text.specs.Events.{BinlogEvent, Lists, answered, event_in, first_position, is_log, judged, judged_event, opened, opened_event, placed_event, taken_event}
 use Rattle.binlog_text.specs.Faults.{is_outside}
 use Rattle.binlog_text.specs.Reading.{Keeps, StandsAt}
 use Rattle.binlog_text.specs.declared.fault.BinlogFault.{BinlogFault}
@@ -18,7 +18,7 @@ use Rattle.binlog_text.specs.declared.stage.Stage.TheVariants.{Events, Refused, 
 use Rattle.binlog_cli.specs.EventLines.{end_line, event_lines}
 use Rattle.binlog_cli.specs.Printed.{IsPrinted}
 use Rattle.binlog_cli.specs.Stops.{IsListStop, list_status_of, log_stop}
-use Rattle.binlog_cli.specs.Listing.{AgreesWith, HasLogListing, IsLogListing, Listing, lines_of_events, listing_of}
+use Rattle.binlog_cli.specs.Listing.{AgreesWith, HasLogListing, IsLogListing, IsRefusedAt, Listing, PrintsSome, lines_of_events, listing_of, place_behind, refused_place}
 use Rattle.binlog_cli.specs.declared.status.ListStatus.{ListStatus}
 use Rattle.binlog_cli.specs.declared.status.ListStatus.TheVariants.{Done, FileFault, Key, Log, OutFault, OutOfMemory, Usage}
 use Rattle.binlog_cli.proofs.Gathered.{extended-nil, front_given, gathered_none, part_of_more}
@@ -40,14 +40,20 @@ pub lines_push : (is_hex : Bool) (events : List BinlogEvent) (event : BinlogEven
 lines_push is_hex events event =
     flat_map-append (event_lines is_hex) events (event ∷ []) ∙ ap (λ (t : List ℕ). lines_of_events is_hex events ++ t) (append-nil (event_lines is_hex event))
 
--- these events were read, and their lines are gathered or given
-pub record SoFar (is_hex : Bool) (ring : List RingEntry) (file : Option (List ℕ)) (stage : Stage) (before now : Option (List ℕ)) (gathered : List ℕ) : Type 0 where
+-- the next event begins behind the last
+pub place_push : (first : ℕ) (events : List BinlogEvent) (event : BinlogEvent) → place_behind first (events ++ event ∷ []) ≡ event.mark.place + length event.bytes
+place_push first [] event = refl
+place_push first (e ∷ events) event = place_push (e.mark.place + length e.bytes) events event
+
+-- these events were read, the next one begins here, and their lines are gathered or given
+pub record SoFar (is_hex : Bool) (ring : List RingEntry) (file : Option (List ℕ)) (stage : Stage) (begins : ℕ) (before now : Option (List ℕ)) (gathered : List ℕ) : Type 0 where
   pub events : List BinlogEvent
+  pub behind : begins ≡ place_behind 4 events
   pub read : ReadTo ring file stage events
   pub printed : IsPrinted (lines_of_events is_hex events) before now gathered
 
-pub so_far_none : (is_hex : Bool) (ring : List RingEntry) (file : Option (List ℕ)) (given : Option (List ℕ)) → SoFar is_hex ring file Start given given []
-so_far_none is_hex ring file given = record { events = []; read = record { goes_on = λ rest end h. h }; printed = gathered_none [] given given (extended-nil given) }
+pub so_far_none : (is_hex : Bool) (ring : List RingEntry) (file : Option (List ℕ)) (given : Option (List ℕ)) → SoFar is_hex ring file Start 4 given given []
+so_far_none is_hex ring file given = record { events = []; behind = refl; read = record { goes_on = λ rest end h. h }; printed = gathered_none [] given given (extended-nil given) }
 
 -- ---- how the listing ends
 
@@ -163,6 +169,97 @@ events_fault is_hex ring file stage events fault before now r read answer (inl w
           subst (λ (x : Result (Unit {0}) ListStatus). HasLogListing is_hex ring file before now (list_status_of x)) (sym whole.0)
           (events_refused is_hex ring file stage events fault before now read (answer inside) inside whole.1)
     ]
+
+-- the place of a refusal behind these events
+pub refused_behind : (ring : List RingEntry) (file : Option (List ℕ)) (stage : Stage) (events : List BinlogEvent) (begins place : ℕ) (fault : BinlogFault)
+    → ReadTo ring file stage events → begins ≡ place_behind 4 events → place ≡ refused_place begins fault → answered ring file stage ≡ Err fault → IsRefusedAt ring file fault place
+refused_behind ring file stage events begins place fault read behind is answer = record {
+  events = events;
+  lists = whole_list ring file stage events (Err fault) read answer;
+  at = is ∙ ap (λ (n : ℕ). refused_place n fault) behind;
+}
+
+-- ---- text that is due
+
+behind_some : (front more text : List ℕ) → text ≡ front ++ more → more ≢ [] → text ≢ []
+behind_some [] more text is some = λ e. some (sym is ∙ e)
+behind_some (x ∷ front) more text is some = λ e. let two = sym is ∙ e in cc
+
+before_some : (some more text : List ℕ) → text ≡ some ++ more → some ≢ [] → text ≢ []
+before_some [] more text is none = absurd (none refl)
+before_some (x ∷ front) more text is some = λ e. let two = sym is ∙ e in cc
+
+-- what was gathered is text
+pub gathered_some : (text gathered : List ℕ) (before now : Option (List ℕ)) → IsPrinted text before now gathered → gathered ≢ [] → text ≢ []
+gathered_some text gathered before now printed some = behind_some printed.front gathered text printed.is some
+
+-- and lines behind it
+pub more_some : (text lines gathered : List ℕ) (before now : Option (List ℕ)) → IsPrinted text before now gathered → gathered ++ lines ≢ [] → text ++ lines ≢ []
+more_some text lines gathered before now printed some =
+    behind_some printed.front (gathered ++ lines) (text ++ lines) (ap (λ (t : List ℕ). t ++ lines) printed.is ∙ append_assoc printed.front gathered lines) some
+
+-- the lines of these events are part of the listing's
+pub events_some : (is_hex : Bool) (ring : List RingEntry) (file : Option (List ℕ)) (stage : Stage) (events : List BinlogEvent) → ReadTo ring file stage events
+    → lines_of_events is_hex events ≢ [] → PrintsSome (IsLogListing is_hex ring file)
+events_some is_hex ring file stage events read some =
+    let rest = log_events ring file stage in
+    let size = length (unwrap_or file []) in
+    let listing : Listing = listing_of is_hex size (events ++ rest.events) rest.end in
+    let behind = text_goes_on is_hex size events rest.events rest.end in
+    record {
+      listing = listing;
+      is = record { events = events ++ rest.events; end = rest.end; lists = read.goes_on rest.events rest.end rest.lists; is = refl };
+      some = before_some (lines_of_events is_hex events) behind.0 listing.text behind.1 some;
+    }
+
+-- the last line is text
+pub end_some : (is_hex : Bool) (ring : List RingEntry) (file : Option (List ℕ)) (stage : Stage) (events : List BinlogEvent) → ReadTo ring file stage events
+    → answered ring file stage ≡ Ok None → PrintsSome (IsLogListing is_hex ring file)
+end_some is_hex ring file stage events read answer =
+    let size = length (unwrap_or file []) in
+    let listing : Listing = listing_of is_hex size events (Ok tt) in
+    record {
+      listing = listing;
+      is = record { events = events; end = Ok tt; lists = whole_list ring file stage events (Ok tt) read answer; is = refl };
+      some = behind_some (lines_of_events is_hex events) (end_line size) listing.text refl (λ e. cc);
+    }
+
+-- ---- what stops a listing
+
+pub stop_no_refusal : (status : ListStatus) (fault : BinlogFault) → IsListStop status → status ≡ Log fault → ⊥
+stop_no_refusal status fault stop is = subst IsListStop is stop
+
+-- an answer that comes from a fault or want of memory is no refusal
+pub no_refusal : (r : Result (Unit {0}) ListStatus) (fault : BinlogFault) → IfErr r IsListStop → r ≡ Err (Log fault) → ⊥
+no_refusal r fault stop is = subst (λ (x : Result (Unit {0}) ListStatus). IfErr x IsListStop) is stop
+
+pub no_refusal_and : (r : Result (Unit {0}) ListStatus) (fault : BinlogFault) → IsErrAnd r IsListStop → r ≡ Err (Log fault) → ⊥
+no_refusal_and r fault stop is = subst (λ (x : Result (Unit {0}) ListStatus). IsErrAnd x IsListStop) is stop
+
+-- an answer that is handed on
+pub handed_err : (r : Result (Unit {0}) ListStatus) (own status : ListStatus) → IsErrAnd r (λ s. s ≡ own) → r ≡ Err status → ◌≡◌ {A = Result (Unit {0}) ListStatus} (Err own) (Err status)
+handed_err (Ok u) own status is e = absurd is
+handed_err (Err s) own status is e = ap Err (sym is) ∙ e
+
+-- a status that is a refusal is one of this refusal
+pub log_stop_log : (fault other : BinlogFault) → log_stop fault ≡ Log other → (is_outside fault ≡ false) × (fault ≡ other)
+log_stop_log log.FileFault other is = absurd (cc)
+log_stop_log log.OutOfMemory other is = absurd (cc)
+log_stop_log log.Missing other is = (refl, cc)
+log_stop_log log.BadMagic other is = (refl, cc)
+log_stop_log (log.ShortEvent at wanted found) other is = (refl, cc)
+log_stop_log (log.BadLength at length) other is = (refl, cc)
+log_stop_log (log.NoFormat kind) other is = (refl, cc)
+log_stop_log (log.Algorithm number) other is = (refl, cc)
+log_stop_log (log.Scheme number) other is = (refl, cc)
+log_stop_log (log.MissingKey version) other is = (refl, cc)
+log_stop_log (log.Checksum at stored computed) other is = (refl, cc)
+
+pub fault_answered : (fault other : BinlogFault) (r : Result (Unit {0}) ListStatus) → (r ≡ Err (log_stop fault)) ⊎ ((r ≡ Err OutFault) ⊎ (r ≡ Err OutOfMemory)) → r ≡ Err (Log other)
+    → (is_outside fault ≡ false) × (fault ≡ other)
+fault_answered fault other r (inl own) is = let two = sym own ∙ is in log_stop_log fault other (cc)
+fault_answered fault other r (inr (inl out)) is = let two = sym out ∙ is in absurd (cc)
+fault_answered fault other r (inr (inr out)) is = let two = sym out ∙ is in absurd (cc)
 
 -- ---- where a log ends
 

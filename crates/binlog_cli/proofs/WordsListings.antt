@@ -3,19 +3,17 @@ use Rattle.std.proofs.Common.{◌≡◌, ◌⊎◌, inl, inr, ℕ, Bool, List, [
 use Rattle.std.specs.Option.{option_copied}
 use Rattle.cause_core.specs.Counts.{Rose}
 use Rattle.io_core.specs.Files.{Files}
-use Rattle.io_core.specs.Stream.{extended}
 use Rattle.key_ring.specs.Ring.{RingEntry}
-use Rattle.key_file.specs.Loaded.{IsDue, IsSameAnswer, IsTheAnswer, LoadsFrom}
+use Rattle.key_file.specs.Loaded.{IsDue, IsSameAnswer}
 use Rattle.key_file.specs.declared.derivation.KeyDigest.{KeyDigest}
 use Rattle.key_file.specs.declared.derivation.KeyDigest.TheVariants.{Sha1}
 use Rattle.key_file.specs.declared.load_fault.LoadFault.{LoadFault}
-use Rattle.binlog_text.specs.Events.{BinlogEvent}
 use Rattle.binlog_text.specs.declared.fault.BinlogFault.{BinlogFault}
 use Rattle.binlog_text.specs.declared.stage.Stage.TheVariants.{Start}
 use Rattle.binlog_cli.specs.Keys.{IsOneLoad}
-use Rattle.binlog_cli.specs.Listing.{AgreesWith, HasLogListing, HasOneListing, IsLogListing, IsOnlyListing, Listing, ListsOne, listing_of}
+use Rattle.binlog_cli.specs.Listing.{AgreesWith, HasLogListing, IsLogListing, IsOnlyListing, IsRefusedAt, Listing, ListsOne, PrintsSome, listing_of}
 use Rattle.binlog_cli.specs.Stops.{FileCauses, IsListStop, PrintCauses, list_status_of}
-use Rattle.binlog_cli.specs.Words.{GivesKeys, IsAskedBy, IsDueFile, IsKeyedListing, IsWordsListing, ListValues, asked_digest, asks_hex, filekey_of, key_names_of, log_name_of}
+use Rattle.binlog_cli.specs.Words.{IsAskedBy, IsDueAt, IsKeyedListing, IsRefusedAs, IsWordsListing, ListValues, asked_digest, asks_hex, filekey_of, key_names_of, log_name_of}
 use Rattle.binlog_cli.specs.declared.status.ListStatus.{ListStatus}
 use Rattle.binlog_cli.specs.declared.status.ListStatus.TheVariants.{Done, FileFault, Key, Log, OutFault, OutOfMemory, Usage}
 use Rattle.binlog_cli.specs.declared.words.ListRequest.{ListRequest}
@@ -81,16 +79,36 @@ log_end values asked files ring status before now is load has =
 
 -- a file that was due
 pub key_due : (values : ListValues) (asked : ListRequest) (files : Files) (due : List ℕ) → IsAskedBy values asked
-    → IsDue files (option_copied asked.filekey) asked.digest 0 (map string_bytes asked.key_files.items) due → IsDueFile values files due
+    → IsDue files (option_copied asked.filekey) asked.digest 0 (map string_bytes asked.key_files.items) due → IsDueAt values files None due
 key_due values asked files due is calls =
     let digest : asked.digest ≡ unwrap_or (asked_digest values) Sha1 = ap (λ (d : Option KeyDigest). unwrap_or d Sha1) is.digest in
-    inl (subst (λ (names : List (List ℕ)). IsDue files (filekey_of values) (unwrap_or (asked_digest values) Sha1) 0 names due) is.key_files
+    subst (λ (names : List (List ℕ)). IsDue files (filekey_of values) (unwrap_or (asked_digest values) Sha1) 0 names due) is.key_files
     (subst (λ (d : KeyDigest). IsDue files (filekey_of values) d 0 (map string_bytes asked.key_files.items) due) digest
-    (subst (λ (f : Option (List ℕ)). IsDue files f asked.digest 0 (map string_bytes asked.key_files.items) due) is.filekey calls)))
+    (subst (λ (f : Option (List ℕ)). IsDue files f asked.digest 0 (map string_bytes asked.key_files.items) due) is.filekey calls))
 
-pub log_due : (values : ListValues) (asked : ListRequest) (files : Files) (ring : List RingEntry) → IsAskedBy values asked
-    → IsOneLoad files (option_copied asked.filekey) asked.digest (map string_bytes asked.key_files.items) (Ok ring) → IsDueFile values files asked.name.now
-log_due values asked files ring is load = let one = one_load values asked files (Ok ring) is load in inr (ring, one.loads, is.name)
+pub log_due : (values : ListValues) (asked : ListRequest) (files : Files) (ring : List RingEntry) (place : ℕ) → IsAskedBy values asked
+    → IsOneLoad files (option_copied asked.filekey) asked.digest (map string_bytes asked.key_files.items) (Ok ring) → IsDueAt values files (Some place) asked.name.now
+log_due values asked files ring place is load = let one = one_load values asked files (Ok ring) is load in (ring, one.loads, is.name)
+
+-- the log has text that is due
+pub words_some : (values : ListValues) (asked : ListRequest) (files : Files) (ring : List RingEntry) → IsAskedBy values asked
+    → IsOneLoad files (option_copied asked.filekey) asked.digest (map string_bytes asked.key_files.items) (Ok ring)
+    → PrintsSome (IsLogListing asked.is_hex ring (files asked.name.now)) → PrintsSome (IsWordsListing values files)
+words_some values asked files ring is load prints =
+    let one = one_load values asked files (Ok ring) is load in
+    let keyed : IsLogListing (asks_hex values) ring (files (log_name_of values)) prints.listing =
+    subst (λ (h : Bool). IsLogListing h ring (files (log_name_of values)) prints.listing) is.hex
+    (subst (λ (n : List ℕ). IsLogListing asked.is_hex ring (files n) prints.listing) is.name prints.is) in
+    record { listing = prints.listing; is = record { keys = Ok ring; loads = one.loads; is = keyed }; some = prints.some }
+
+-- the log is refused
+pub words_refused : (values : ListValues) (asked : ListRequest) (files : Files) (ring : List RingEntry) (fault : BinlogFault) (reached : Option ℕ) (place : ℕ) → IsAskedBy values asked
+    → reached ≡ Some place → IsOneLoad files (option_copied asked.filekey) asked.digest (map string_bytes asked.key_files.items) (Ok ring)
+    → IsRefusedAt ring (files asked.name.now) fault place → IsRefusedAs values files fault reached
+words_refused values asked files ring fault reached place is at load refused =
+    let one = one_load values asked files (Ok ring) is load in
+    subst (IsRefusedAs values files fault) (sym at)
+    (ring, one.loads, subst (λ (n : List ℕ). IsRefusedAt ring (files n) fault place) is.name refused)
 
 -- where no count rose
 not_stopped : (Is : Listing → Type 0) (before now : Option (List ℕ)) (status : ListStatus) → (IsListStop status → ⊥) → ((listing : Listing) → AgreesWith listing before now status → status ≡ listing.status)

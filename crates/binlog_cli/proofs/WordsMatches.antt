@@ -2,11 +2,10 @@
 use Rattle.std.proofs.Common.{◌≡◌, ℕ, true, List, [], String, map, string_bytes, unwrap_or, Option, Result, Ok, Err, IfErr, IsErrAnd, refl, sym, ap, subst, ◌∙◌}
 use Rattle.std.specs.Option.{option_map}
 use Rattle.clap.specs.Words.{App, HasMatchesOf, all_of, first_of, first_value, found_of, is_simple, is_simple_and_free, matched_of, matches_of, raw_values}
-use Rattle.clap.specs.Walk.{Row}
 use Rattle.clap.specs.declared.parser.matches.ArgMatches.{ArgMatches}
 use Rattle.clap.proofs.OnLiterals.{clap_on_literals}
 use Rattle.clap.proofs.WalkLemmas.{first_value-rows, raw_values-rows}
-use Rattle.binlog_cli.specs.Words.{ListValues, list_command, list_values_in}
+use Rattle.binlog_cli.specs.Words.{list_command, list_values_in}
 
 command_is_simple : is_simple list_command ≡ true
 unfolding clap_on_literals

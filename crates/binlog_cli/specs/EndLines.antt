@@ -1,5 +1,5 @@
 -- The line that the program prints on standard error.
-use Rattle.std.specs.Prelude.{ℕ, List, [], ◌++◌, codes}
+use Rattle.std.specs.Prelude.{ℕ, List, [], ◌++◌, codes, Option, Some, None}
 use Rattle.std.specs.Fmt.{decimal}
 use Rattle.key_file.specs.declared.fault.KeyFault.{KeyFault}
 use Rattle.key_file.specs.declared.fault.KeyFault.TheVariants as key
@@ -39,24 +39,38 @@ key_fault_text (key.CipherLength bytes) = codes "CipherLength " ++ decimal bytes
 key_fault_text key.Padding = codes "Padding"
 key_fault_text key.OutOfMemory = codes "OutOfMemory"
 
+-- the place of the log that was reached
+abbrev pub place_text : Option ℕ → List ℕ
+place_text None = []
+place_text (Some place) = codes " at " ++ decimal place
+
+-- the line of a refusal of the log, with its place
+abbrev pub refusal_line : BinlogFault → Option ℕ → List ℕ
+refusal_line fault reached = codes "binlog: log" ++ (place_text reached ++ (codes ": " ++ (log_fault_text fault ++ codes "\n")))
+
 -- the line of a fault of the log, which is named where it is missing
-abbrev pub log_fault_line : BinlogFault → List ℕ → List ℕ
-log_fault_line log.Missing name = codes "binlog: missing " ++ (name ++ codes "\n")
-log_fault_line fault name = codes "binlog: log " ++ (log_fault_text fault ++ codes "\n")
+abbrev pub log_fault_line : BinlogFault → Option ℕ → List ℕ → List ℕ
+log_fault_line log.Missing reached name = codes "binlog: missing " ++ (name ++ codes "\n")
+log_fault_line fault reached name = refusal_line fault reached
+
+-- the line of a fault of a file: of the log, once that was reached
+abbrev pub file_fault_line : Option ℕ → List ℕ → List ℕ
+file_fault_line None name = codes "binlog: file fault in the key files\n"
+file_fault_line (Some place) name = codes "binlog: file fault in " ++ (name ++ codes "\n")
 
 -- the line of a fault of the key files, which are counted from 0
 abbrev pub key_fault_line : LoadFault → List ℕ
 key_fault_line (load.Missing name) = codes "binlog: missing " ++ (name ++ codes "\n")
-key_fault_line load.FileFault = codes "binlog: file fault\n"
+key_fault_line load.FileFault = codes "binlog: file fault in the key files\n"
 key_fault_line (load.KeyFile index fault) = codes "binlog: key file " ++ (decimal index ++ (codes ": " ++ (key_fault_text fault ++ codes "\n")))
 key_fault_line load.OutOfMemory = codes "binlog: out of memory\n"
 
--- the line of a status, the name being the log's
-abbrev pub list_status_line : ListStatus → List ℕ → List ℕ
-list_status_line Done name = []
-list_status_line (Log fault) name = log_fault_line fault name
-list_status_line Usage name = codes "binlog: usage\n"
-list_status_line (Key fault) name = key_fault_line fault
-list_status_line FileFault name = codes "binlog: file fault\n"
-list_status_line OutFault name = codes "binlog: output fault\n"
-list_status_line OutOfMemory name = codes "binlog: out of memory\n"
+-- the line of a status, the place being the one that was reached in the log, and the name the log's
+abbrev pub list_status_line : ListStatus → Option ℕ → List ℕ → List ℕ
+list_status_line Done reached name = []
+list_status_line (Log fault) reached name = log_fault_line fault reached name
+list_status_line Usage reached name = codes "binlog: usage\n"
+list_status_line (Key fault) reached name = key_fault_line fault
+list_status_line FileFault reached name = file_fault_line reached name
+list_status_line OutFault reached name = codes "binlog: output fault\n"
+list_status_line OutOfMemory reached name = codes "binlog: out of memory\n"

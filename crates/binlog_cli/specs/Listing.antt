@@ -1,10 +1,11 @@
 -- What is listed of a binary log.
-use Rattle.std.specs.Prelude.{◌≡◌, ◌⊎◌, ℕ, Bool, List, [], ◌++◌, length, unwrap_or, Option, Result, Ok, Err}
+use Rattle.std.specs.Prelude.{◌≡◌, ◌≢◌, ◌⊎◌, ℕ, ◌+◌, Bool, List, [], ◌∷◌, ◌++◌, length, unwrap_or, Option, Result, Ok, Err}
 use Rattle.std.specs.List.{flat_map}
 use Rattle.io_core.specs.Stream.{IsPartlyGiven, extended}
 use Rattle.key_ring.specs.Ring.{RingEntry}
 use Rattle.binlog_text.specs.Events.{BinlogEvent, Lists}
 use Rattle.binlog_text.specs.declared.fault.BinlogFault.{BinlogFault}
+use Rattle.binlog_text.specs.declared.fault.BinlogFault.TheVariants.{BadMagic, Missing}
 use Rattle.binlog_text.specs.declared.stage.Stage.TheVariants.{Start}
 use Rattle.binlog_cli.specs.EventLines.{end_line, event_lines}
 use Rattle.binlog_cli.specs.Stops.{IsListStop}
@@ -31,6 +32,29 @@ pub record IsLogListing (is_hex : Bool) (ring : List RingEntry) (file : Option (
   pub end : Result (Unit {0}) BinlogFault
   pub lists : Lists ring file Start events end
   pub is : listing ≡ listing_of is_hex (length (unwrap_or file [])) events end
+
+-- a listing of a kind has text
+pub record PrintsSome (Is : Listing → Type 0) : Type 0 where
+  pub listing : Listing
+  pub is : Is listing
+  pub some : listing.text ≢ []
+
+-- where the event behind these begins, or the first one where there are none
+abbrev pub place_behind : ℕ → List BinlogEvent → ℕ
+place_behind first [] = first
+place_behind first (event ∷ events) = place_behind (event.mark.place + length event.bytes) events
+
+-- where a log is refused: at its first byte where it is none, and else where the event begins that is refused
+abbrev pub refused_place : ℕ → BinlogFault → ℕ
+refused_place begins Missing = 0
+refused_place begins BadMagic = 0
+refused_place begins fault = begins
+
+-- The log has these events and then this refusal, which is one of this place.
+pub record IsRefusedAt (ring : List RingEntry) (file : Option (List ℕ)) (fault : BinlogFault) (place : ℕ) : Type 0 where
+  pub events : List BinlogEvent
+  pub lists : Lists ring file Start events (Err fault)
+  pub at : place ≡ refused_place (place_behind 4 events) fault
 
 -- A status, and what was given before it, agree with a listing: either they are its own, or a fault or want of memory came, and
 -- a front of its text was given.

@@ -1,5 +1,5 @@
 -- The words of the command line, as `clap` reads them, and what they ask for.
-use Rattle.std.specs.Prelude.{◌≡◌, ◌≤◌, ◌⊎◌, ◌&&◌, ℕ, Bool, true, false, List, [], ◌∷◌, codes, length, map, nat_le, is_some, String, string_bytes, unwrap_or, vec_len, if◌then◌else◌}
+use Rattle.std.specs.Prelude.{◌≡◌, ◌≤◌, ◌&&◌, ℕ, Bool, true, false, List, [], ◌∷◌, codes, length, map, nat_le, is_some, String, string_bytes, unwrap_or, vec_len, if◌then◌else◌}
 use Rattle.std.specs.Prelude.{Option, Some, None, Result, Ok, Err}
 use Rattle.std.specs.Option.{option_copied}
 use Rattle.std.specs.Str.{bytes_eq}
@@ -12,7 +12,8 @@ use Rattle.key_file.specs.Loaded.{IsDue, LoadsFrom}
 use Rattle.key_file.specs.declared.derivation.KeyDigest.{KeyDigest}
 use Rattle.key_file.specs.declared.derivation.KeyDigest.TheVariants.{Sha1, Sha256}
 use Rattle.key_file.specs.declared.load_fault.LoadFault.{LoadFault}
-use Rattle.binlog_cli.specs.Listing.{IsLogListing, Listing}
+use Rattle.binlog_text.specs.declared.fault.BinlogFault.{BinlogFault}
+use Rattle.binlog_cli.specs.Listing.{IsLogListing, IsRefusedAt, Listing}
 use Rattle.binlog_cli.specs.declared.status.ListStatus.TheVariants.{Key}
 use Rattle.binlog_cli.specs.declared.words.ListRequest.{ListRequest}
 
@@ -104,11 +105,16 @@ pub record IsWordsListing (values : ListValues) (files : Files) (listing : Listi
   pub loads : GivesKeys values files keys
   pub is : IsKeyedListing (asks_hex values) keys (files (log_name_of values)) listing
 
--- a file that is read: one that the key files call for, or, once they gave their keys, the log
-abbrev pub IsDueFile : ListValues → Files → List ℕ → Type 0
-IsDueFile values files due =
-    IsDue files (filekey_of values) (unwrap_or (asked_digest values) Sha1) 0 (key_names_of values) due
-    ⊎ ((ring : List RingEntry) × GivesKeys values files (Ok ring) × (due ≡ log_name_of values))
+-- a file that is read: before the log is reached one that the key files call for, and then, once they gave their keys, the log
+abbrev pub IsDueAt : ListValues → Files → Option ℕ → List ℕ → Type 0
+IsDueAt values files None due = IsDue files (filekey_of values) (unwrap_or (asked_digest values) Sha1) 0 (key_names_of values) due
+IsDueAt values files (Some reached) due = (ring : List RingEntry) × GivesKeys values files (Ok ring) × (due ≡ log_name_of values)
+
+-- The log that the words name is refused, under the keys of the key files that they name, and the refusal is one of the place that
+-- was reached.
+abbrev pub IsRefusedAs : ListValues → Files → BinlogFault → Option ℕ → Type 0
+IsRefusedAs values files fault None = ⊥
+IsRefusedAs values files fault (Some place) = (ring : List RingEntry) × GivesKeys values files (Ok ring) × IsRefusedAt ring (files (log_name_of values)) fault place
 
 -- what is asked for is what the values say
 pub record IsAskedBy (values : ListValues) (asked : ListRequest) : Type 0 where

@@ -1,10 +1,10 @@
 // What the program ends with.
 
-ghost use Rattle.std.specs.Prelude.{◌≡◌, [], IfOk, string_bytes};
+ghost use Rattle.std.specs.Prelude.{◌≡◌, [], None, IfOk, string_bytes};
 ghost use Rattle.binlog_cli.specs.Stops.{list_exit_code};
-ghost use Rattle.binlog_cli.specs.EndLines.{key_fault_text, log_fault_text, list_status_line};
+ghost use Rattle.binlog_cli.specs.EndLines.{file_fault_line, key_fault_text, log_fault_text, list_status_line, place_text, refusal_line};
 
-use crate::ListStatus;
+use crate::{ListOutcome, ListStatus};
 use binlog_text::BinlogFault;
 use key_file::{KeyFault, LoadFault};
 use std::alloc::{AllocError, Global};
@@ -64,24 +64,61 @@ fn key_fault_text(alloc: Global, fault: KeyFault) -> Result<String, AllocError>
     }
 }
 
-// The line of a fault of a log.
-fn log_line(alloc: Global, fault: BinlogFault, name: &str) -> Result<String, AllocError>
-    ensures { IfOk result (λ line. string_bytes line ≡ list_status_line (ListStatus.Log fault) name.now) }
+// The place of the log that was reached.
+fn place_text(alloc: Global, reached: Option<u64>) -> Result<String, AllocError>
+    ensures { IfOk result (λ text. string_bytes text ≡ place_text reached) }
+{
+    match reached {
+        Some(place) => format!(in alloc; " at {place}"),
+        None => Ok(String::new(alloc)),
+    }
+}
+
+// The line of a refusal of a log.
+fn refusal_line(
+    alloc: Global,
+    fault: BinlogFault,
+    reached: Option<u64>,
+) -> Result<String, AllocError>
+    ensures { IfOk result (λ line. string_bytes line ≡ refusal_line fault reached) }
+{
+    let place = place_text(alloc, reached)?;
+    let text = log_fault_text(alloc, fault)?;
+    format!(in alloc; "binlog: log{place}: {text}\n")
+}
+
+// The line of a fault of a log, which is named where it is missing.
+fn log_line(
+    alloc: Global,
+    fault: BinlogFault,
+    reached: Option<u64>,
+    name: &str,
+) -> Result<String, AllocError>
+    ensures { IfOk result (λ line. string_bytes line ≡ list_status_line (ListStatus.Log fault) reached name.now) }
 {
     if let BinlogFault::Missing = fault {
         return format!(in alloc; "binlog: missing {name}\n");
     }
-    let text = log_fault_text(alloc, fault)?;
-    format!(in alloc; "binlog: log {text}\n")
+    refusal_line(alloc, fault, reached)
+}
+
+// The line of a fault of a file.
+fn file_line(alloc: Global, reached: Option<u64>, name: &str) -> Result<String, AllocError>
+    ensures { IfOk result (λ line. string_bytes line ≡ file_fault_line reached name.now) }
+{
+    match reached {
+        Some(_) => format!(in alloc; "binlog: file fault in {name}\n"),
+        None => String::from_str(alloc, "binlog: file fault in the key files\n"),
+    }
 }
 
 // The line of a fault of the key files.
 fn key_line(alloc: Global, fault: &LoadFault) -> Result<String, AllocError>
-    ensures { IfOk result (λ line. string_bytes line ≡ list_status_line (ListStatus.Key fault.now) []) }
+    ensures { IfOk result (λ line. string_bytes line ≡ list_status_line (ListStatus.Key fault.now) None []) }
 {
     match fault {
         LoadFault::Missing(name) => format!(in alloc; "binlog: missing {name}\n"),
-        LoadFault::FileFault => String::from_str(alloc, "binlog: file fault\n"),
+        LoadFault::FileFault => String::from_str(alloc, "binlog: file fault in the key files\n"),
         LoadFault::KeyFile { index, fault } => {
             let text = key_fault_text(alloc, *fault)?;
             format!(in alloc; "binlog: key file {index}: {text}\n")
@@ -91,28 +128,33 @@ fn key_line(alloc: Global, fault: &LoadFault) -> Result<String, AllocError>
 }
 
 // The line of a status, `name` being the log's.
-fn status_line(alloc: Global, status: &ListStatus, name: &str) -> Result<String, AllocError>
-    ensures { IfOk result (λ line. string_bytes line ≡ list_status_line status.now name.now) }
+fn status_line(
+    alloc: Global,
+    status: &ListStatus,
+    reached: Option<u64>,
+    name: &str,
+) -> Result<String, AllocError>
+    ensures { IfOk result (λ line. string_bytes line ≡ list_status_line status.now reached name.now) }
 {
     match status {
         ListStatus::Done => Ok(String::new(alloc)),
-        ListStatus::Log(fault) => log_line(alloc, *fault, name),
+        ListStatus::Log(fault) => log_line(alloc, *fault, reached, name),
         ListStatus::Usage => String::from_str(alloc, "binlog: usage\n"),
         ListStatus::Key(fault) => key_line(alloc, fault),
-        ListStatus::FileFault => String::from_str(alloc, "binlog: file fault\n"),
+        ListStatus::FileFault => file_line(alloc, reached, name),
         ListStatus::OutFault => String::from_str(alloc, "binlog: output fault\n"),
         ListStatus::OutOfMemory => String::from_str(alloc, "binlog: out of memory\n"),
     }
 }
 
-/// What a status comes to, `name` being the log's. `Done` has no line.
-pub fn end_with(alloc: Global, status: &ListStatus, name: &str) -> Result<ListEnd, AllocError>
-    ensures number { IfOk result (λ ended. ended.number ≡ list_exit_code status.now) }
-    ensures line { IfOk result (λ ended. string_bytes ended.line ≡ list_status_line status.now name.now) }
+/// What an outcome comes to, `name` being the log's. `Done` has no line.
+pub fn end_with(alloc: Global, outcome: &ListOutcome, name: &str) -> Result<ListEnd, AllocError>
+    ensures number { IfOk result (λ ended. ended.number ≡ list_exit_code outcome.now.status) }
+    ensures line { IfOk result (λ ended. string_bytes ended.line ≡ list_status_line outcome.now.status outcome.now.reached name.now) }
 {
-    let line = status_line(alloc, status, name)?;
+    let line = status_line(alloc, &outcome.status, outcome.reached, name)?;
     Ok(ListEnd {
-        number: status.number(),
+        number: outcome.status.number(),
         line,
     })
 }

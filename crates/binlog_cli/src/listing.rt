@@ -1,17 +1,17 @@
 // The listing of one log.
 
-ghost use Rattle.std.specs.Prelude.{◌≡◌, ◌≢◌, ◌⊎◌, ◌++◌, ℕ, List, Ok, Err, Option, IfErr, IsErrAnd, IsErrOf, MatchResult, string_bytes};
+ghost use Rattle.std.specs.Prelude.{◌≡◌, ◌≢◌, ◌⊎◌, ◌++◌, [], ℕ, List, Ok, Err, Option, IfErr, IsErrAnd, IsErrOf, MatchResult, string_bytes};
 ghost use Rattle.io_core.specs.Told.{Told};
 ghost use Rattle.io_core.specs.Stream.{IsPartlyGiven, extended};
 ghost use Rattle.binlog_cli.specs.EventLines.{end_line};
 ghost use Rattle.binlog_cli.specs.Printed.{IsPrinted};
-ghost use Rattle.binlog_cli.specs.Listing.{HasLogListing};
+ghost use Rattle.binlog_cli.specs.Listing.{HasLogListing, IsLogListing, IsRefusedAt, PrintsSome};
 ghost use Rattle.binlog_cli.specs.Stops.{FileCauses, IsListStop, IsLogStop, PrintCauses, list_status_of, log_stop};
 
 use crate::ListStatus;
 use crate::lines::{end_line, event_lines};
 use crate::printing::{give_text, print_lines};
-use crate::status::log_stop;
+use crate::status::{log_stop, refused_place};
 use binlog_text::{BinlogFault, LogReader};
 use io_core::{Library, Sink};
 use key_ring::Ring;
@@ -44,12 +44,14 @@ fn end_by_fault<K: Sink>(text: &str, fault: BinlogFault, out: &mut K) -> Result<
         → ((result ≡ Err (log_stop fault)) × (K.given out.new ≡ extended front before)) ⊎ (IsErrAnd result IsListStop × IsPartlyGiven front before (K.given out.new)) }
     ensures answer { (result ≡ Err (log_stop fault)) ⊎ (result ≡ Err ListStatus.OutFault) ⊎ (result ≡ Err ListStatus.OutOfMemory) }
     ensures cause { PrintCauses (K.faults out.old) (K.faults out.new) result }
+    ensures some { result ≡ Err ListStatus.OutFault → text.now ≢ [] }
 {
     give_text(out, text)?;
     Err(log_stop(fault))
 }
 
-/// Lists the events of the log of a name, with their bytes where `is_hex` says so.
+/// Lists the events of the log of a name, with their bytes where `is_hex` says so. `reached` becomes the
+/// place of the event that is due at the end, or of the refusal.
 ///
 /// # Errors
 /// `Log`, `FileFault`, `OutFault`, `OutOfMemory`.
@@ -60,6 +62,7 @@ pub(crate) fn list_log<L: Library, K: Sink>(
     ring: &Ring,
     files: &mut L,
     out: &mut K,
+    reached: &mut u64,
 ) -> Result<(), ListStatus>
     ensures answer { Told (λ fs. HasLogListing is_hex ring.now (fs name.now) (K.given out.old) (K.given out.new) (list_status_of result)) (L.files files.old) }
     ensures stop { IfErr result IsLogStop }
@@ -67,19 +70,24 @@ pub(crate) fn list_log<L: Library, K: Sink>(
     ensures library { FileCauses (L.faults files.old) (L.faults files.new) (L.absences files.old) (L.absences files.new) result }
     ensures sink { PrintCauses (K.faults out.old) (K.faults out.new) result }
     ensures due { IsErrOf result ListStatus.FileFault → L.failed_last files.new name.now }
+    ensures some { result ≡ Err ListStatus.OutFault → Told (λ fs. PrintsSome (IsLogListing is_hex ring.now (fs name.now))) (L.files files.old) }
+    ensures refused { (fault : BinlogFault) → result ≡ Err (ListStatus.Log fault) → Told (λ fs. IsRefusedAt ring.now (fs name.now) fault reached.new) (L.files files.old) }
 {
     let mut reader = LogReader::new(alloc);
     let mut text = String::new(alloc);
-    let mut end = FIRST_EVENT;
+    *reached = FIRST_EVENT;
     'events: loop {
         match reader.next(files, name, ring) {
             Ok(Some(view)) => {
-                end = view.end();
+                *reached = view.end();
                 let lines = event_lines(alloc, &view, is_hex)?;
                 print_lines(&mut text, lines.as_str(), out)?;
             }
-            Ok(None) => return end_of_log(alloc, &mut text, end, out),
-            Err(fault) => return end_by_fault(text.as_str(), fault, out),
+            Ok(None) => return end_of_log(alloc, &mut text, *reached, out),
+            Err(fault) => {
+                *reached = refused_place(*reached, fault);
+                return end_by_fault(text.as_str(), fault, out);
+            }
         }
     }
 }

@@ -12,14 +12,18 @@ use io_core::Sink;
 /// As many bytes of text are gathered before they are given.
 const GATHERED: usize = 65_536;
 
-/// Gives a text to the sink.
+/// Gives a text to the sink, which isn't called for an empty one.
 pub(crate) fn give_text<K: Sink>(out: &mut K, text: &str) -> Result<(), ListStatus>
     ensures ok { OnOk result (K.given out.new ≡ extended text.now (K.given out.old)) }
     ensures err { OnErr result (IsPartlyGiven text.now (K.given out.old) (K.given out.new)) }
     ensures stop { IfErr result IsListStop }
     ensures cause { PrintCauses (K.faults out.old) (K.faults out.new) result }
     ensures inside { result ≢ Err ListStatus.FileFault }
+    ensures some { result ≡ Err ListStatus.OutFault → text.now ≢ [] }
 {
+    if text.is_empty() {
+        return Ok(());
+    }
     match out.give(text.as_bytes()) {
         Ok(()) => Ok(()),
         Err(e) => Err(print_stop(e)),
@@ -38,6 +42,7 @@ pub(crate) fn print_lines<K: Sink>(
     ensures stop { IfErr result IsListStop }
     ensures cause { PrintCauses (K.faults out.old) (K.faults out.new) result }
     ensures inside { result ≢ Err ListStatus.FileFault }
+    ensures some { result ≡ Err ListStatus.OutFault → string_bytes text.old ++ lines.now ≢ [] }
 {
     text.push_str(lines)?;
     if text.len() < GATHERED {

@@ -1,6 +1,7 @@
 // How a listing ends.
 
 ghost use Rattle.std.specs.Prelude.{◌≡◌};
+ghost use Rattle.binlog_cli.specs.Listing.{refused_place};
 ghost use Rattle.binlog_cli.specs.Stops.{key_stop, list_exit_code, log_stop, print_stop};
 
 use binlog_text::BinlogFault;
@@ -25,6 +26,17 @@ pub enum ListStatus {
     OutFault,
     /// The machine had no memory.
     OutOfMemory,
+}
+
+/// How a listing ends, and how far it came.
+#[derive(Debug, Drop)]
+pub struct ListOutcome {
+    /// How it ends.
+    pub status: ListStatus,
+    /// Where the event begins in the log that was due when it ended, in bytes from the file's beginning:
+    /// the one that is refused, or 0 where the file is no binary log. None where the log wasn't
+    /// reached.
+    pub reached: Option<u64>,
 }
 
 impl From<AllocError> for ListStatus {
@@ -53,6 +65,24 @@ pub(crate) fn log_stop(fault: BinlogFault) -> ListStatus
         | BinlogFault::Scheme(_)
         | BinlogFault::MissingKey { .. }
         | BinlogFault::Checksum { .. } => ListStatus::Log(fault),
+    }
+}
+
+/// Where a log is refused, the event that is due beginning at a place.
+pub(crate) fn refused_place(begins: u64, fault: BinlogFault) -> u64
+    ensures { result ≡ refused_place begins fault }
+{
+    match fault {
+        BinlogFault::Missing | BinlogFault::BadMagic => 0,
+        BinlogFault::FileFault
+        | BinlogFault::OutOfMemory
+        | BinlogFault::ShortEvent { .. }
+        | BinlogFault::BadLength { .. }
+        | BinlogFault::NoFormat { .. }
+        | BinlogFault::Algorithm(_)
+        | BinlogFault::Scheme(_)
+        | BinlogFault::MissingKey { .. }
+        | BinlogFault::Checksum { .. } => begins,
     }
 }
 

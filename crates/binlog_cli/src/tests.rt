@@ -1,7 +1,7 @@
 // A small ciphered log: its listing, what damage to it and other words give, and each call of the outside
 // failing in turn.
 
-use crate::{ListStatus, binlog, end_with, read_words};
+use crate::{ListOutcome, ListStatus, binlog, end_with, list_binlog, read_words};
 use aes_core::BlockKey;
 use binlog_text::{BinlogFault, encipher_event};
 use bytes_core::crc32;
@@ -98,8 +98,8 @@ fn run(
     let words = words_of(alloc, line)?;
     let mut shelf = shelf_of(alloc, log, failing[0])?;
     let mut out = ByteSink::new(alloc, vec![in alloc; failing[1]]?);
-    let status = binlog(alloc, &words, &mut shelf, &mut out);
-    let ended = end_with(alloc, &status, "log")?;
+    let outcome = list_binlog(alloc, &words, &mut shelf, &mut out);
+    let ended = end_with(alloc, &outcome, "log")?;
     Ok((
         ended.number,
         ended.line,
@@ -114,7 +114,7 @@ fn a_ciphered_log_is_listed(rt: HostRuntime) -> Result<(), Fail> {
     let table = [
         ("--key-file keys1 log", 0, "", WHOLE),
         ("log --key-file=keys1 --digest sha256", 0, "", WHOLE),
-        ("log", 1, "binlog: log MissingKey 1\n", TWO),
+        ("log", 1, "binlog: log at 289: MissingKey 1\n", TWO),
         ("none", 1, "binlog: missing log\n", ""),
         ("log --key-file none", 3, "binlog: missing none\n", ""),
         (
@@ -186,13 +186,18 @@ fn a_log_of_many_pieces_is_listed(rt: HostRuntime) -> Result<(), Fail> {
 fn a_damaged_log_is_listed_up_to_the_damage(rt: HostRuntime) -> Result<(), Fail> {
     let alloc = rt.alloc();
     let table = [
-        (300, 999, "binlog: log ShortEvent 289 19 11\n", TWO),
-        (260, 999, "binlog: log ShortEvent 249 19 11\n", FIRST),
-        (311, 999, "binlog: log ShortEvent 289 23 22\n", TWO),
-        (312, 0, "binlog: log BadMagic\n", ""),
-        (312, 8, "binlog: log NoFormat 240\n", ""),
-        (312, 244, "binlog: log Algorithm 254\n", ""),
-        (0, 999, "binlog: log BadMagic\n", ""),
+        (300, 999, "binlog: log at 289: ShortEvent 289 19 11\n", TWO),
+        (
+            260,
+            999,
+            "binlog: log at 249: ShortEvent 249 19 11\n",
+            FIRST,
+        ),
+        (311, 999, "binlog: log at 289: ShortEvent 289 23 22\n", TWO),
+        (312, 0, "binlog: log at 0: BadMagic\n", ""),
+        (312, 8, "binlog: log at 4: NoFormat 240\n", ""),
+        (312, 244, "binlog: log at 4: Algorithm 254\n", ""),
+        (0, 999, "binlog: log at 0: BadMagic\n", ""),
     ];
     for (length, inverted, line, text) in table {
         let log = damaged_log(alloc, length, inverted)?;
@@ -201,6 +206,16 @@ fn a_damaged_log_is_listed_up_to_the_damage(rt: HostRuntime) -> Result<(), Fail>
         assert_eq!(rt; said.as_str(), line, "{length} {inverted}");
         assert_eq!(rt; listed.as_slice(), text.as_bytes(), "{length} {inverted}");
     }
+    Ok(())
+}
+
+#[test]
+fn a_log_with_no_event_gives_nothing(rt: HostRuntime) -> Result<(), Fail> {
+    let alloc = rt.alloc();
+    let log = damaged_log(alloc, 312, 8)?;
+    let (ended, said, _) = run(alloc, &log, "log", [0, 1])?;
+    assert_eq!(rt; ended, 1);
+    assert_eq!(rt; said.as_str(), "binlog: log at 4: NoFormat 240\n");
     Ok(())
 }
 
@@ -257,10 +272,10 @@ fn each_call_of_the_outside_fails_in_turn(rt: HostRuntime) -> Result<(), Fail> {
     let alloc = rt.alloc();
     let log = small_log(alloc)?;
     let table = [
-        ([1, 0], 7, "binlog: file fault\n", ""),
-        ([2, 0], 7, "binlog: file fault\n", ""),
-        ([3, 0], 7, "binlog: file fault\n", ""),
-        ([4, 0], 7, "binlog: file fault\n", ""),
+        ([1, 0], 7, "binlog: file fault in the key files\n", ""),
+        ([2, 0], 7, "binlog: file fault in the key files\n", ""),
+        ([3, 0], 7, "binlog: file fault in log\n", ""),
+        ([4, 0], 7, "binlog: file fault in log\n", ""),
         ([5, 0], 0, "", WHOLE),
         ([0, 1], 7, "binlog: output fault\n", ""),
         ([0, 2], 0, "", WHOLE),
@@ -278,33 +293,42 @@ fn each_call_of_the_outside_fails_in_turn(rt: HostRuntime) -> Result<(), Fail> {
 fn a_status_has_its_number_and_line(rt: HostRuntime) -> Result<(), Fail> {
     let alloc = rt.alloc();
     let table = [
-        (ListStatus::Done, 0, ""),
+        (ListStatus::Done, Some(312), 0, ""),
         (
             ListStatus::Log(BinlogFault::BadLength { at: 4, length: 18 }),
+            Some(4),
             1,
-            "binlog: log BadLength 4 18\n",
+            "binlog: log at 4: BadLength 4 18\n",
         ),
         (
             ListStatus::Log(BinlogFault::Scheme(2)),
+            Some(249),
             1,
-            "binlog: log Scheme 2\n",
+            "binlog: log at 249: Scheme 2\n",
         ),
         (
             ListStatus::Key(LoadFault::KeyFile {
                 index: 3,
                 fault: KeyFault::KeyLength(2, 31),
             }),
+            None,
             3,
             "binlog: key file 3: KeyLength 2 31\n",
         ),
-        (ListStatus::FileFault, 7, "binlog: file fault\n"),
-        (ListStatus::OutFault, 7, "binlog: output fault\n"),
-        (ListStatus::OutOfMemory, 8, "binlog: out of memory\n"),
+        (
+            ListStatus::FileFault,
+            Some(4),
+            7,
+            "binlog: file fault in log\n",
+        ),
+        (ListStatus::OutFault, Some(4), 7, "binlog: output fault\n"),
+        (ListStatus::OutOfMemory, None, 8, "binlog: out of memory\n"),
     ];
-    for (status, number, line) in &table {
-        let ended = end_with(alloc, status, "log")?;
-        assert_eq!(rt; ended.number, *number);
-        assert_eq!(rt; ended.line.as_str(), *line);
+    for (status, reached, number, line) in table {
+        let outcome = ListOutcome { status, reached };
+        let ended = end_with(alloc, &outcome, "log")?;
+        assert_eq!(rt; ended.number, number);
+        assert_eq!(rt; ended.line.as_str(), line);
     }
     Ok(())
 }

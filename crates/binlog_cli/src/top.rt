@@ -1,63 +1,130 @@
 // The whole tool, from its words on.
 
-ghost use Rattle.std.specs.Prelude.{◌≡◌, ◌≢◌, ◌≤◌, ◌⊎◌, ℕ, List, [], Err, IfErr, map, string_bytes, true, false, vec_len};
+ghost use Rattle.std.specs.Prelude.{◌≡◌, ◌≢◌, ◌≤◌, ◌⊎◌, ℕ, List, [], Ok, Err, Some, None, Option, map, string_bytes, true, false, vec_len};
 ghost use Rattle.cause_core.specs.Counts.{Rose};
 ghost use Rattle.io_core.specs.Told.{Told};
 ghost use Rattle.clap.specs.Words.{fault_of, kind_of, takes};
-ghost use Rattle.binlog_cli.specs.Listing.{IsOnlyListing, Listing, ListsOne};
-ghost use Rattle.binlog_cli.specs.Stops.{FileCauses, PrintCauses, list_status_of};
-ghost use Rattle.binlog_cli.specs.Words.{IsAskedBy, IsDueFile, IsWordsListing, ListValues, is_within_limits, list_command, list_values_in};
+ghost use Rattle.binlog_cli.specs.Listing.{HasLogListing, IsLogListing, IsOnlyListing, IsRefusedAt, Listing, ListsOne, PrintsSome};
+ghost use Rattle.binlog_cli.specs.Stops.{FileCauses, PrintCauses};
+ghost use Rattle.binlog_cli.specs.Words.{IsAskedBy, IsDueAt, IsRefusedAs, IsWordsListing, ListValues, is_within_limits, list_command, list_values_in};
 
 use crate::keys::load_ring;
 use crate::listing::list_log;
-use crate::{ListRequest, ListStatus, read_words};
+use crate::{ListOutcome, ListRequest, ListStatus, read_words};
+use binlog_text::BinlogFault;
 use clap::Error;
 use clap::error::ErrorKind;
 use io_core::{Library, Sink};
+use key_ring::Ring;
 use std::alloc::Global;
 
-// Loads the keys, and lists the log.
-fn list_files<L: Library, K: Sink>(
+// Lists the log under the keys of a ring.
+fn list_keyed<L: Library, K: Sink>(
     alloc: Global,
     asked: &ListRequest<'_>,
+    ring: &Ring,
     files: &mut L,
     out: &mut K,
-) -> Result<(), ListStatus>
-    requires { vec_len asked.now.key_files ≤ 64 }
-    ensures answer { (values : ListValues) → IsAskedBy values asked.now → Told (λ fs. ListsOne (IsWordsListing values fs) (K.given out.old) (K.given out.new) (list_status_of result)) (L.files files.old) }
+) -> ListOutcome
+    ensures answer { Told (λ fs. HasLogListing asked.now.is_hex ring.now (fs asked.now.name.now) (K.given out.old) (K.given out.new) result.status) (L.files files.old) }
+    ensures words { result.status ≢ ListStatus.Usage }
     ensures same { L.files files.new ≡ L.files files.old }
-    ensures library { FileCauses (L.faults files.old) (L.faults files.new) (L.absences files.old) (L.absences files.new) result }
-    ensures sink { PrintCauses (K.faults out.old) (K.faults out.new) result }
-    ensures due { (values : ListValues) → IsAskedBy values asked.now → result ≡ Err ListStatus.FileFault → Told (λ fs. (due : List ℕ) × IsDueFile values fs due × L.failed_last files.new due) (L.files files.old) }
-    ensures words { result ≢ Err ListStatus.Usage }
+    ensures library { FileCauses {T = Unit {0}} (L.faults files.old) (L.faults files.new) (L.absences files.old) (L.absences files.new) (Err result.status) }
+    ensures sink { PrintCauses {T = Unit {0}} (K.faults out.old) (K.faults out.new) (Err result.status) }
+    ensures due { result.status ≡ ListStatus.FileFault → L.failed_last files.new asked.now.name.now }
+    ensures some { result.status ≡ ListStatus.OutFault → Told (λ fs. PrintsSome (IsLogListing asked.now.is_hex ring.now (fs asked.now.name.now))) (L.files files.old) }
+    ensures reached { (place : ℕ) × (result.reached ≡ Some place) × ((fault : BinlogFault) → result.status ≡ ListStatus.Log fault → Told (λ fs. IsRefusedAt ring.now (fs asked.now.name.now) fault place) (L.files files.old)) }
 {
-    let ring = load_ring(alloc, asked, files)?;
-    list_log(alloc, asked.is_hex, asked.name, &ring, files, out)
+    let mut reached = 0;
+    match list_log(
+        alloc,
+        asked.is_hex,
+        asked.name,
+        ring,
+        files,
+        out,
+        &mut reached,
+    ) {
+        Ok(()) => ListOutcome {
+            status: ListStatus::Done,
+            reached: Some(reached),
+        },
+        Err(status) => ListOutcome {
+            status,
+            reached: Some(reached),
+        },
+    }
 }
 
-// The same, and how it ended.
+// Loads the keys, and lists the log.
 fn list_asked<L: Library, K: Sink>(
     alloc: Global,
     asked: &ListRequest<'_>,
     files: &mut L,
     out: &mut K,
-) -> ListStatus
+) -> ListOutcome
     requires { vec_len asked.now.key_files ≤ 64 }
-    ensures answer { (values : ListValues) → IsAskedBy values asked.now → Told (λ fs. ListsOne (IsWordsListing values fs) (K.given out.old) (K.given out.new) result) (L.files files.old) }
+    ensures answer { (values : ListValues) → IsAskedBy values asked.now → Told (λ fs. ListsOne (IsWordsListing values fs) (K.given out.old) (K.given out.new) result.status) (L.files files.old) }
     ensures same { L.files files.new ≡ L.files files.old }
-    ensures library { FileCauses {T = Unit {0}} (L.faults files.old) (L.faults files.new) (L.absences files.old) (L.absences files.new) (Err result) }
-    ensures sink { PrintCauses {T = Unit {0}} (K.faults out.old) (K.faults out.new) (Err result) }
-    ensures due { (values : ListValues) → IsAskedBy values asked.now → result ≡ ListStatus.FileFault → Told (λ fs. (due : List ℕ) × IsDueFile values fs due × L.failed_last files.new due) (L.files files.old) }
-    ensures words { result ≢ ListStatus.Usage }
+    ensures library { FileCauses {T = Unit {0}} (L.faults files.old) (L.faults files.new) (L.absences files.old) (L.absences files.new) (Err result.status) }
+    ensures sink { PrintCauses {T = Unit {0}} (K.faults out.old) (K.faults out.new) (Err result.status) }
+    ensures due { (values : ListValues) → IsAskedBy values asked.now → result.status ≡ ListStatus.FileFault → Told (λ fs. (due : List ℕ) × IsDueAt values fs result.reached due × L.failed_last files.new due) (L.files files.old) }
+    ensures some { (values : ListValues) → IsAskedBy values asked.now → result.status ≡ ListStatus.OutFault → Told (λ fs. PrintsSome (IsWordsListing values fs)) (L.files files.old) }
+    ensures refused { (values : ListValues) → IsAskedBy values asked.now → (fault : BinlogFault) → result.status ≡ ListStatus.Log fault → Told (λ fs. IsRefusedAs values fs fault result.reached) (L.files files.old) }
+    ensures words { result.status ≢ ListStatus.Usage }
 {
-    match list_files(alloc, asked, files, out) {
-        Ok(()) => ListStatus::Done,
-        Err(status) => status,
+    match load_ring(alloc, asked, files) {
+        Ok(ring) => list_keyed(alloc, asked, &ring, files, out),
+        Err(status) => ListOutcome {
+            status,
+            reached: None,
+        },
     }
 }
 
 /// Lists the events of the log that the words name, under the keys of the key files that they name, and
-/// prints as it goes. The words come without the program's name.
+/// prints as it goes. The words come without the program's name. Beside its status it answers how far
+/// the log was reached.
+pub fn list_binlog<L: Library, K: Sink>(
+    alloc: Global,
+    words: &[String],
+    files: &mut L,
+    out: &mut K,
+) -> ListOutcome
+    // `Usage` comes only for words that the command doesn't take, or that are beyond the limits.
+    ensures usage { takes list_command (map string_bytes words.now) ≡ true → is_within_limits (list_values_in words.now) ≡ true → result.status ≢ ListStatus.Usage }
+    // Words in which `clap` finds a fault, a call for help among them, are answered so.
+    ensures untaken { fault_of list_command (map string_bytes words.now) ≢ [] → (result.status ≡ ListStatus.Usage) ⊎ (result.status ≡ ListStatus.OutOfMemory) }
+    // And so are a digest of another name, and more than 64 key files.
+    ensures beyond { is_within_limits (list_values_in words.now) ≡ false → (result.status ≡ ListStatus.Usage) ⊎ (result.status ≡ ListStatus.OutOfMemory) }
+    // The status is the one listing's and its text was given; or a fault or want of memory came after a front of it.
+    ensures answer { result.status ≢ ListStatus.Usage → Told (λ fs. ListsOne (IsWordsListing (list_values_in words.now) fs) (K.given out.old) (K.given out.new) result.status) (L.files files.old) }
+    // Words that are taken, and no count that rose: the status is the listing's, or memory was refused.
+    ensures complete { takes list_command (map string_bytes words.now) ≡ true → is_within_limits (list_values_in words.now) ≡ true → Told (λ fs.
+        ¬ Rose (L.faults files.old) (L.faults files.new) → ¬ Rose (K.faults out.old) (K.faults out.new)
+        → (result.status ≡ ListStatus.OutOfMemory) ⊎ ((listing : Listing) × IsOnlyListing (IsWordsListing (list_values_in words.now) fs) listing × (result.status ≡ listing.status))) (L.files files.old) }
+    // For words that aren't taken nothing is given.
+    ensures silent { result.status ≡ ListStatus.Usage → K.given out.new ≡ K.given out.old }
+    ensures same { L.files files.new ≡ L.files files.old }
+    ensures library { FileCauses {T = Unit {0}} (L.faults files.old) (L.faults files.new) (L.absences files.old) (L.absences files.new) (Err result.status) }
+    ensures sink { PrintCauses {T = Unit {0}} (K.faults out.old) (K.faults out.new) (Err result.status) }
+    // A fault of the library is that of a file that was due.
+    ensures due { result.status ≡ ListStatus.FileFault → Told (λ fs. (due : List ℕ) × IsDueAt (list_values_in words.now) fs result.reached due × L.failed_last files.new due) (L.files files.old) }
+    // A fault of the output comes only where the listing has text.
+    ensures some { result.status ≡ ListStatus.OutFault → Told (λ fs. PrintsSome (IsWordsListing (list_values_in words.now) fs)) (L.files files.old) }
+    // A refusal of the log has the place of the event that is refused.
+    ensures refused { (fault : BinlogFault) → result.status ≡ ListStatus.Log fault → Told (λ fs. IsRefusedAs (list_values_in words.now) fs fault result.reached) (L.files files.old) }
+{
+    match read_words(alloc, words) {
+        Ok(asked) => list_asked(alloc, &asked, files, out),
+        Err(e) => ListOutcome {
+            status: refused(&e),
+            reached: None,
+        },
+    }
+}
+
+/// As [`list_binlog`], and its status alone.
 pub fn binlog<L: Library, K: Sink>(
     alloc: Global,
     words: &[String],
@@ -82,12 +149,12 @@ pub fn binlog<L: Library, K: Sink>(
     ensures library { FileCauses {T = Unit {0}} (L.faults files.old) (L.faults files.new) (L.absences files.old) (L.absences files.new) (Err result) }
     ensures sink { PrintCauses {T = Unit {0}} (K.faults out.old) (K.faults out.new) (Err result) }
     // A fault of the library is that of a file that was due.
-    ensures due { result ≡ ListStatus.FileFault → Told (λ fs. (due : List ℕ) × IsDueFile (list_values_in words.now) fs due × L.failed_last files.new due) (L.files files.old) }
+    ensures due { result ≡ ListStatus.FileFault → Told (λ fs. (reached : Option ℕ) × (due : List ℕ) × IsDueAt (list_values_in words.now) fs reached due × L.failed_last files.new due) (L.files files.old) }
+    // A fault of the output comes only where the listing has text.
+    ensures some { result ≡ ListStatus.OutFault → Told (λ fs. PrintsSome (IsWordsListing (list_values_in words.now) fs)) (L.files files.old) }
 {
-    match read_words(alloc, words) {
-        Ok(asked) => list_asked(alloc, &asked, files, out),
-        Err(e) => refused(&e),
-    }
+    let outcome = list_binlog(alloc, words, files, out);
+    outcome.status
 }
 
 // What a parse that gave no matches ends with.

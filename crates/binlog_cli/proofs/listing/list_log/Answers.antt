@@ -1,26 +1,27 @@
-use Rattle.std.proofs.Common.{◌≡◌, ◌≤◌, ◌+◌, ℕ, List, ◌++◌, length, IsErrAnd, rules, refl, sym, ap, subst, ◌∙◌, arith, string_bytes, Some, None, Ok, Err}
-use Rattle.io_core.specs.Files.{Files}
+use Rattle.std.proofs.Common.{◌≡◌, ◌≢◌, ℕ, List, [], ◌++◌, IsErrAnd, rules, refl, sym, ap, subst, ◌∙◌, arith, string_bytes, Ok}
 use Rattle.io_core.specs.Told.{Told}
 use Rattle.io_core.specs.Stream.{IsPartlyGiven}
 use Rattle.binlog_text.specs.Reading.{Keeps, StandsAt, viewed}
+use Rattle.binlog_text.specs.declared.fault.BinlogFault.{BinlogFault}
 use Rattle.binlog_text.specs.declared.stage.Stage.{Stage}
 use Rattle.binlog_text.specs.declared.stage.Stage.TheVariants.{Start}
 use Rattle.binlog_text.specs.Views.{event_of}
 use Rattle.binlog_cli.specs.EventLines.{event_lines}
 use Rattle.binlog_cli.specs.Printed.{IsPrinted}
 use Rattle.binlog_cli.specs.Stops.{IsListStop}
-use Rattle.binlog_cli.specs.Listing.{lines_of_events}
+use Rattle.binlog_cli.specs.Listing.{IsRefusedAt, lines_of_events}
+use Rattle.binlog_cli.specs.declared.status.ListStatus.TheVariants.{OutFault}
 use Rattle.binlog_cli.proofs.Gathered.{gathered_part}
-use Rattle.binlog_cli.proofs.SoFar.{SoFar, end_length, events_end, events_fault, events_partly, so_far_none}
-use Rattle.binlog_cli.proofs.Answered.{answer_err, answer_none, partly_event, so_far_event, stands_behind}
+use Rattle.binlog_cli.proofs.SoFar.{SoFar, end_length, end_some, events_end, events_fault, events_partly, events_some, fault_answered, gathered_some, handed_err, more_some, refused_behind, so_far_none}
+use Rattle.binlog_cli.proofs.Answered.{answer_err, answer_none, partly_event, so_far_event, some_event, stands_behind}
 use Rattle.binlog_cli.proofs.listing.list_log.Goals as goal
 
 pub events-init : goal.events-init
 events-init g c = record {
   so_far =
-      subst (λ (s : Stage). Told (λ fs. SoFar c.args.is_hex c.args.ring.now (fs c.args.name.now) s (g.K.Sink.given c.args.out.now) (g.K.Sink.given c.args.out.now) (string_bytes c.new-text.result)) (g.L.Library.files c.args.files.now))
+      subst (λ (s : Stage). Told (λ fs. SoFar c.args.is_hex c.args.ring.now (fs c.args.name.now) s 4 (g.K.Sink.given c.args.out.now) (g.K.Sink.given c.args.out.now) (string_bytes c.new-text.result)) (g.L.Library.files c.args.files.now))
       (sym c.new-reader.ensures.stage)
-      (subst (λ (t : List ℕ). Told (λ fs. SoFar c.args.is_hex c.args.ring.now (fs c.args.name.now) Start (g.K.Sink.given c.args.out.now) (g.K.Sink.given c.args.out.now) t) (g.L.Library.files c.args.files.now))
+      (subst (λ (t : List ℕ). Told (λ fs. SoFar c.args.is_hex c.args.ring.now (fs c.args.name.now) Start 4 (g.K.Sink.given c.args.out.now) (g.K.Sink.given c.args.out.now) t) (g.L.Library.files c.args.files.now))
       (sym c.new-text.ensures.bytes)
       (record { here = λ fs is. so_far_none c.args.is_hex c.args.ring.now (fs c.args.name.now) (g.K.Sink.given c.args.out.now) }));
   keeps =
@@ -51,7 +52,7 @@ returns-in_err-print_lines-in-Ok-Some-clause-answer g c =
           let so_far = c.events.invariant.so_far.here fs is in
           let answer = ap viewed (c.in-Ok-Some.is ∙ ap Ok c.in-Ok-Some.field-0-is) in
           let lines : c.as_str.result.now ≡ event_lines c.args.is_hex (event_of c.in-Ok-Some.view) = c.as_str.ensures.value ∙ c.in_ok-lines-in-Ok-Some.ensures in
-          partly_event c.args.ring.now _ c.args.name.now c.events.reader _ (viewed c.next.result) c.next.follows.holds-at-none c.args.is_hex (event_of c.in-Ok-Some.view) fs _ _ _ _
+          partly_event c.args.ring.now _ c.args.name.now c.events.reader _ (viewed c.next.result) c.next.follows.holds-at-none c.args.is_hex (event_of c.in-Ok-Some.view) fs _ _ _ _ _
           c.from_residual-in_err-print_lines-in-Ok-Some.result answer (c.events.invariant.same ∙ is) so_far
           (subst (λ (t : List ℕ). IsPartlyGiven (lines_of_events c.args.is_hex so_far.events ++ t) (g.K.Sink.given c.args.out.now) (g.K.Sink.given c.print_lines.new.out)) lines
           (c.in_err-print_lines-in-Ok-Some.ensures.printed _ (lines_of_events c.args.is_hex so_far.events) so_far.printed)) stop;
@@ -64,8 +65,8 @@ returns-in-Ok-None-clause-answer g c = record {
       let answer = ap viewed (c.in-Ok-None.is ∙ ap Ok c.in-Ok-None.field-0-is) in
       let none = answer_none c.args.ring.now _ c.args.name.now c.events.reader _ (viewed c.next.result) c.next.follows.holds-at-none answer fs (c.events.invariant.same ∙ is) in
       let keeps = c.events.invariant.keeps.here fs is in
-      let size = end_length c.args.ring.now (fs c.args.name.now) c.events.reader.stage c.events.end c.events.reader.buffer.rest c.events.invariant.stands keeps none in
-      events_end c.args.is_hex c.args.ring.now (fs c.args.name.now) c.events.reader.stage so_far.events c.events.end _ _ c.end_of_log.result so_far.read none size
+      let size = end_length c.args.ring.now (fs c.args.name.now) c.events.reader.stage c.events.reached c.events.reader.buffer.rest c.events.invariant.stands keeps none in
+      events_end c.args.is_hex c.args.ring.now (fs c.args.name.now) c.events.reader.stage so_far.events c.events.reached _ _ c.end_of_log.result so_far.read none size
       (c.end_of_log.ensures.printed _ (lines_of_events c.args.is_hex so_far.events) so_far.printed) c.end_of_log.ensures.stop;
 }
 
@@ -88,17 +89,62 @@ events-preserved g c = record {
         let so_far = c.events.invariant.so_far.here fs is in
         let answer = ap viewed (c.in-Ok-Some.is ∙ ap Ok c.in-Ok-Some.field-0-is) in
         let lines : c.as_str.result.now ≡ event_lines c.args.is_hex (event_of c.in-Ok-Some.view) = c.as_str.ensures.value ∙ c.in_ok-lines-in-Ok-Some.ensures in
-        so_far_event c.args.ring.now _ c.args.name.now c.events.reader _ (viewed c.next.result) c.next.follows.holds-at-none c.args.is_hex (event_of c.in-Ok-Some.view) fs _ _ _ _ _ answer
-        (c.events.invariant.same ∙ is) so_far
+        so_far_event c.args.ring.now _ c.args.name.now c.events.reader _ (viewed c.next.result) c.next.follows.holds-at-none c.args.is_hex (event_of c.in-Ok-Some.view) fs _ _ _ _ _ _ _ answer
+        (c.events.invariant.same ∙ is) c.end.ensures so_far
         (subst (λ (t : List ℕ). IsPrinted (lines_of_events c.args.is_hex so_far.events ++ t) (g.K.Sink.given c.args.out.now) (g.K.Sink.given c.print_lines.new.out) (string_bytes c.print_lines.new.text)) lines
         (c.in_ok-print_lines-in-Ok-Some.ensures.printed _ (lines_of_events c.args.is_hex so_far.events) so_far.printed));
   };
   keeps = record { here = λ fs is. c.next.follows.holds-at-none.keeps.here fs (c.events.invariant.same ∙ is) };
   stands =
       let answer = ap viewed (c.in-Ok-Some.is ∙ ap Ok c.in-Ok-Some.field-0-is) in
-      stands_behind c.args.ring.now _ c.args.name.now c.events.reader _ (viewed c.next.result) c.next.follows.holds-at-none (event_of c.in-Ok-Some.view) c.end-end.result answer c.end-end.ensures;
+      stands_behind c.args.ring.now _ c.args.name.now c.events.reader _ (viewed c.next.result) c.next.follows.holds-at-none (event_of c.in-Ok-Some.view) c.end.result answer c.end.ensures;
   same = c.next.ensures.same ∙ c.events.invariant.same;
   faults = omega (arith, c.events.invariant.faults, c.in-Ok-Some.ensures.causes.faults_later);
   absences = omega (arith, c.events.invariant.absences, c.in-Ok-Some.ensures.causes.absences_later);
   outs = omega (arith, c.events.invariant.outs, c.in_ok-print_lines-in-Ok-Some.ensures.cause.later);
 }
+
+pub returns-in_err-print_lines-in-Ok-Some-clause-some : goal.returns-in_err-print_lines-in-Ok-Some-clause-some
+returns-in_err-print_lines-in-Ok-Some-clause-some g c =
+    let own : IsErrAnd c.from_residual-in_err-print_lines-in-Ok-Some.result (λ s. s ≡ c.in_err-print_lines-in-Ok-Some.field-0.0) = search rules in
+    λ out. record {
+      here = λ fs is.
+          let so_far = c.events.invariant.so_far.here fs is in
+          let answer = ap viewed (c.in-Ok-Some.is ∙ ap Ok c.in-Ok-Some.field-0-is) in
+          let lines : c.as_str.result.now ≡ event_lines c.args.is_hex (event_of c.in-Ok-Some.view) = c.as_str.ensures.value ∙ c.in_ok-lines-in-Ok-Some.ensures in
+          some_event c.args.ring.now _ c.args.name.now c.events.reader _ (viewed c.next.result) c.next.follows.holds-at-none c.args.is_hex (event_of c.in-Ok-Some.view) fs _ _ _ _ answer
+          (c.events.invariant.same ∙ is) so_far
+          (more_some (lines_of_events c.args.is_hex so_far.events) (event_lines c.args.is_hex (event_of c.in-Ok-Some.view)) (string_bytes c.events.text) _ _ so_far.printed
+          (subst (λ (t : List ℕ). string_bytes c.events.text ++ t ≢ []) lines (c.in_err-print_lines-in-Ok-Some.ensures.some (handed_err c.from_residual-in_err-print_lines-in-Ok-Some.result c.in_err-print_lines-in-Ok-Some.field-0.0 OutFault own out))));
+    }
+
+pub returns-in-Ok-None-clause-some : goal.returns-in-Ok-None-clause-some
+returns-in-Ok-None-clause-some g c = λ out. record {
+  here = λ fs is.
+      let so_far = c.events.invariant.so_far.here fs is in
+      let answer = ap viewed (c.in-Ok-None.is ∙ ap Ok c.in-Ok-None.field-0-is) in
+      let none = answer_none c.args.ring.now _ c.args.name.now c.events.reader _ (viewed c.next.result) c.next.follows.holds-at-none answer fs (c.events.invariant.same ∙ is) in
+      end_some c.args.is_hex c.args.ring.now (fs c.args.name.now) c.events.reader.stage so_far.events so_far.read none;
+}
+
+pub returns-in-Err-clause-some : goal.returns-in-Err-clause-some
+returns-in-Err-clause-some g c = λ out. record {
+  here = λ fs is.
+      let so_far = c.events.invariant.so_far.here fs is in
+      let gathered : c.as_str-in-Err.result.now ≡ string_bytes c.events.text = c.as_str-in-Err.ensures.value in
+      events_some c.args.is_hex c.args.ring.now (fs c.args.name.now) c.events.reader.stage so_far.events so_far.read
+      (gathered_some (lines_of_events c.args.is_hex so_far.events) (string_bytes c.events.text) _ _ so_far.printed (λ e. c.end_by_fault.ensures.some out (gathered ∙ e)));
+}
+
+pub returns-in-Err-clause-refused : goal.returns-in-Err-clause-refused
+returns-in-Err-clause-refused g c = λ fault refusal.
+    let known = fault_answered c.in-Err.fault fault c.end_by_fault.result c.end_by_fault.ensures.answer refusal in
+    record {
+      here = λ fs is.
+          let so_far = c.events.invariant.so_far.here fs is in
+          let answer = ap viewed c.in-Err.is in
+          subst (λ (f : BinlogFault). IsRefusedAt c.args.ring.now (fs c.args.name.now) f c.refused_place.result) known.1
+          (refused_behind c.args.ring.now (fs c.args.name.now) c.events.reader.stage so_far.events c.events.reached c.refused_place.result c.in-Err.fault so_far.read so_far.behind
+          c.refused_place.ensures
+          (answer_err c.args.ring.now _ c.args.name.now c.events.reader _ (viewed c.next.result) c.next.follows.holds-at-none c.in-Err.fault answer fs (c.events.invariant.same ∙ is) known.0));
+    }

@@ -6,9 +6,9 @@ use Rattle.binlog_cli.proofs.listing.list_log.Given as goal
 
 abbrev pub invariant-events : goal.invariant-events
 invariant-events g l = record {
-  so_far : Told (λ fs. SoFar l.is_hex l.ring (fs l.name) l.reader.stage (g.K.Sink.given l.fn.out) (g.K.Sink.given l.out) (string_bytes l.text)) (g.L.Library.files l.fn.files);
+  so_far : Told (λ fs. SoFar l.is_hex l.ring (fs l.name) l.reader.stage l.reached (g.K.Sink.given l.fn.out) (g.K.Sink.given l.out) (string_bytes l.text)) (g.L.Library.files l.fn.files);
   keeps : Told (λ fs. Keeps (fs l.name) l.reader.stage l.reader.buffer.rest) (g.L.Library.files l.fn.files);
-  stands : StandsAt l.reader.stage l.end;
+  stands : StandsAt l.reader.stage l.reached;
   same : g.L.Library.files l.files ≡ g.L.Library.files l.fn.files;
   faults : g.L.Library.faults l.fn.files ≤ g.L.Library.faults l.files;
   absences : g.L.Library.absences l.fn.files ≤ g.L.Library.absences l.files;
