@@ -19,61 +19,65 @@ use Rattle.keyd_words.specs.declared.text.NewSpace.{NewSpace}
 use Rattle.keyd_words.specs.declared.value.OptionValue.{OptionValue}
 use Rattle.keyd_words.specs.declared.value.OptionValue.TheVariants as value
 use Rattle.keyd_words.specs.declared.setting.OptionSetting.{OptionSetting}
-use Rattle.keyd_words.specs.Table.{Argument, row_of, takes}
+use Rattle.keyd_words.specs.Table.{Argument, row_of, takes, needs}
 use Rattle.keyd_words.specs.Values.{IsSetTo, IsValueOf, IsNewSpace, pages_allowed, greatest_space}
-use Rattle.keyd_words.specs.Settings.{times_set, space_in_value, spaces_of, pages_asked, IsTakenBy, AreOptionsOf, HasNeeded, AreAllOptionsOf, MayStand, IsFree, Joins, MayFollow}
+use Rattle.keyd_words.specs.Settings.{names_of, times_set, space_in_value, spaces_of, pages_in, pages_asked, IsTakenBy, AreOptionsOf, HasNeeded, AreAllOptionsOf, MayStand, IsFree, Joins, MayFollow}
 use Rattle.keyd_words.proofs.FreshLemmas.{Avoids, fresh}
-use Rattle.keyd_words.proofs.TableLemmas.{same_word, other_word, either_way, word-injective, each_small, most_from, only_space, IsSmall}
+use Rattle.keyd_words.proofs.TableLemmas.{same_word, other_word, either_way, word-injective, each_small, most_from, only_space, only_needed, needed_taken, IsSmall}
 use Rattle.keyd_words.proofs.ValueLemmas.{space_set, set_space}
 use Rattle.keyd_words.proofs.SettingLemmas.{times-append, times-cons, times_same, times_other, times_one, spaces-append, spaces_some, spaces_none, pages-append, pages_some, pages_none, some_or_none, all_one, all_none, all_front, all_middle, taken_space, no_spaces, two_pages}
 use Rattle.std.specs.Str.{bytes_eq}
 use Rattle.std.proofs.lemmas.Slice.Eq.{bytes_eq-Decides}
 
 -- what is asked of a value that may stand behind others is asked of a tablespace alone
-pub joins_by : (before : List OptionSetting) (v : Option OptionValue) → ((x : NewSpace) → space_in_value v ≡ Some x → IsFree x.space before × (pages_asked before + x.pages ≤ pages_allowed)) → Joins before v
+pub joins_by : (before : List NewSpace) (v : Option OptionValue) → ((x : NewSpace) → space_in_value v ≡ Some x → IsFree x.space before × (pages_in before + x.pages ≤ pages_allowed)) → Joins before v
 unfolding Joins space_in_value
 joins_by before (Some (value.Space x)) asked = asked x refl
 joins_by before None asked = tt
-joins_by before (Some (value.Text t)) asked = tt
+joins_by before (Some (value.FileName t)) asked = tt
+joins_by before (Some (value.FileKey t)) asked = tt
 joins_by before (Some (value.Number n)) asked = tt
 joins_by before (Some (value.Digest d)) asked = tt
 joins_by before (Some (value.Algorithm a)) asked = tt
-joins_by before (Some (value.Choices cs)) asked = tt
+joins_by before (Some (value.FirstChoices cs)) asked = tt
+joins_by before (Some (value.SecondChoices cs)) asked = tt
 
-pub joins_space : (before : List OptionSetting) (v : Option OptionValue) (x : NewSpace) → Joins before v → space_in_value v ≡ Some x → IsFree x.space before × (pages_asked before + x.pages ≤ pages_allowed)
+pub joins_space : (before : List NewSpace) (v : Option OptionValue) (x : NewSpace) → Joins before v → space_in_value v ≡ Some x → IsFree x.space before × (pages_in before + x.pages ≤ pages_allowed)
 unfolding Joins space_in_value
 joins_space before (Some (value.Space y)) x joins e =
-    let same : y ≡ x = cc e in subst (λ (z : NewSpace). IsFree z.space before × (pages_asked before + z.pages ≤ pages_allowed)) same joins
+    let same : y ≡ x = cc e in subst (λ (z : NewSpace). IsFree z.space before × (pages_in before + z.pages ≤ pages_allowed)) same joins
 joins_space before None x joins e = cc e
-joins_space before (Some (value.Text t)) x joins e = cc e
+joins_space before (Some (value.FileName t)) x joins e = cc e
+joins_space before (Some (value.FileKey t)) x joins e = cc e
 joins_space before (Some (value.Number n)) x joins e = cc e
 joins_space before (Some (value.Digest d)) x joins e = cc e
 joins_space before (Some (value.Algorithm a)) x joins e = cc e
-joins_space before (Some (value.Choices cs)) x joins e = cc e
+joins_space before (Some (value.FirstChoices cs)) x joins e = cc e
+joins_space before (Some (value.SecondChoices cs)) x joins e = cc e
 
 pub none_allowed : (c : Command) → AreOptionsOf c []
 none_allowed c = record { taken = all_none (IsTakenBy c); limits = λ f. omega arith; differ = λ i j d low in_it. absurd (omega (arith, in_it)); fit = omega arith }
 
-differ_more : (ss : List OptionSetting) (s : OptionSetting) → AllPairs (λ (a b : NewSpace). a.space ≢ b.space) (spaces_of ss) → Joins ss s.value → AllPairs (λ (a b : NewSpace). a.space ≢ b.space) (spaces_of (ss ++ (s ∷ [])))
+differ_more : (ss : List OptionSetting) (s : OptionSetting) → AllPairs (λ (a b : NewSpace). a.space ≢ b.space) (spaces_of ss) → Joins (spaces_of ss) s.value → AllPairs (λ (a b : NewSpace). a.space ≢ b.space) (spaces_of (ss ++ (s ∷ [])))
 differ_more ss s differ joins =
     let R : NewSpace → NewSpace → Type 0 = λ a b. a.space ≢ b.space in
     elim (some_or_none (space_in_value s.value)) [
-      | inl found ↦ let free = (joins_space ss s.value found.0 joins found.1).0 in
+      | inl found ↦ let free = (joins_space (spaces_of ss) s.value found.0 joins found.1).0 in
           let e : spaces_of (ss ++ (s ∷ [])) ≡ spaces_of ss ++ (found.0 ∷ []) = spaces-append ss (s ∷ []) ∙ ap (λ xs. spaces_of ss ++ xs) (spaces_some s [] found.0 found.1) in
           subst (λ xs. AllPairs R xs) (sym e) (all_pairs_push R (spaces_of ss) found.0 differ free)
       | inr absent ↦ let e : spaces_of (ss ++ (s ∷ [])) ≡ spaces_of ss ++ [] = spaces-append ss (s ∷ []) ∙ ap (λ xs. spaces_of ss ++ xs) (spaces_none s [] absent) in
           subst (λ xs. AllPairs R xs) (sym (e ∙ append-nil (spaces_of ss))) differ
     ]
 
-fit_more : (ss : List OptionSetting) (s : OptionSetting) → pages_asked ss ≤ pages_allowed → Joins ss s.value → pages_asked (ss ++ (s ∷ [])) ≤ pages_allowed
+fit_more : (ss : List OptionSetting) (s : OptionSetting) → pages_asked ss ≤ pages_allowed → Joins (spaces_of ss) s.value → pages_asked (ss ++ (s ∷ [])) ≤ pages_allowed
 fit_more ss s fit joins =
     let split = pages-append ss (s ∷ []) in
     elim (some_or_none (space_in_value s.value)) [
-      | inl found ↦ omega (arith, split, pages_some s [] found.0 found.1, (joins_space ss s.value found.0 joins found.1).1)
+      | inl found ↦ omega (arith, split, pages_some s [] found.0 found.1, (joins_space (spaces_of ss) s.value found.0 joins found.1).1)
       | inr absent ↦ omega (arith, split, pages_none s [] absent, fit)
     ]
 
-limit_more : (c : Command) (ss : List OptionSetting) (s : OptionSetting) → ((f : OptionName) → times_set f ss ≤ (row_of f).most) → MayStand c ss s.name → (f : OptionName) → times_set f (ss ++ (s ∷ [])) ≤ (row_of f).most
+limit_more : (c : Command) (ss : List OptionSetting) (s : OptionSetting) → ((f : OptionName) → times_set f ss ≤ (row_of f).most) → MayStand c (names_of ss) (spaces_of ss) s.name → (f : OptionName) → times_set f (ss ++ (s ∷ [])) ≤ (row_of f).most
 limit_more c ss s limits room f =
     let split = times-append f ss (s ∷ []) in
     elim (either_way (bytes_eq (row_of s.name).word (row_of f).word)) [
@@ -85,7 +89,7 @@ limit_more c ss s limits room f =
     ]
 
 -- one option more
-pub allowed_more : (c : Command) (ss : List OptionSetting) (s : OptionSetting) → AreOptionsOf c ss → MayFollow c ss s → AreOptionsOf c (ss ++ (s ∷ []))
+pub allowed_more : (c : Command) (ss : List OptionSetting) (s : OptionSetting) → AreOptionsOf c ss → MayFollow c (names_of ss) (spaces_of ss) s → AreOptionsOf c (ss ++ (s ∷ []))
 allowed_more c ss s are may = record {
   taken = All-append (IsTakenBy c) ss (s ∷ []) are.taken (all_one (IsTakenBy c) s (record { taken = may.room.taken; set = may.set }));
   limits = limit_more c ss s are.limits may.room;
@@ -94,7 +98,7 @@ allowed_more c ss s are may = record {
 }
 
 -- an option that stands behind others may follow them
-free_before : (ss rest : List OptionSetting) (s : OptionSetting) (x : NewSpace) → AllPairs (λ (a b : NewSpace). a.space ≢ b.space) (spaces_of (ss ++ (s ∷ rest))) → space_in_value s.value ≡ Some x → IsFree x.space ss
+free_before : (ss rest : List OptionSetting) (s : OptionSetting) (x : NewSpace) → AllPairs (λ (a b : NewSpace). a.space ≢ b.space) (spaces_of (ss ++ (s ∷ rest))) → space_in_value s.value ≡ Some x → IsFree x.space (spaces_of ss)
 free_before ss rest s x differ e k d low =
     let A = spaces_of ss in
     let B = spaces_of rest in
@@ -104,7 +108,7 @@ free_before ss rest s x differ e k d low =
     let apart : R (get_or (A ++ (x ∷ B)) k d) (get_or (A ++ (x ∷ B)) (length A) d) = pairs k (length A) d low (omega (arith, length-append A (x ∷ B))) in
     λ same. apart (ap (λ (y : NewSpace). y.space) (get_or-append A (x ∷ B) d k low) ∙ same ∙ ap (λ (y : NewSpace). y.space) (sym (get_or-append_seam A x B d)))
 
-pub next_follows : (c : Command) (ss rest : List OptionSetting) (s : OptionSetting) → AreOptionsOf c (ss ++ (s ∷ rest)) → MayFollow c ss s
+pub next_follows : (c : Command) (ss rest : List OptionSetting) (s : OptionSetting) → AreOptionsOf c (ss ++ (s ∷ rest)) → MayFollow c (names_of ss) (spaces_of ss) s
 next_follows c ss rest s are =
     let taken : IsTakenBy c s = all_middle (IsTakenBy c) ss s rest are.taken in
     let times_split = times-append s.name ss (s ∷ rest) in
@@ -120,7 +124,7 @@ next_follows c ss rest s are =
             omega (arith, paged found.0 found.1, (taken_space c s found.0 taken found.1).1.pages_from);
       };
       set = taken.set;
-      joins = joins_by ss s.value (λ x e. (free_before ss rest s x are.differ e, paged x e));
+      joins = joins_by (spaces_of ss) s.value (λ x e. (free_before ss rest s x are.differ e, paged x e));
     }
 
 -- Values that may stand
@@ -132,7 +136,7 @@ avoid_all id (x ∷ xs) avoids zero d low = avoids.0
 avoid_all id (x ∷ xs) avoids (suc k) d low = avoid_all id xs avoids.1 k d (omega (arith, low))
 
 -- a tablespace of two pages that may stand behind these
-spare : (c : Command) (ss : List OptionSetting) → AreOptionsOf c ss → pages_asked ss + 2 ≤ pages_allowed → (x : NewSpace) × IsNewSpace x × (IsFree x.space ss × (pages_asked ss + x.pages ≤ pages_allowed))
+spare : (c : Command) (ss : List OptionSetting) → AreOptionsOf c ss → pages_asked ss + 2 ≤ pages_allowed → (x : NewSpace) × IsNewSpace x × (IsFree x.space (spaces_of ss) × (pages_asked ss + x.pages ≤ pages_allowed))
 spare c ss are room =
     let ids : List ℕ = map (λ (x : NewSpace). x.space) (spaces_of ss) in
     let few : length ids < 8193 = omega (arith, two_pages c ss are.taken, length-map (spaces_of ss) (λ (x : NewSpace). x.space), room) in
@@ -145,17 +149,19 @@ spare c ss are room =
 
 -- a value of each form that may stand behind these
 some_value : (c : Command) (ss : List OptionSetting) (f : Option ValueForm) → AreOptionsOf c ss → IsSmall f → (f ≡ Some form.Space → pages_asked ss + 2 ≤ pages_allowed)
-    → (v : Option OptionValue) × IsSetTo f v × Joins ss v
+    → (v : Option OptionValue) × IsSetTo f v × Joins (spaces_of ss) v
 unfolding IsSetTo IsValueOf Joins IsSmall
 some_value c ss None are small room = (None, tt, tt)
-some_value c ss (Some form.Text) are small room = (Some (value.Text []), tt, tt)
+some_value c ss (Some form.FileName) are small room = (Some (value.FileName []), tt, tt)
+some_value c ss (Some form.FileKey) are small room = (Some (value.FileKey []), tt, tt)
 some_value c ss (Some (form.Number low high)) are small room = (Some (value.Number low), (omega arith, small.0), tt)
 some_value c ss (Some form.Digest) are small room = (Some (value.Digest digest.Sha1), tt, tt)
 some_value c ss (Some form.Algorithm) are small room = (Some (value.Algorithm algorithm.Cbc), tt, tt)
-some_value c ss (Some form.Choices) are small room = (Some (value.Choices (Lost ∷ [])), (omega arith, omega arith), tt)
+some_value c ss (Some form.FirstChoices) are small room = (Some (value.FirstChoices (Lost ∷ [])), (omega arith, omega arith), tt)
+some_value c ss (Some form.SecondChoices) are small room = (Some (value.SecondChoices (Lost ∷ [])), (omega arith, omega arith), tt)
 some_value c ss (Some form.Space) are small room = let x = spare c ss are (room refl) in (Some (value.Space x.0), x.1, x.2)
 
-pub some_setting : (c : Command) (ss : List OptionSetting) (f : OptionName) → AreOptionsOf c ss → MayStand c ss f → (v : Option OptionValue) × MayFollow c ss (record { name = f; value = v })
+pub some_setting : (c : Command) (ss : List OptionSetting) (f : OptionName) → AreOptionsOf c ss → MayStand c (names_of ss) (spaces_of ss) f → (v : Option OptionValue) × MayFollow c (names_of ss) (spaces_of ss) (record { name = f; value = v })
 some_setting c ss f are room =
     let found = some_value c ss (row_of f).form are (each_small f) room.pages in
     (found.0, record { room = room; set = found.1; joins = found.2 })
@@ -170,7 +176,7 @@ positive zero = inr refl
 positive (suc n) = inl (omega arith)
 
 -- with one option more an option that the command takes stands
-supplied : (c : Command) (ss : List OptionSetting) (f : OptionName) → AreOptionsOf c ss → takes (row_of f).takers c ≡ true
+supplied : (c : Command) (ss : List OptionSetting) (f : OptionName) → AreOptionsOf c ss → takes f c ≡ true
     → (more : List OptionSetting) × AreOptionsOf c (ss ++ more) × (1 ≤ times_set f (ss ++ more))
 supplied c ss f are taken =
     elim (positive (times_set f ss)) [
@@ -184,31 +190,11 @@ supplied c ss f are taken =
           (s ∷ [], allowed_more c ss s are found.1, omega (arith, times-append f ss (s ∷ []), times_same f s refl))
     ]
 
--- no option but these two is ever needed
-only_needed : (P : OptionName → Type 0) → P name.KeyFile → P name.Space → (f : OptionName) → (row_of f).needed ≡ true → P f
-unfolding row_of
-only_needed P k s name.KeyFile e = k
-only_needed P k s name.Space e = s
-only_needed P k s name.FileKey e = cc e
-only_needed P k s name.Digest e = cc e
-only_needed P k s name.Log e = cc e
-only_needed P k s name.Algorithm e = cc e
-only_needed P k s name.Active e = cc e
-only_needed P k s name.Age e = cc e
-only_needed P k s name.Binlog e = cc e
-only_needed P k s name.Flushers e = cc e
-only_needed P k s name.Rotators e = cc e
-only_needed P k s name.Stop e = cc e
-only_needed P k s name.Choice e = cc e
-only_needed P k s name.Reopen e = cc e
-only_needed P k s name.Stop2 e = cc e
-only_needed P k s name.Choice2 e = cc e
-
 -- the same, where the command takes the option
 supplied_if : (c : Command) (ss : List OptionSetting) (f : OptionName) → AreOptionsOf c ss
-    → (more : List OptionSetting) × AreOptionsOf c (ss ++ more) × (takes (row_of f).takers c ≡ true → 1 ≤ times_set f (ss ++ more))
+    → (more : List OptionSetting) × AreOptionsOf c (ss ++ more) × (takes f c ≡ true → 1 ≤ times_set f (ss ++ more))
 supplied_if c ss f are =
-    elim (either_way (takes (row_of f).takers c)) [
+    elim (either_way (takes f c)) [
       | inl taken ↦ let made = supplied c ss f are taken in (made.0, made.1, λ e. made.2)
       | inr not_taken ↦ ([], subst (AreOptionsOf c) (sym (append-nil ss)) are, λ e. let both : true ≡ false = sym e ∙ not_taken in cc both)
     ]
@@ -219,6 +205,6 @@ whole_of c ss are =
     let keyed = supplied_if c ss name.KeyFile are in
     let spaced = supplied_if c (ss ++ keyed.0) name.Space keyed.1 in
     let same : (ss ++ keyed.0) ++ spaced.0 ≡ ss ++ (keyed.0 ++ spaced.0) = append_assoc ss keyed.0 spaced.0 in
-    let Stands : OptionName → Type 0 = λ f. takes (row_of f).takers c ≡ true → 1 ≤ times_set f ((ss ++ keyed.0) ++ spaced.0) in
-    let needed : HasNeeded c ((ss ++ keyed.0) ++ spaced.0) = only_needed Stands (λ e. more_keep c (ss ++ keyed.0) spaced.0 name.KeyFile (keyed.2 e)) spaced.2 in
+    let Stands : OptionName → Type 0 = λ f. 1 ≤ times_set f ((ss ++ keyed.0) ++ spaced.0) in
+    let needed : HasNeeded c (names_of ((ss ++ keyed.0) ++ spaced.0)) = only_needed Stands c (λ e. more_keep c (ss ++ keyed.0) spaced.0 name.KeyFile (keyed.2 (needed_taken name.KeyFile c e))) (λ e. spaced.2 (needed_taken name.Space c e)) in
     (keyed.0 ++ spaced.0, subst (AreAllOptionsOf c) same (record { allowed = spaced.1; needed = needed }))

@@ -10,3 +10,5 @@ mod UsageLemmas
 mod ReadLemmas
 mod MakeLemmas
 mod PlanWords
+mod CountLemmas
+mod LimitLemmas

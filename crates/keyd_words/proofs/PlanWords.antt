@@ -9,6 +9,8 @@ use Rattle.keyd_words.specs.declared.plan.Plan.TheVariants.{Create, Step, Run, D
 use Rattle.keyd_words.specs.declared.setting.OptionSetting.{OptionSetting}
 use Rattle.keyd_words.specs.declared.table.Command.{Command}
 use Rattle.keyd_words.specs.declared.table.Command.TheVariants as command
+use Rattle.keyd_words.specs.declared.draft.Draft.{Draft}
+use Rattle.keyd_words.specs.Drafts.{Tells, IsDraftOf}
 use Rattle.keyd_words.specs.Plans.{key_plan, create_plan, step_plan, run_plan, drill_plan}
 use Rattle.keyd_words.specs.Settings.{settings_words, times_set}
 use Rattle.keyd_words.specs.Values.{value_words}
@@ -162,6 +164,11 @@ pub words_fault : (built : List Command) (c : Command) (words : List Argument) (
 words_fault built c words (fault.Usage i) known starts is = usage_of built c words i known starts is
 words_fault built c words fault.OutOfMemory known starts is = tt
 
-pub few_files : (c : Command) (words : List Argument) (ss : List OptionSetting) → IsListOf c words ss → times_set name.KeyFile ss ≤ 64
-unfolding row_of
-few_files c words ss list = list.whole.allowed.limits name.KeyFile
+-- what a draft asks for
+pub asked : {P : Type 0} (built : List Command) (c d : Command) (words : List Argument) (draft : Draft) (plan : List OptionSetting → P) (p : P) → c ≡ d → Contains built c → IsDraftOf c words draft → ((ss : List OptionSetting) → Tells draft ss → p ≡ plan ss) → Asks built words d (λ ss. p ≡ plan ss)
+asked built c d words draft plan p same known is told = record {
+  known = subst (Contains built) same known;
+  settings = is.settings;
+  list = subst (λ e. IsListOf e words is.settings) same is.list;
+  are = told is.settings is.tells;
+}

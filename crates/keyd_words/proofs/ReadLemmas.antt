@@ -8,9 +8,15 @@ use Rattle.keyd_words.specs.declared.table.OptionName.{OptionName}
 use Rattle.keyd_words.specs.declared.value.OptionValue.{OptionValue}
 use Rattle.keyd_words.specs.declared.setting.OptionSetting.{OptionSetting}
 use Rattle.keyd_words.specs.Table.{Argument, command_word, row_of}
-use Rattle.keyd_words.specs.Values.{value_words, value_word, AreWordsOf}
-use Rattle.keyd_words.specs.Settings.{setting_words, settings_words, AreOptionsOf, HasNeeded, MayStand, IsBadValue}
-use Rattle.keyd_words.specs.Words.{IsListFor, BeginsList, IsUsageAt}
+use Rattle.keyd_words.specs.Values.{pages_allowed, value_words, value_word, AreWordsOf}
+use Rattle.keyd_words.specs.Settings.{setting_words, settings_words, names_of, spaces_of, pages_in, AreOptionsOf, HasNeeded, MayStand, IsBadValue}
+use Rattle.keyd_words.specs.declared.draft.Draft.{Draft}
+use Rattle.keyd_words.specs.declared.text.NewSpace.{NewSpace}
+use Rattle.keyd_words.specs.Drafts.{Tells, IsDraftOf}
+use Rattle.keyd_words.specs.Plans.{file_names}
+use Rattle.keyd_words.proofs.CountLemmas.{few_files}
+use Rattle.keyd_words.proofs.AllowedLemmas.{none_allowed}
+use Rattle.keyd_words.specs.Words.{IsListFor, BeginsList, IsUsageAt, StartsWith}
 use Rattle.keyd_words.proofs.UsageLemmas.{usage_behind, usage_end, begins_allowed, begins_option, words_more, no_option, no_value, no_end, not_whole}
 
 -- a word of strings
@@ -34,13 +40,13 @@ taken_two c ws at ss word next written low is then_is =
     ∙ ap (λ xs. command_word c ∷ xs) (append_assoc (settings_words ss) (word ∷ []) (next ∷ []))
 
 pub usage_name : (c : Command) (ws : List Argument) (at : ℕ) (ss : List OptionSetting) (word : Argument) → take at ws ≡ command_word c ∷ settings_words ss → AreOptionsOf c ss → at < length ws → get_or ws at [] ≡ word
-    → ((f : OptionName) → word ≡ (row_of f).word → MayStand c ss f → ⊥) → IsUsageAt (IsListFor c) ws at
+    → ((f : OptionName) → word ≡ (row_of f).word → MayStand c (names_of ss) (spaces_of ss) f → ⊥) → IsUsageAt (IsListFor c) ws at
 usage_name c ws at ss word written are low is unfit =
     usage_behind (IsListFor c) ws at low (subst (BeginsList (IsListFor c)) (sym written) (begins_allowed c ss are))
     (λ begun. no_option c ss word are unfit (subst (BeginsList (IsListFor c)) (taken_word c ws at ss word written low is) begun))
 
 pub usage_value : (c : Command) (ws : List Argument) (at len : ℕ) (ss : List OptionSetting) (word : Argument) (next : Option (Bor Argument)) → take at ws ≡ command_word c ∷ settings_words ss → AreOptionsOf c ss → length ws ≡ len → at < len
-    → get_or ws at [] ≡ word → NextWord ws len (at + 1) next → IsBadValue c ss word next → IsUsageAt (IsListFor c) ws (at + 1)
+    → get_or ws at [] ≡ word → NextWord ws len (at + 1) next → IsBadValue c (names_of ss) (spaces_of ss) word next → IsUsageAt (IsListFor c) ws (at + 1)
 usage_value c ws at len ss word (Some next) written are size low is then_is bad =
     let V = IsListFor c in
     let begun = subst (BeginsList V) (sym (taken_word c ws at ss word written (omega (arith, size, low)) is)) (begins_option c ss bad.option word are bad.room bad.named) in
@@ -54,7 +60,7 @@ usage_value c ws at len ss word None written are size low is then_is bad =
     let end : length ws ≡ at + 1 = omega (arith, size, low, then_is) in
     subst (IsUsageAt V ws) end (usage_end V ws begun (λ list. no_end c ss word are bad (subst V (sym all ∙ shape) list)))
 
-pub usage_needed : (c : Command) (ws : List Argument) (at len : ℕ) (ss : List OptionSetting) → take at ws ≡ command_word c ∷ settings_words ss → AreOptionsOf c ss → length ws ≡ len → len ≤ at → (HasNeeded c ss → ⊥) → IsUsageAt (IsListFor c) ws len
+pub usage_needed : (c : Command) (ws : List Argument) (at len : ℕ) (ss : List OptionSetting) → take at ws ≡ command_word c ∷ settings_words ss → AreOptionsOf c ss → length ws ≡ len → len ≤ at → (HasNeeded c (names_of ss) → ⊥) → IsUsageAt (IsListFor c) ws len
 usage_needed c ws at len ss written are size end lacking =
     let V = IsListFor c in
     let all : take at ws ≡ ws = take_all at ws (omega (arith, size, end)) in
@@ -82,3 +88,34 @@ pub step_setting : (c : Command) (ws : List Argument) (at len n : ℕ) (ss : Lis
 step_setting c ws at len n ss word next s written size low is then_is named are two one =
     let step = step_words c ws at len n ss word next s.value written size low is then_is are two one in
     (step.0 ∙ ap (λ w. command_word c ∷ (settings_words ss ++ (w ∷ value_words s.value))) named ∙ ap (λ xs. command_word c ∷ xs) (sym (words_more ss s)), step.1)
+
+-- A draft on the way
+
+-- the words up to a place are the command's, and then the options that the draft has
+pub record ReadsTo (c : Command) (ws : List Argument) (at : ℕ) (draft : Draft) : Type 0 where
+  pub settings : List OptionSetting
+  pub tells : Tells draft settings
+  pub written : take at ws ≡ command_word c ∷ settings_words settings
+  pub allowed : AreOptionsOf c settings
+
+-- a fact of names and tablespaces, at equal ones
+pub at_both : (P : List OptionName → List NewSpace → Type 0) (names names' : List OptionName) (spaces spaces' : List NewSpace) → names ≡ names' → spaces ≡ spaces' → P names spaces → P names' spaces'
+at_both P names names' spaces spaces' a b p = subst (λ xs. P names' xs) b (subst (λ xs. P xs spaces) a p)
+
+pub fit_draft : (c : Command) (ss : List OptionSetting) (draft : Draft) → Tells draft ss → AreOptionsOf c ss → pages_in draft.spaces ≤ pages_allowed
+fit_draft c ss draft tells are = subst (λ xs. pages_in xs ≤ pages_allowed) (sym tells.spaces) are.fit
+
+pub few_draft : (c : Command) (ss : List OptionSetting) (draft : Draft) → Tells draft ss → AreOptionsOf c ss → length draft.key_files ≤ 64
+few_draft c ss draft tells are = subst (λ (xs : List Argument). length xs ≤ 64) (sym tells.key_files) (few_files c ss are)
+
+-- no option has been read
+pub reads_none : (c : Command) (ws : List Argument) (draft : Draft) → Tells draft [] → StartsWith c ws → ReadsTo c ws 1 draft
+reads_none c ws draft tells starts = record { settings = []; tells = tells; written = ap (λ xs. take 1 xs) starts.1; allowed = none_allowed c }
+
+-- all words are read
+pub whole_draft : (c : Command) (ws : List Argument) (at : ℕ) (draft : Draft) → ReadsTo c ws at draft → length ws ≤ at → HasNeeded c draft.names.items → IsDraftOf c ws draft
+whole_draft c ws at draft reads end needed = record {
+  settings = reads.settings;
+  list = record { written = sym (take_all at ws end) ∙ reads.written; whole = record { allowed = reads.allowed; needed = subst (HasNeeded c) reads.tells.names needed } };
+  tells = reads.tells;
+}

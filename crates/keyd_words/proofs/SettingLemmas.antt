@@ -7,7 +7,7 @@ use Rattle.std.proofs.lemmas.List.Elements.{filter_map-append, All-append}
 use Rattle.std.proofs.Math.ListN.{get_or-append, length-append}
 use Rattle.std.proofs.Math.Seq.{get_or-append_seam}
 use Rattle.std.proofs.lemmas.List.Concat.{flat_map-append}
-use Rattle.std.proofs.lemmas.List.{take-append-drop, take_more}
+use Rattle.std.proofs.lemmas.List.{take-append-drop, take_more, map-append}
 use mathlib.Core.List.{append_assoc}
 use Rattle.keyd_words.specs.declared.table.Command.{Command}
 use Rattle.keyd_words.specs.declared.table.OptionName.{OptionName}
@@ -17,7 +17,7 @@ use Rattle.keyd_words.specs.declared.value.OptionValue.{OptionValue}
 use Rattle.keyd_words.specs.declared.setting.OptionSetting.{OptionSetting}
 use Rattle.keyd_words.specs.Table.{Argument, row_of}
 use Rattle.keyd_words.specs.Values.{IsSetTo, value_words, IsNewSpace}
-use Rattle.keyd_words.specs.Settings.{setting_words, settings_words, times_set, space_in_value, spaces_of, pages_asked, IsTakenBy, IsFree}
+use Rattle.keyd_words.specs.Settings.{setting_words, settings_words, names_of, times_in, times_set, space_in_value, spaces_of, pages_in, pages_asked, IsTakenBy, IsFree}
 use Rattle.keyd_words.proofs.TableLemmas.{same_word, other_word, word-injective, each_small, only_space}
 use Rattle.keyd_words.proofs.ValueLemmas.{one_set, space_set}
 
@@ -27,14 +27,26 @@ step_of xs i x low is = take_more xs i x low ∙ ap (λ y. take i xs ++ (y ∷ [
 
 -- How often an option stands
 
+pub names-append : (xs ys : List OptionSetting) → names_of (xs ++ ys) ≡ names_of xs ++ names_of ys
+names-append xs ys = map-append (λ (s : OptionSetting). s.name) xs ys
+
+pub times_in-append : (f : OptionName) (xs ys : List OptionName) → times_in f (xs ++ ys) ≡ times_in f xs + times_in f ys
+times_in-append f xs ys = sum_by-append (λ (g : OptionName). cond (bytes_eq (row_of g).word (row_of f).word) 1 0) xs ys
+
+pub times_is : (f g : OptionName) → g ≡ f → times_in f (g ∷ []) ≡ 1
+times_is f g e = ap (λ b. 0 + cond b 1 0) (same_word g f e)
+
+pub times_not : (f g : OptionName) → g ≢ f → times_in f (g ∷ []) ≡ 0
+times_not f g other = ap (λ b. 0 + cond b 1 0) (other_word g f other)
+
 pub times-append : (f : OptionName) (xs ys : List OptionSetting) → times_set f (xs ++ ys) ≡ times_set f xs + times_set f ys
-times-append f xs ys = sum_by-append (λ s. cond (bytes_eq (row_of s.name).word (row_of f).word) 1 0) xs ys
+times-append f xs ys = ap (times_in f) (names-append xs ys) ∙ times_in-append f (names_of xs) (names_of ys)
 
 pub times_same : (f : OptionName) (s : OptionSetting) → s.name ≡ f → times_set f (s ∷ []) ≡ 1
-times_same f s e = ap (λ b. 0 + cond b 1 0) (same_word s.name f e)
+times_same f s e = times_is f s.name e
 
 pub times_other : (f : OptionName) (s : OptionSetting) → s.name ≢ f → times_set f (s ∷ []) ≡ 0
-times_other f s other = ap (λ b. 0 + cond b 1 0) (other_word s.name f other)
+times_other f s other = times_not f s.name other
 
 pub times_one : (f : OptionName) (s : OptionSetting) → times_set f (s ∷ []) ≤ 1
 times_one f s = elim (bytes_eq (row_of s.name).word (row_of f).word) as (λ b. 0 + cond b 1 0 ≤ 1) [ true ↦ omega arith | false ↦ omega arith ]
@@ -65,11 +77,6 @@ pages_none s ss e = ap (sum_by (λ (y : NewSpace). y.pages)) (spaces_none s ss e
 pub some_or_none : {X : Type 0} (o : Option X) → ((x : X) × (o ≡ Some x)) ⊎ (o ≡ None)
 some_or_none None = inr refl
 some_or_none (Some x) = inl (x, refl)
-
-pub pages_front : (n : ℕ) (ss : List OptionSetting) → pages_asked (take n ss) ≤ pages_asked ss
-pages_front n ss =
-    let split : pages_asked ss ≡ pages_asked (take n ss) + pages_asked (drop n ss) = ap pages_asked (sym (take-append-drop n ss)) ∙ pages-append (take n ss) (drop n ss) in
-    omega (arith, split)
 
 -- the first of all
 pub head_of : {X : Type 0} (P : X → Type 0) (x : X) (xs : List X) → All P (x ∷ xs) → P x
@@ -143,30 +150,10 @@ split_words c d (s ∷ ss) (t ∷ ts) zs p q e =
     let rest = split_words c d ss ts zs (tail_of (IsTakenBy c) s ss p) (tail_of (IsTakenBy d) t ts q) first.1 in
     (rest.0, ap (λ x. x ∷ ts) first.0 ∙ ap (λ xs. s ∷ xs) rest.1, rest.2)
 
--- Ids that no tablespace has
-
-pub free_more : (id : ℕ) (ss : List OptionSetting) (s : OptionSetting) (x : NewSpace) → space_in_value s.value ≡ Some x → x.space ≢ id → IsFree id ss → IsFree id (ss ++ (s ∷ []))
-free_more id ss s x e other free =
-    let P : NewSpace → Type 0 = λ y. y.space ≢ id in
-    subst (λ xs. All P xs) (sym (spaces-append ss (s ∷ []) ∙ ap (λ xs. spaces_of ss ++ xs) (spaces_some s [] x e))) (All-append P (spaces_of ss) (x ∷ []) free (all_one P x other))
-
-pub free_same : (id : ℕ) (ss : List OptionSetting) (s : OptionSetting) → space_in_value s.value ≡ None → IsFree id ss → IsFree id (ss ++ (s ∷ []))
-free_same id ss s e free =
-    let P : NewSpace → Type 0 = λ y. y.space ≢ id in
-    subst (λ xs. All P xs) (sym (spaces-append ss (s ∷ []) ∙ ap (λ xs. spaces_of ss ++ xs) (spaces_none s [] e))) (All-append P (spaces_of ss) [] free (all_none P))
+-- Parts of what holds of all
 
 pub all_front : {X : Type 0} (P : X → Type 0) (xs ys : List X) → All P (xs ++ ys) → All P xs
 all_front P xs ys all k d low = subst P (get_or-append xs ys d k low) (all k d (omega (arith, low, length-append xs ys)))
 
 pub all_middle : {X : Type 0} (P : X → Type 0) (xs : List X) (y : X) (ys : List X) → All P (xs ++ (y ∷ ys)) → P y
 all_middle P xs y ys all = subst P (get_or-append_seam xs y ys y) (all (length xs) y (omega (arith, length-append xs (y ∷ ys))))
-
-pub free_front : (id : ℕ) (n : ℕ) (ss : List OptionSetting) → IsFree id ss → IsFree id (take n ss)
-free_front id n ss free =
-    let P : NewSpace → Type 0 = λ y. y.space ≢ id in
-    all_front P (spaces_of (take n ss)) (spaces_of (drop n ss)) (subst (λ xs. All P xs) (ap spaces_of (sym (take-append-drop n ss)) ∙ spaces-append (take n ss) (drop n ss)) free)
-
-pub not_free : (id : ℕ) (ss : List OptionSetting) (s : OptionSetting) (x : NewSpace) → space_in_value s.value ≡ Some x → x.space ≡ id → IsFree id (ss ++ (s ∷ [])) → ⊥
-not_free id ss s x e same free =
-    let P : NewSpace → Type 0 = λ y. y.space ≢ id in
-    all_middle P (spaces_of ss) x [] (subst (λ xs. All P xs) (spaces-append ss (s ∷ []) ∙ ap (λ xs. spaces_of ss ++ xs) (spaces_some s [] x e)) free) same

@@ -8,7 +8,9 @@ use Rattle.keyd_words.specs.declared.table.OptionName.{OptionName}
 use Rattle.keyd_words.specs.declared.table.OptionName.TheVariants.{KeyFile, FileKey, Digest, Space, Log, Algorithm, Active, Age, Binlog, Flushers, Rotators, Stop, Choice, Reopen, Stop2, Choice2}
 use Rattle.keyd_words.specs.declared.table.ValueForm.{ValueForm}
 use Rattle.keyd_words.specs.declared.table.ValueForm.TheVariants as form
-use Rattle.keyd_words.specs.Table.{Argument, command_word, row_of}
+use Rattle.keyd_words.specs.Table.{Argument, command_word, row_of, is_taken, is_needed, use_by, uses, takes, needs}
+use Rattle.keyd_words.specs.declared.table.OptionUse.{OptionUse}
+use Rattle.keyd_words.specs.declared.table.OptionUse.TheVariants.{No, May, Must}
 
 -- the option whose word has this third byte, this fourth byte and this length
 option_by : ℕ → ℕ → ℕ → OptionName
@@ -153,6 +155,46 @@ only_space Choice e = cc
 only_space Reopen e = cc
 only_space Stop2 e = cc
 only_space Choice2 e = cc
+
+pub needed_taken : (f : OptionName) (c : Command) → needs f c ≡ true → takes f c ≡ true
+unfolding is_needed is_taken
+needed_taken f c e = by (use_by (row_of f).uses c) e
+  where
+    by : (u : OptionUse) → is_needed u ≡ true → is_taken u ≡ true
+    by Must e = refl
+    by May e = cc
+    by No e = cc
+
+-- a row without a command that needs the option
+never : (P : Type 0) (a b d e f g : OptionUse) → is_needed a ≡ false → is_needed b ≡ false → is_needed d ≡ false → is_needed e ≡ false → is_needed f ≡ false → is_needed g ≡ false → (c : Command) → is_needed (use_by (uses a b d e f g) c) ≡ true → P
+unfolding use_by is_needed
+never P a b d e f g na nb nd ne nf ng command.Create is = let both : true ≡ false = sym is ∙ na in cc both
+never P a b d e f g na nb nd ne nf ng command.Step is = let both : true ≡ false = sym is ∙ nb in cc both
+never P a b d e f g na nb nd ne nf ng command.Run is = let both : true ≡ false = sym is ∙ nd in cc both
+never P a b d e f g na nb nd ne nf ng command.Drill is = let both : true ≡ false = sym is ∙ ne in cc both
+never P a b d e f g na nb nd ne nf ng command.Recover is = let both : true ≡ false = sym is ∙ nf in cc both
+never P a b d e f g na nb nd ne nf ng command.Report is = let both : true ≡ false = sym is ∙ ng in cc both
+never P a b d e f g na nb nd ne nf ng command.Make is = cc is
+
+-- no option but these two is ever needed
+pub only_needed : (P : OptionName → Type 0) (c : Command) → (needs KeyFile c ≡ true → P KeyFile) → (needs Space c ≡ true → P Space) → (f : OptionName) → needs f c ≡ true → P f
+unfolding row_of is_needed
+only_needed P c k s KeyFile e = k e
+only_needed P c k s Space e = s e
+only_needed P c k s FileKey e = never (P FileKey) May May May May May May refl refl refl refl refl refl c e
+only_needed P c k s Digest e = never (P Digest) May May May May May May refl refl refl refl refl refl c e
+only_needed P c k s Log e = never (P Log) May No No May No No refl refl refl refl refl refl c e
+only_needed P c k s Algorithm e = never (P Algorithm) May No No May No No refl refl refl refl refl refl c e
+only_needed P c k s Active e = never (P Active) May May May May May May refl refl refl refl refl refl c e
+only_needed P c k s Age e = never (P Age) No May May May No No refl refl refl refl refl refl c e
+only_needed P c k s Binlog e = never (P Binlog) No May May No No No refl refl refl refl refl refl c e
+only_needed P c k s Flushers e = never (P Flushers) No No May No No No refl refl refl refl refl refl c e
+only_needed P c k s Rotators e = never (P Rotators) No No May No No No refl refl refl refl refl refl c e
+only_needed P c k s Stop e = never (P Stop) No No No May No No refl refl refl refl refl refl c e
+only_needed P c k s Choice e = never (P Choice) No No No May No No refl refl refl refl refl refl c e
+only_needed P c k s Reopen e = never (P Reopen) No No No May No No refl refl refl refl refl refl c e
+only_needed P c k s Stop2 e = never (P Stop2) No No No May No No refl refl refl refl refl refl c e
+only_needed P c k s Choice2 e = never (P Choice2) No No No May No No refl refl refl refl refl refl c e
 
 -- what holds of each option in a list of all holds of each
 pub each_name : (P : OptionName → Type 0) (n : ℕ) → 16 ≤ n

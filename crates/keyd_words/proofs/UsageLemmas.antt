@@ -9,7 +9,7 @@ use Rattle.keyd_words.specs.declared.value.OptionValue.{OptionValue}
 use Rattle.keyd_words.specs.declared.setting.OptionSetting.{OptionSetting}
 use Rattle.keyd_words.specs.Table.{Argument, command_word, row_of}
 use Rattle.keyd_words.specs.Values.{value_words, value_word, AreWordsOf, IsSetTo}
-use Rattle.keyd_words.specs.Settings.{setting_words, settings_words, IsTakenBy, AreOptionsOf, HasNeeded, AreAllOptionsOf, MayStand, MayFollow, IsBadValue}
+use Rattle.keyd_words.specs.Settings.{setting_words, settings_words, names_of, spaces_of, IsTakenBy, AreOptionsOf, HasNeeded, AreAllOptionsOf, MayStand, MayFollow, IsBadValue}
 use Rattle.keyd_words.specs.Words.{IsListOf, IsListFor, BeginsList, IsUsageAt}
 use Rattle.keyd_words.proofs.SettingLemmas.{words-append, split_words}
 use Rattle.keyd_words.proofs.AllowedLemmas.{allowed_more, next_follows, some_setting, whole_of}
@@ -80,7 +80,7 @@ pub words_more : (ss : List OptionSetting) (s : OptionSetting) → settings_word
 words_more ss s = words-append ss (s ∷ []) ∙ ap (λ ws. settings_words ss ++ ws) (one_words s)
 
 -- an option's word can follow where there is room
-pub begins_option : (c : Command) (ss : List OptionSetting) (f : OptionName) (word : Argument) → AreOptionsOf c ss → MayStand c ss f → word ≡ (row_of f).word → BeginsList (IsListFor c) (command_word c ∷ (settings_words ss ++ (word ∷ [])))
+pub begins_option : (c : Command) (ss : List OptionSetting) (f : OptionName) (word : Argument) → AreOptionsOf c ss → MayStand c (names_of ss) (spaces_of ss) f → word ≡ (row_of f).word → BeginsList (IsListFor c) (command_word c ∷ (settings_words ss ++ (word ∷ [])))
 begins_option c ss f word are room named =
     let found = some_setting c ss f are room in
     let s : OptionSetting = record { name = f; value = found.0 } in
@@ -99,11 +99,11 @@ tail_words c ss zs are list =
 
 -- an option stands behind them, where a word does
 next_option : (c : Command) (ss : List OptionSetting) (word : Argument) (zs : List Argument) → AreOptionsOf c ss → IsListFor c (command_word c ∷ (settings_words ss ++ (word ∷ zs)))
-    → (s : OptionSetting) × (rest : List OptionSetting) × MayFollow c ss s × (word ≡ (row_of s.name).word) × (value_words s.value ++ settings_words rest ≡ zs)
+    → (s : OptionSetting) × (rest : List OptionSetting) × MayFollow c (names_of ss) (spaces_of ss) s × (word ≡ (row_of s.name).word) × (value_words s.value ++ settings_words rest ≡ zs)
 next_option c ss word zs are list = by (tail_words c ss (word ∷ zs) are list)
   where
     by : ((rest : List OptionSetting) × AreAllOptionsOf c (ss ++ rest) × (settings_words rest ≡ word ∷ zs))
-        → (s : OptionSetting) × (rest : List OptionSetting) × MayFollow c ss s × (word ≡ (row_of s.name).word) × (value_words s.value ++ settings_words rest ≡ zs)
+        → (s : OptionSetting) × (rest : List OptionSetting) × MayFollow c (names_of ss) (spaces_of ss) s × (word ≡ (row_of s.name).word) × (value_words s.value ++ settings_words rest ≡ zs)
     by ([], whole, e) = let n : 0 ≡ suc (length zs) = ap length e in absurd (omega (arith, n))
     by (s ∷ rest, whole, e) = (s, rest, next_follows c ss rest s whole.allowed, sym (ap (λ ws. get_or ws 0 []) e), ap (λ ws. drop 1 ws) e)
 
@@ -111,7 +111,7 @@ split_begun : (c : Command) (ss : List OptionSetting) (ys : List Argument) → B
 split_begun c ss ys begun = (begun.0, subst (λ ws. IsListFor c (command_word c ∷ ws)) (append_assoc (settings_words ss) ys begun.0) begun.1)
 
 -- no option of this word may follow
-pub no_option : (c : Command) (ss : List OptionSetting) (word : Argument) → AreOptionsOf c ss → ((f : OptionName) → word ≡ (row_of f).word → MayStand c ss f → ⊥)
+pub no_option : (c : Command) (ss : List OptionSetting) (word : Argument) → AreOptionsOf c ss → ((f : OptionName) → word ≡ (row_of f).word → MayStand c (names_of ss) (spaces_of ss) f → ⊥)
     → BeginsList (IsListFor c) (command_word c ∷ (settings_words ss ++ (word ∷ []))) → ⊥
 no_option c ss word are unfit begun =
     let split = split_begun c ss (word ∷ []) begun in
@@ -129,13 +129,13 @@ unfolding value_words
 no_words None xs e = refl
 no_words (Some v) xs e = let n : suc (length xs) ≡ 0 = ap length e in absurd (omega (arith, n))
 
-refused_by : (c : Command) (ss : List OptionSetting) (word : Argument) (next : Option (Bor Argument)) (s : OptionSetting) → IsBadValue c ss word next → MayFollow c ss s → word ≡ (row_of s.name).word → AreWordsOf next s.value → ⊥
+refused_by : (c : Command) (ss : List OptionSetting) (word : Argument) (next : Option (Bor Argument)) (s : OptionSetting) → IsBadValue c (names_of ss) (spaces_of ss) word next → MayFollow c (names_of ss) (spaces_of ss) s → word ≡ (row_of s.name).word → AreWordsOf next s.value → ⊥
 refused_by c ss word next s bad may named are =
     let same : s.name ≡ bad.option = word-injective s.name bad.option (sym named ∙ bad.named) in
     bad.refused s.value are (subst (λ n. IsSetTo (row_of n).form s.value) same may.set) may.joins
 
 -- none of the option's values may follow
-pub no_value : (c : Command) (ss : List OptionSetting) (word : Argument) (next : Bor Argument) → AreOptionsOf c ss → IsBadValue c ss word (Some next)
+pub no_value : (c : Command) (ss : List OptionSetting) (word : Argument) (next : Bor Argument) → AreOptionsOf c ss → IsBadValue c (names_of ss) (spaces_of ss) word (Some next)
     → BeginsList (IsListFor c) (command_word c ∷ (settings_words ss ++ (word ∷ next.now ∷ []))) → ⊥
 no_value c ss word next are bad begun =
     let split = split_begun c ss (word ∷ next.now ∷ []) begun in
@@ -143,17 +143,17 @@ no_value c ss word next are bad begun =
     refused_by c ss word (Some next) found.0 bad found.2 found.3 (first_words found.0.value (settings_words found.1) next.now split.0 found.4)
 
 -- the words end before the option's value
-pub no_end : (c : Command) (ss : List OptionSetting) (word : Argument) → AreOptionsOf c ss → IsBadValue c ss word None → IsListFor c (command_word c ∷ (settings_words ss ++ (word ∷ []))) → ⊥
+pub no_end : (c : Command) (ss : List OptionSetting) (word : Argument) → AreOptionsOf c ss → IsBadValue c (names_of ss) (spaces_of ss) word None → IsListFor c (command_word c ∷ (settings_words ss ++ (word ∷ []))) → ⊥
 no_end c ss word are bad list =
     let found = next_option c ss word [] are list in
     refused_by c ss word None found.0 bad found.2 found.3 (inl (no_words found.0.value (settings_words found.1) found.4))
 
 -- an option that is needed doesn't stand
-pub not_whole : (c : Command) (ss : List OptionSetting) → AreOptionsOf c ss → (HasNeeded c ss → ⊥) → IsListFor c (command_word c ∷ settings_words ss) → ⊥
+pub not_whole : (c : Command) (ss : List OptionSetting) → AreOptionsOf c ss → (HasNeeded c (names_of ss) → ⊥) → IsListFor c (command_word c ∷ settings_words ss) → ⊥
 not_whole c ss are lacking list =
     let list' : IsListFor c (command_word c ∷ (settings_words ss ++ [])) = subst (λ ws. IsListFor c (command_word c ∷ ws)) (sym (append-nil (settings_words ss))) list in
     by (tail_words c ss [] are list')
   where
     by : ((rest : List OptionSetting) × AreAllOptionsOf c (ss ++ rest) × (settings_words rest ≡ [])) → ⊥
-    by ([], whole, e) = lacking (subst (HasNeeded c) (append-nil ss) whole.needed)
+    by ([], whole, e) = lacking (subst (λ xs. HasNeeded c (names_of xs)) (append-nil ss) whole.needed)
     by (s ∷ rest, whole, e) = let n : suc (length (value_words s.value ++ settings_words rest)) ≡ 0 = ap length e in absurd (omega (arith, n))

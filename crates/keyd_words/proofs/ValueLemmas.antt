@@ -19,7 +19,7 @@ use Rattle.std.specs.Result.{IsErrAnd}
 use Rattle.std.specs.Borrow.{Bor}
 use Rattle.keyd_words.specs.declared.fault.SettingFault.{SettingFault}
 use Rattle.keyd_words.specs.declared.fault.SettingFault.TheVariants as fault
-use Rattle.keyd_words.specs.Values.{WritesNumber, digest_word, algorithm_word, space_text, choice_letter, value_word, IsValueOf, IsSetTo, value_words, IsNewSpace, AreWordsOf, ForMisfit}
+use Rattle.keyd_words.specs.Values.{WritesNumber, digest_word, algorithm_word, space_text, choice_letter, value_word, AreChoices, IsValueOf, IsSetTo, value_words, IsNewSpace, AreWordsOf, ForMisfit}
 use Rattle.keyd_words.specs.Settings.{space_in_value}
 use Rattle.keyd_words.proofs.SpaceLemmas.{space_text-injective}
 use Rattle.keyd_words.proofs.TableLemmas.{IsSmall}
@@ -61,19 +61,23 @@ choices_injective (x ∷ xs) (y ∷ ys) e =
 
 one_value : (f : ValueForm) (v w : OptionValue) → IsSmall (Some f) → IsValueOf f v → IsValueOf f w → value_word v ≡ value_word w → v ≡ w
 unfolding IsValueOf value_word IsSmall
-one_value form.Text (value.Text a) (value.Text b) small p q e = ap (λ t. value.Text t) e
+one_value form.FileName (value.FileName a) (value.FileName b) small p q e = ap (λ t. value.FileName t) e
+one_value form.FileKey (value.FileKey a) (value.FileKey b) small p q e = ap (λ t. value.FileKey t) e
 one_value (form.Number low high) (value.Number m) (value.Number n) small p q e =
     ap (λ k. value.Number k) (decimal_injective m n (omega (arith, p.1, small.1)) (omega (arith, q.1, small.1)) e)
 one_value form.Digest (value.Digest a) (value.Digest b) small p q e = ap (λ d. value.Digest d) (digest_injective a b e)
 one_value form.Algorithm (value.Algorithm a) (value.Algorithm b) small p q e = ap (λ d. value.Algorithm d) (algorithm_injective a b e)
 one_value form.Space (value.Space a) (value.Space b) small p q e = ap (λ s. value.Space s) (space_text-injective a b p q e)
-one_value form.Choices (value.Choices a) (value.Choices b) small p q e = ap (λ cs. value.Choices cs) (choices_injective a b e)
-one_value form.Text (value.Text a) _ small p q e = absurd q
+one_value form.FirstChoices (value.FirstChoices a) (value.FirstChoices b) small p q e = ap (λ cs. value.FirstChoices cs) (choices_injective a b e)
+one_value form.SecondChoices (value.SecondChoices a) (value.SecondChoices b) small p q e = ap (λ cs. value.SecondChoices cs) (choices_injective a b e)
+one_value form.FileName (value.FileName a) _ small p q e = absurd q
+one_value form.FileKey (value.FileKey a) _ small p q e = absurd q
 one_value (form.Number low high) (value.Number m) _ small p q e = absurd q
 one_value form.Digest (value.Digest a) _ small p q e = absurd q
 one_value form.Algorithm (value.Algorithm a) _ small p q e = absurd q
 one_value form.Space (value.Space a) _ small p q e = absurd q
-one_value form.Choices (value.Choices a) _ small p q e = absurd q
+one_value form.FirstChoices (value.FirstChoices a) _ small p q e = absurd q
+one_value form.SecondChoices (value.SecondChoices a) _ small p q e = absurd q
 one_value _ _ _ small p q e = absurd p
 
 -- of two values in front of lists of words
@@ -91,29 +95,35 @@ one_set (Some f) (Some v) None xs ys small p q e = absurd q
 pub space_set : (f : Option ValueForm) (v : Option OptionValue) (x : NewSpace) → IsSetTo f v → space_in_value v ≡ Some x → (f ≡ Some form.Space) × IsNewSpace x
 unfolding IsSetTo IsValueOf space_in_value
 space_set (Some form.Space) (Some (value.Space y)) x p e = let same : y ≡ x = cc e in (refl, subst IsNewSpace same p)
-space_set (Some form.Text) (Some (value.Space y)) x p e = absurd p
+space_set (Some form.FileName) (Some (value.Space y)) x p e = absurd p
+space_set (Some form.FileKey) (Some (value.Space y)) x p e = absurd p
 space_set (Some (form.Number low high)) (Some (value.Space y)) x p e = absurd p
 space_set (Some form.Digest) (Some (value.Space y)) x p e = absurd p
 space_set (Some form.Algorithm) (Some (value.Space y)) x p e = absurd p
-space_set (Some form.Choices) (Some (value.Space y)) x p e = absurd p
+space_set (Some form.FirstChoices) (Some (value.Space y)) x p e = absurd p
+space_set (Some form.SecondChoices) (Some (value.Space y)) x p e = absurd p
 space_set None (Some (value.Space y)) x p e = absurd p
 space_set f None x p e = cc e
-space_set f (Some (value.Text t)) x p e = cc e
+space_set f (Some (value.FileName t)) x p e = cc e
+space_set f (Some (value.FileKey t)) x p e = cc e
 space_set f (Some (value.Number n)) x p e = cc e
 space_set f (Some (value.Digest d)) x p e = cc e
 space_set f (Some (value.Algorithm a)) x p e = cc e
-space_set f (Some (value.Choices cs)) x p e = cc e
+space_set f (Some (value.FirstChoices cs)) x p e = cc e
+space_set f (Some (value.SecondChoices cs)) x p e = cc e
 
 -- a value of the form of tablespaces has one
 pub set_space : (v : Option OptionValue) → IsSetTo (Some form.Space) v → (x : NewSpace) × (space_in_value v ≡ Some x)
 unfolding IsSetTo IsValueOf space_in_value
 set_space (Some (value.Space y)) p = (y, refl)
 set_space None p = absurd p
-set_space (Some (value.Text t)) p = absurd p
+set_space (Some (value.FileName t)) p = absurd p
+set_space (Some (value.FileKey t)) p = absurd p
 set_space (Some (value.Number n)) p = absurd p
 set_space (Some (value.Digest d)) p = absurd p
 set_space (Some (value.Algorithm a)) p = absurd p
-set_space (Some (value.Choices cs)) p = absurd p
+set_space (Some (value.FirstChoices cs)) p = absurd p
+set_space (Some (value.SecondChoices cs)) p = absurd p
 
 -- Words that write no value of a form
 
@@ -137,15 +147,25 @@ unfolding IsValueOf value_word
 no_space word unread (value.Space s) e is = unread s e is
 no_space word unread _ e is = absurd is
 
-pub no_choices : (word : Argument) → ((cs : List Choice) → word ≡ map choice_letter cs → IsValueOf form.Choices (value.Choices cs) → ⊥) → (v : OptionValue) → word ≡ value_word v → IsValueOf form.Choices v → ⊥
+pub no_first_choices : (word : Argument) → ((cs : List Choice) → word ≡ map choice_letter cs → AreChoices cs → ⊥) → (v : OptionValue) → word ≡ value_word v → IsValueOf form.FirstChoices v → ⊥
 unfolding IsValueOf value_word
-no_choices word unread (value.Choices cs) e is = unread cs e is
-no_choices word unread _ e is = absurd is
+no_first_choices word unread (value.FirstChoices cs) e is = unread cs e is
+no_first_choices word unread _ e is = absurd is
 
-pub misfit_choices : (f : SettingFault) (word : Argument) → ForMisfit f ((cs : List Choice) → word ≡ map choice_letter cs → IsValueOf form.Choices (value.Choices cs) → ⊥) → ForMisfit f ((v : OptionValue) → word ≡ value_word v → IsValueOf form.Choices v → ⊥)
-misfit_choices fault.Value word is = no_choices word is
-misfit_choices fault.OutOfMemory word is = tt
-misfit_choices fault.Name word is = absurd is
+pub misfit_first_choices : (f : SettingFault) (word : Argument) → ForMisfit f ((cs : List Choice) → word ≡ map choice_letter cs → AreChoices cs → ⊥) → ForMisfit f ((v : OptionValue) → word ≡ value_word v → IsValueOf form.FirstChoices v → ⊥)
+misfit_first_choices fault.Value word is = no_first_choices word is
+misfit_first_choices fault.OutOfMemory word is = tt
+misfit_first_choices fault.Name word is = absurd is
+
+pub no_second_choices : (word : Argument) → ((cs : List Choice) → word ≡ map choice_letter cs → AreChoices cs → ⊥) → (v : OptionValue) → word ≡ value_word v → IsValueOf form.SecondChoices v → ⊥
+unfolding IsValueOf value_word
+no_second_choices word unread (value.SecondChoices cs) e is = unread cs e is
+no_second_choices word unread _ e is = absurd is
+
+pub misfit_second_choices : (f : SettingFault) (word : Argument) → ForMisfit f ((cs : List Choice) → word ≡ map choice_letter cs → AreChoices cs → ⊥) → ForMisfit f ((v : OptionValue) → word ≡ value_word v → IsValueOf form.SecondChoices v → ⊥)
+misfit_second_choices fault.Value word is = no_second_choices word is
+misfit_second_choices fault.OutOfMemory word is = tt
+misfit_second_choices fault.Name word is = absurd is
 
 -- the same for a value that may be missing
 pub misfit_value : (f : SettingFault) (form' : ValueForm) (word : Bor Argument) → ForMisfit f ((v : OptionValue) → word.now ≡ value_word v → IsValueOf form' v → ⊥)

@@ -4,3 +4,5 @@ pub mod Values
 pub mod Settings
 pub mod Plans
 pub mod Words
+pub mod Drafts
+pub mod Limits

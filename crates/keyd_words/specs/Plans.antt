@@ -1,5 +1,5 @@
 -- What options ask for.
-use Rattle.std.specs.Prelude.{ℕ, Bool, List, [], ◌∷◌, Option, Some, None, unwrap_or, if◌then◌else◌, nat_lt}
+use Rattle.std.specs.Prelude.{◌≡◌, ℕ, Bool, List, [], ◌∷◌, length, Option, Some, None, unwrap_or, if◌then◌else◌, nat_lt}
 use Rattle.std.specs.List.{filter_map}
 use Rattle.std.specs.Str.{bytes_eq}
 use Rattle.aes_core.specs.declared.algorithm.Algorithm.{Algorithm}
@@ -9,6 +9,7 @@ use Rattle.disk_model.specs.declared.calls.Choice.TheVariants.{Lost}
 use Rattle.key_file.specs.declared.derivation.KeyDigest.{KeyDigest}
 use Rattle.key_file.specs.declared.derivation.KeyDigest.TheVariants.{Sha1}
 use Rattle.keyd_words.specs.declared.table.OptionName.{OptionName}
+use Rattle.keyd_words.specs.declared.text.NewSpace.{NewSpace}
 use Rattle.keyd_words.specs.declared.table.OptionName.TheVariants as name
 use Rattle.keyd_words.specs.declared.value.OptionValue.{OptionValue}
 use Rattle.keyd_words.specs.declared.value.OptionValue.TheVariants as value
@@ -20,84 +21,90 @@ use Rattle.keyd_words.specs.declared.plan.RunOptions.{RunOptions}
 use Rattle.keyd_words.specs.declared.plan.CrashOptions.{CrashOptions}
 use Rattle.keyd_words.specs.declared.plan.DrillOptions.{DrillOptions}
 use Rattle.keyd_words.specs.Table.{Argument, row_of}
-use Rattle.keyd_words.specs.Settings.{times_set, spaces_of, key_file_in}
+use Rattle.keyd_words.specs.Settings.{names_of, times_set, spaces_of}
 
--- the value that an option is set to
-unfoldable pub value_set : OptionName → List OptionSetting → Option OptionValue
-value_set f [] = None
-value_set f (s ∷ settings) = if bytes_eq (row_of s.name).word (row_of f).word then s.value else value_set f settings
+-- the first that is there
+abbrev pub or_else : {X : Type 0} → Option X → Option X → Option X
+or_else (Some x) other = Some x
+or_else None other = other
 
-abbrev pub number_in_value : Option OptionValue → Option ℕ
-number_in_value (Some (value.Number n)) = Some n
-number_in_value _ = None
+-- the last answer that the elements of a list give
+unfoldable pub last_found : {X Y : Type 0} → (X → Option Y) → List X → Option Y
+last_found f [] = None
+last_found f (x ∷ xs) = or_else (last_found f xs) (f x)
 
-abbrev pub text_in_value : Option OptionValue → Option Argument
-text_in_value (Some (value.Text text)) = Some text
-text_in_value _ = None
+unfoldable pub file_name_in : Option OptionValue → Option Argument
+file_name_in (Some (value.FileName text)) = Some text
+file_name_in _ = None
 
-abbrev pub choices_in_value : Option OptionValue → Option (List Choice)
-choices_in_value (Some (value.Choices choices)) = Some choices
-choices_in_value _ = None
+unfoldable pub file_key_in : Option OptionValue → Option Argument
+file_key_in (Some (value.FileKey text)) = Some text
+file_key_in _ = None
 
-abbrev pub digest_in_value : Option OptionValue → KeyDigest
-digest_in_value (Some (value.Digest d)) = d
-digest_in_value _ = Sha1
+unfoldable pub digest_in : Option OptionValue → Option KeyDigest
+digest_in (Some (value.Digest d)) = Some d
+digest_in _ = None
 
-abbrev pub algorithm_in_value : Option OptionValue → Algorithm
-algorithm_in_value (Some (value.Algorithm a)) = a
-algorithm_in_value _ = Cbc
+unfoldable pub algorithm_in : Option OptionValue → Option Algorithm
+algorithm_in (Some (value.Algorithm a)) = Some a
+algorithm_in _ = None
 
+unfoldable pub first_choices_in : Option OptionValue → Option (List Choice)
+first_choices_in (Some (value.FirstChoices choices)) = Some choices
+first_choices_in _ = None
+
+unfoldable pub second_choices_in : Option OptionValue → Option (List Choice)
+second_choices_in (Some (value.SecondChoices choices)) = Some choices
+second_choices_in _ = None
+
+-- the number that a named option is set to, where it is the option asked for
+unfoldable pub number_for : OptionName → OptionName → Option OptionValue → Option ℕ
+number_for f g (Some (value.Number n)) = if bytes_eq (row_of g).word (row_of f).word then Some n else None
+number_for f g _ = None
+
+-- what options are set to
 abbrev pub number_set : OptionName → List OptionSetting → Option ℕ
-number_set f settings = number_in_value (value_set f settings)
+number_set f settings = last_found (λ s. number_for f s.name s.value) settings
 
-abbrev pub text_set : OptionName → List OptionSetting → Option Argument
-text_set f settings = text_in_value (value_set f settings)
+abbrev pub file_key_set : List OptionSetting → Option Argument
+file_key_set settings = last_found (λ s. file_key_in s.value) settings
 
-abbrev pub choices_set : OptionName → List OptionSetting → Option (List Choice)
-choices_set f settings = choices_in_value (value_set f settings)
+abbrev pub digest_set : List OptionSetting → Option KeyDigest
+digest_set settings = last_found (λ s. digest_in s.value) settings
 
--- SHA-1 by default
-abbrev pub digest_set : List OptionSetting → KeyDigest
-digest_set settings = digest_in_value (value_set name.Digest settings)
+abbrev pub algorithm_set : List OptionSetting → Option Algorithm
+algorithm_set settings = last_found (λ s. algorithm_in s.value) settings
 
--- CBC by default
-abbrev pub algorithm_set : List OptionSetting → Algorithm
-algorithm_set settings = algorithm_in_value (value_set name.Algorithm settings)
+abbrev pub first_choices_set : List OptionSetting → Option (List Choice)
+first_choices_set settings = last_found (λ s. first_choices_in s.value) settings
+
+abbrev pub second_choices_set : List OptionSetting → Option (List Choice)
+second_choices_set settings = last_found (λ s. second_choices_in s.value) settings
 
 -- the names of the key files, in order
 abbrev pub file_names : List OptionSetting → List Argument
-file_names settings = filter_map key_file_in settings
+file_names settings = filter_map (λ s. file_name_in s.value) settings
 
--- the active version is by default the number of key files
-unfoldable pub key_plan : List OptionSetting → KeyOptions
-key_plan settings = record {
-  key_files = file_names settings;
-  filekey = text_set name.FileKey settings;
-  digest = digest_set settings;
-  active = unwrap_or (number_set name.Active settings) (times_set name.KeyFile settings);
+-- SHA-1 by default; the active version is by default the number of key files
+abbrev pub keys_with : List Argument → Option Argument → Option KeyDigest → Option ℕ → KeyOptions
+keys_with key_files filekey digest active = record {
+  key_files = key_files;
+  filekey = filekey;
+  digest = unwrap_or digest Sha1;
+  active = unwrap_or active (length key_files);
 }
 
-unfoldable pub create_plan : List OptionSetting → CreateOptions
-create_plan settings = record {
-  keys = key_plan settings;
-  spaces = spaces_of settings;
-  log = unwrap_or (number_set name.Log settings) 256;
-  algorithm = algorithm_set settings;
-}
+-- 256 blocks and CBC by default
+abbrev pub store_with : KeyOptions → List NewSpace → Option ℕ → Option Algorithm → CreateOptions
+store_with keys spaces log algorithm = record { keys = keys; spaces = spaces; log = unwrap_or log 256; algorithm = unwrap_or algorithm Cbc }
 
-unfoldable pub step_plan : List OptionSetting → StepOptions
-step_plan settings = record {
-  keys = key_plan settings;
-  age = unwrap_or (number_set name.Age settings) 1;
-  binlog = nat_lt 0 (times_set name.Binlog settings);
-}
+-- an age of 1 by default, and no binary log
+abbrev pub step_with : KeyOptions → Option ℕ → ℕ → StepOptions
+step_with keys age binlogs = record { keys = keys; age = unwrap_or age 1; binlog = nat_lt 0 binlogs }
 
-unfoldable pub run_plan : List OptionSetting → RunOptions
-run_plan settings = record {
-  step = step_plan settings;
-  flushers = unwrap_or (number_set name.Flushers settings) 1;
-  rotators = unwrap_or (number_set name.Rotators settings) 1;
-}
+-- one thread of each kind by default
+abbrev pub run_with : StepOptions → Option ℕ → Option ℕ → RunOptions
+run_with step flushers rotators = record { step = step; flushers = unwrap_or flushers 1; rotators = unwrap_or rotators 1 }
 
 -- by default all that isn't synced is lost
 unfoldable pub crash_plan : Option ℕ → Option (List Choice) → CrashOptions
@@ -108,11 +115,24 @@ unfoldable pub second_plan : Option ℕ → Option (List Choice) → Option Cras
 second_plan None None = None
 second_plan stop choices = Some (crash_plan stop choices)
 
-unfoldable pub drill_plan : List OptionSetting → DrillOptions
-drill_plan settings = record {
-  store = create_plan settings;
-  age = unwrap_or (number_set name.Age settings) 1;
-  first = crash_plan (number_set name.Stop settings) (choices_set name.Choice settings);
-  reopen = number_set name.Reopen settings;
-  second = second_plan (number_set name.Stop2 settings) (choices_set name.Choice2 settings);
-}
+abbrev pub drill_with : CreateOptions → Option ℕ → CrashOptions → Option ℕ → Option CrashOptions → DrillOptions
+drill_with store age first reopen second = record { store = store; age = unwrap_or age 1; first = first; reopen = reopen; second = second }
+
+-- What options ask for
+
+abbrev pub key_plan : List OptionSetting → KeyOptions
+key_plan settings = keys_with (file_names settings) (file_key_set settings) (digest_set settings) (number_set name.Active settings)
+
+abbrev pub create_plan : List OptionSetting → CreateOptions
+create_plan settings = store_with (key_plan settings) (spaces_of settings) (number_set name.Log settings) (algorithm_set settings)
+
+abbrev pub step_plan : List OptionSetting → StepOptions
+step_plan settings = step_with (key_plan settings) (number_set name.Age settings) (times_set name.Binlog settings)
+
+abbrev pub run_plan : List OptionSetting → RunOptions
+run_plan settings = run_with (step_plan settings) (number_set name.Flushers settings) (number_set name.Rotators settings)
+
+abbrev pub drill_plan : List OptionSetting → DrillOptions
+drill_plan settings =
+    drill_with (create_plan settings) (number_set name.Age settings) (crash_plan (number_set name.Stop settings) (first_choices_set settings)) (number_set name.Reopen settings)
+    (second_plan (number_set name.Stop2 settings) (second_choices_set settings))

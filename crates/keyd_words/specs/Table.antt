@@ -5,9 +5,10 @@ use Rattle.keyd_words.specs.declared.table.Command.TheVariants as command
 use Rattle.keyd_words.specs.declared.table.OptionName.{OptionName}
 use Rattle.keyd_words.specs.declared.table.OptionName.TheVariants as name
 use Rattle.keyd_words.specs.declared.table.ValueForm.{ValueForm}
-use Rattle.keyd_words.specs.declared.table.ValueForm.TheVariants.{Text, Number, Digest, Algorithm, Space, Choices}
-use Rattle.keyd_words.specs.declared.table.Takers.{Takers}
-use Rattle.keyd_words.specs.declared.table.Takers.TheVariants.{Every, Makers, Runners, Sessions, Run, Drill}
+use Rattle.keyd_words.specs.declared.table.ValueForm.TheVariants.{FileName, FileKey, Number, Digest, Algorithm, Space, FirstChoices, SecondChoices}
+use Rattle.keyd_words.specs.declared.table.OptionUse.{OptionUse}
+use Rattle.keyd_words.specs.declared.table.OptionUse.TheVariants.{No, May, Must}
+use Rattle.keyd_words.specs.declared.table.OptionUses.{OptionUses}
 
 abbrev pub Argument : Type 0
 Argument = List ℕ
@@ -22,24 +23,31 @@ command_word command.Recover = codes "recover"
 command_word command.Report = codes "report"
 command_word command.Make = codes "make"
 
--- whether the command is one of these
-unfoldable pub takes : Takers → Command → Bool
-takes Every command.Make = false
-takes Every _ = true
-takes Makers command.Create = true
-takes Makers command.Drill = true
-takes Makers _ = false
-takes Runners command.Step = true
-takes Runners command.Run = true
-takes Runners command.Drill = true
-takes Runners _ = false
-takes Sessions command.Step = true
-takes Sessions command.Run = true
-takes Sessions _ = false
-takes Run command.Run = true
-takes Run _ = false
-takes Drill command.Drill = true
-takes Drill _ = false
+-- the option may stand
+unfoldable pub is_taken : OptionUse → Bool
+is_taken No = false
+is_taken May = true
+is_taken Must = true
+
+-- it must
+unfoldable pub is_needed : OptionUse → Bool
+is_needed No = false
+is_needed May = false
+is_needed Must = true
+
+-- whether a command takes an option; `make` takes none
+unfoldable pub use_by : OptionUses → Command → OptionUse
+use_by u command.Create = u.create
+use_by u command.Step = u.step
+use_by u command.Run = u.run
+use_by u command.Drill = u.drill
+use_by u command.Recover = u.recover
+use_by u command.Report = u.report
+use_by u command.Make = No
+
+-- the columns: create, step, run, drill, recover, report
+abbrev pub uses : OptionUse → OptionUse → OptionUse → OptionUse → OptionUse → OptionUse → OptionUses
+uses create step run drill recover report = record { create = create; step = step; run = run; drill = drill; recover = recover; report = report }
 
 -- what the table says of an option
 pub record TableRow : Type 0 where
@@ -48,29 +56,34 @@ pub record TableRow : Type 0 where
   pub form : Option ValueForm
   -- how often it may stand
   pub most : ℕ
-  -- the commands that take it
-  pub takers : Takers
-  -- whether each of these needs it
-  pub needed : Bool
+  -- which commands take it
+  pub uses : OptionUses
 
-abbrev pub row : Argument → Option ValueForm → ℕ → Takers → Bool → TableRow
-row word form most takers needed = record { word = word; form = form; most = most; takers = takers; needed = needed }
+abbrev pub row : Argument → Option ValueForm → ℕ → OptionUses → TableRow
+row word form most columns = record { word = word; form = form; most = most; uses = columns }
 
--- the table: an option's word, the form of its value, how often it may stand, which commands take it, and whether these need it
+-- the table: an option's word, the form of its value, how often it may stand, and whether create, step, run, drill, recover and report take it
 unfoldable pub row_of : OptionName → TableRow
-row_of name.KeyFile = row (codes "--key-file") (Some Text) 64 Every true
-row_of name.FileKey = row (codes "--filekey") (Some Text) 1 Every false
-row_of name.Digest = row (codes "--digest") (Some Digest) 1 Every false
-row_of name.Space = row (codes "--space") (Some Space) 16 Makers true
-row_of name.Log = row (codes "--log") (Some (Number 32 4096)) 1 Makers false
-row_of name.Algorithm = row (codes "--algorithm") (Some Algorithm) 1 Makers false
-row_of name.Active = row (codes "--active") (Some (Number 1 4294967295)) 1 Every false
-row_of name.Age = row (codes "--age") (Some (Number 0 2147483648)) 1 Runners false
-row_of name.Binlog = row (codes "--binlog") None 1 Sessions false
-row_of name.Flushers = row (codes "--flushers") (Some (Number 1 4)) 1 Run false
-row_of name.Rotators = row (codes "--rotators") (Some (Number 1 4)) 1 Run false
-row_of name.Stop = row (codes "--stop") (Some (Number 1 1000000)) 1 Drill false
-row_of name.Choice = row (codes "--choice") (Some Choices) 1 Drill false
-row_of name.Reopen = row (codes "--reopen") (Some (Number 1 1000000)) 1 Drill false
-row_of name.Stop2 = row (codes "--stop2") (Some (Number 1 1000000)) 1 Drill false
-row_of name.Choice2 = row (codes "--choice2") (Some Choices) 1 Drill false
+row_of name.KeyFile = row (codes "--key-file") (Some FileName) 64 (uses Must Must Must Must Must Must)
+row_of name.FileKey = row (codes "--filekey") (Some FileKey) 1 (uses May May May May May May)
+row_of name.Digest = row (codes "--digest") (Some Digest) 1 (uses May May May May May May)
+row_of name.Space = row (codes "--space") (Some Space) 16 (uses Must No No Must No No)
+row_of name.Log = row (codes "--log") (Some (Number 32 4096)) 1 (uses May No No May No No)
+row_of name.Algorithm = row (codes "--algorithm") (Some Algorithm) 1 (uses May No No May No No)
+row_of name.Active = row (codes "--active") (Some (Number 1 4294967295)) 1 (uses May May May May May May)
+row_of name.Age = row (codes "--age") (Some (Number 0 2147483648)) 1 (uses No May May May No No)
+row_of name.Binlog = row (codes "--binlog") None 1 (uses No May May No No No)
+row_of name.Flushers = row (codes "--flushers") (Some (Number 1 4)) 1 (uses No No May No No No)
+row_of name.Rotators = row (codes "--rotators") (Some (Number 1 4)) 1 (uses No No May No No No)
+row_of name.Stop = row (codes "--stop") (Some (Number 1 1000000)) 1 (uses No No No May No No)
+row_of name.Choice = row (codes "--choice") (Some FirstChoices) 1 (uses No No No May No No)
+row_of name.Reopen = row (codes "--reopen") (Some (Number 1 1000000)) 1 (uses No No No May No No)
+row_of name.Stop2 = row (codes "--stop2") (Some (Number 1 1000000)) 1 (uses No No No May No No)
+row_of name.Choice2 = row (codes "--choice2") (Some SecondChoices) 1 (uses No No No May No No)
+
+-- the command takes the option, and it needs it
+abbrev pub takes : OptionName → Command → Bool
+takes f c = is_taken (use_by (row_of f).uses c)
+
+abbrev pub needs : OptionName → Command → Bool
+needs f c = is_needed (use_by (row_of f).uses c)

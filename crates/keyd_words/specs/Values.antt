@@ -63,21 +63,29 @@ choice_letter Torn = 116
 
 -- the word that writes a value
 unfoldable pub value_word : OptionValue → Argument
-value_word (value.Text text) = text
+value_word (value.FileName text) = text
+value_word (value.FileKey text) = text
 value_word (value.Number n) = decimal n
 value_word (value.Digest d) = digest_word d
 value_word (value.Algorithm a) = algorithm_word a
 value_word (value.Space s) = space_text s
-value_word (value.Choices choices) = map choice_letter choices
+value_word (value.FirstChoices choices) = map choice_letter choices
+value_word (value.SecondChoices choices) = map choice_letter choices
+
+-- 1 to 64 choices
+abbrev pub AreChoices : List Choice → Type 0
+AreChoices choices = (1 ≤ length choices) × (length choices ≤ 64)
 
 -- a value of a form, within its bounds
 unfoldable pub IsValueOf : ValueForm → OptionValue → Type 0
-IsValueOf form.Text (value.Text text) = Unit {0}
+IsValueOf form.FileName (value.FileName text) = Unit {0}
+IsValueOf form.FileKey (value.FileKey text) = Unit {0}
 IsValueOf (form.Number low high) (value.Number n) = (low ≤ n) × (n ≤ high)
 IsValueOf form.Digest (value.Digest d) = Unit {0}
 IsValueOf form.Algorithm (value.Algorithm a) = Unit {0}
 IsValueOf form.Space (value.Space s) = IsNewSpace s
-IsValueOf form.Choices (value.Choices choices) = (1 ≤ length choices) × (length choices ≤ 64)
+IsValueOf form.FirstChoices (value.FirstChoices choices) = AreChoices choices
+IsValueOf form.SecondChoices (value.SecondChoices choices) = AreChoices choices
 IsValueOf _ _ = ⊥
 
 -- what an option of this form is set to: a value where it has one

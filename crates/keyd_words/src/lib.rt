@@ -10,6 +10,7 @@
 //! 3. Want of memory alone is free.
 #![tactic(auto)]
 
+mod draft;
 mod fault;
 mod number;
 mod plan;

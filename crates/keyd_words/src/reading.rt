@@ -1,15 +1,16 @@
 // A list of words, read once into what it asks for.
 ghost use Rattle.std.specs.Prelude.{◌≡◌, ◌≢◌, ◌<◌, ◌≤◌, ℕ, List, [], ◌∷◌, Contains, MatchOption, IfOk, IfErr, IsTrue, ◌↔◌, Some, map, length, slice_index_or, string_bytes, Any};
+ghost use Rattle.keyd_words.specs.Drafts.{IsDraftOf};
+ghost use Rattle.keyd_words.specs.Limits.{IsWithinLimits};
 ghost use Rattle.keyd_words.specs.Table.{Argument, command_word};
 ghost use Rattle.keyd_words.specs.Words.{IsListOf, AsksToMake, Says, SaysOnly, IsValid, IsWordsFault, IsUsageAt, IsListFor, StartsWith};
 ghost use Rattle.keyd_words.specs.declared.table.Command.TheVariants as command;
 
+use crate::draft::Draft;
 use crate::fault::{SettingFault, WordsFault};
 use crate::number::{number_from, number_in};
-use crate::plan::{
-    MakeOptions, Plan, create_options, drill_options, key_options, run_options, step_options,
-};
-use crate::setting::{OptionSetting, has_needed, read_setting};
+use crate::plan::{MakeOptions, Plan};
+use crate::setting::{has_needed, read_setting};
 use crate::table::Command;
 use std::alloc::Global;
 
@@ -28,33 +29,38 @@ fn word_at(words: &[String], i: usize) -> Option<&str>
 }
 
 // The options behind a command's word.
-fn read_settings(
-    alloc: Global,
-    command: Command,
-    words: &[String],
-) -> Result<Vec<OptionSetting>, WordsFault>
+fn read_options(alloc: Global, command: Command, words: &[String]) -> Result<Draft, WordsFault>
     requires { StartsWith command (map string_bytes words.now) }
-    ensures ok { IfOk result (λ settings. IsListOf command (map string_bytes words.now) settings.items) }
+    ensures ok { IfOk result (IsDraftOf command (map string_bytes words.now)) }
+    ensures few { IfOk result (λ draft. length draft.key_files ≤ 64) }
     ensures err { IfErr result (IsWordsFault (IsListFor command) (map string_bytes words.now)) }
 {
-    let mut settings = Vec::new(alloc);
+    let mut draft = Draft::empty(alloc);
     let mut at = 1;
     while at < words.len() {
         let next = word_at(words, at + 1);
-        match read_setting(alloc, command, &settings, words[at].as_str(), next) {
+        let word = words[at].as_str();
+        match read_setting(
+            alloc,
+            command,
+            &draft.names,
+            draft.spaces.spaces(),
+            word,
+            next,
+        ) {
             Ok(setting) => {
                 at += if setting.value.is_some() { 2 } else { 1 };
-                settings.push(setting)?;
+                draft.note(setting)?;
             }
             Err(SettingFault::Name) => return Err(WordsFault::Usage(at)),
             Err(SettingFault::Value) => return Err(WordsFault::Usage(at + 1)),
             Err(SettingFault::OutOfMemory) => return Err(WordsFault::OutOfMemory),
         }
     }
-    if !has_needed(command, &settings) {
+    if !has_needed(command, &draft.names) {
         return Err(WordsFault::Usage(words.len()));
     }
-    Ok(settings)
+    Ok(draft)
 }
 
 // The two numbers behind `make`.
@@ -112,28 +118,28 @@ fn read_plan(alloc: Global, command: Command, words: &[String]) -> Result<Plan, 
 {
     match command {
         Command::Create => {
-            let settings = read_settings(alloc, command, words)?;
-            Ok(Plan::Create(create_options(alloc, &settings)?))
+            let draft = read_options(alloc, command, words)?;
+            Ok(Plan::Create(draft.store()))
         }
         Command::Step => {
-            let settings = read_settings(alloc, command, words)?;
-            Ok(Plan::Step(step_options(alloc, &settings)?))
+            let draft = read_options(alloc, command, words)?;
+            Ok(Plan::Step(draft.step()))
         }
         Command::Run => {
-            let settings = read_settings(alloc, command, words)?;
-            Ok(Plan::Run(run_options(alloc, &settings)?))
+            let draft = read_options(alloc, command, words)?;
+            Ok(Plan::Run(draft.run()))
         }
         Command::Drill => {
-            let settings = read_settings(alloc, command, words)?;
-            Ok(Plan::Drill(drill_options(alloc, &settings)?))
+            let draft = read_options(alloc, command, words)?;
+            Ok(Plan::Drill(draft.drill(alloc)?))
         }
         Command::Recover => {
-            let settings = read_settings(alloc, command, words)?;
-            Ok(Plan::Recover(key_options(alloc, &settings)?))
+            let draft = read_options(alloc, command, words)?;
+            Ok(Plan::Recover(draft.keys()))
         }
         Command::Report => {
-            let settings = read_settings(alloc, command, words)?;
-            Ok(Plan::Report(key_options(alloc, &settings)?))
+            let draft = read_options(alloc, command, words)?;
+            Ok(Plan::Report(draft.keys()))
         }
         Command::Make => Ok(Plan::Make(read_make(words)?)),
     }
@@ -167,6 +173,7 @@ fn read_plan(alloc: Global, command: Command, words: &[String]) -> Result<Plan, 
 pub fn read_words(alloc: Global, built: &[Command], words: &[String]) -> Result<Plan, WordsFault>
     ensures ok { IfOk result (Says built.now (map string_bytes words.now)) }
     ensures only { IfOk result (SaysOnly built.now (map string_bytes words.now)) }
+    ensures limits { IfOk result IsWithinLimits }
     ensures err { IfErr result (IsWordsFault (IsValid built.now) (map string_bytes words.now)) }
 {
     let Some(command) = command_in(built, words) else {

@@ -1,7 +1,7 @@
 // Options with their values, and which may stand behind others.
 ghost use Rattle.std.specs.Prelude.{◌≡◌, ◌≤◌, IsTrue, ◌↔◌, MatchOption, IfOk, IfErr, Some};
 ghost use Rattle.keyd_words.specs.Values.{AreWordsOf, pages_allowed};
-ghost use Rattle.keyd_words.specs.Settings.{times_set, space_in_value, pages_asked, IsFree, HasNeeded, MayStand, Joins, MayFollow, IsSettingFault};
+ghost use Rattle.keyd_words.specs.Settings.{times_in, space_in_value, pages_in, IsFree, HasNeeded, MayStand, Joins, MayFollow, IsSettingFault};
 ghost use Rattle.keyd_words.specs.Table.{row_of};
 
 use crate::fault::SettingFault;
@@ -15,6 +15,13 @@ const MOST_PAGES: u32 = 16_384;
 
 // The fewest pages of a tablespace.
 const FEWEST_PAGES: u32 = 2;
+
+// An option and its value, if it has one.
+#[derive(Debug, Drop)]
+pub(crate) struct OptionSetting {
+    pub name: OptionName,
+    pub value: Option<OptionValue>,
+}
 
 // The tablespace in an option's value.
 #[tactic(auto, unfolding(crate::specs::Settings::space_in_value))]
@@ -37,147 +44,116 @@ fn is_space(form: Option<ValueForm>) -> bool
     }
 }
 
-// An option and its value, if it has one.
-#[derive(Debug, Drop)]
-pub(crate) struct OptionSetting {
-    pub name: OptionName,
-    pub value: Option<OptionValue>,
-}
-
-impl OptionSetting {
-    ghost use Rattle.std.specs.Prelude.{◌≡◌, MatchOption, Some, None};
-    ghost use Rattle.keyd_words.specs.Settings.{space_in_value, key_file_in, key_file_named};
-
-    // The tablespace in its value.
-    pub(crate) fn space(&self) -> Option<NewSpace>
-        ensures { result ≡ space_in_value self.now.value }
-    {
-        space_in(&self.value)
-    }
-
-    // The name of a key file.
-    #[tactic(auto, unfolding(crate::specs::Settings::key_file_named))]
-    pub(crate) fn key_file(&self) -> Option<&str>
-        ensures { MatchOption result (key_file_in self.now ≡ None) (λ text. key_file_in self.now ≡ Some text.now) }
-    {
-        match self.name {
-            OptionName::KeyFile => match &self.value {
-                Some(OptionValue::Text(text)) => Some(text.as_str()),
-                _ => None,
-            },
-            _ => None,
-        }
-    }
-}
-
-// How often an option stands.
-pub(crate) fn times_of(settings: &[OptionSetting], name: OptionName) -> usize
-    ensures { result ≡ times_set name settings.now }
+// How often an option stands among these.
+pub(crate) fn times_of(names: &[OptionName], name: OptionName) -> usize
+    ensures { result ≡ times_in name names.now }
 {
     let mut count = 0;
-    for setting in settings {
-        if setting.name.is(name) {
+    for other in names {
+        if other.is(name) {
             count += 1;
         }
     }
     count
 }
 
-// The pages of the tablespaces, together.
-fn pages_of(settings: &[OptionSetting]) -> u32
-    requires { pages_asked settings.now ≤ pages_allowed }
-    ensures { result ≡ pages_asked settings.now }
+// The pages of tablespaces, together.
+fn pages_of(spaces: &[NewSpace]) -> u32
+    requires { pages_in spaces.now ≤ pages_allowed }
+    ensures { result ≡ pages_in spaces.now }
 {
     let mut pages = 0;
-    for setting in settings {
-        if let Some(space) = setting.space() {
-            pages += space.pages;
-        }
+    for space in spaces {
+        pages += space.pages;
     }
     pages
 }
 
-// Whether no tablespace among the options has this id.
-fn is_free(settings: &[OptionSetting], id: u32) -> bool
-    ensures { IsTrue result ↔ IsFree id settings.now }
+// Whether no tablespace has this id.
+fn is_free(spaces: &[NewSpace], id: u32) -> bool
+    ensures { IsTrue result ↔ IsFree id spaces.now }
 {
-    for setting in settings {
-        if let Some(space) = setting.space() {
-            if space.space == id {
-                return false;
-            }
+    for space in spaces {
+        if space.space == id {
+            return false;
         }
     }
     true
 }
 
-// Whether the option may stand once more behind these.
-fn has_room(command: Command, before: &[OptionSetting], name: OptionName) -> bool
-    requires { pages_asked before.now ≤ pages_allowed }
-    ensures { IsTrue result ↔ MayStand command before.now name }
+// Whether the option may stand once more behind options of these names and tablespaces.
+fn has_room(command: Command, names: &[OptionName], spaces: &[NewSpace], name: OptionName) -> bool
+    requires { pages_in spaces.now ≤ pages_allowed }
+    ensures { IsTrue result ↔ MayStand command names.now spaces.now name }
 {
     let row = name.row();
-    if !row.takers.include(command) {
+    if !row.uses.by(command).is_taken() {
         return false;
     }
-    if times_of(before, name) >= row.most {
+    if times_of(names, name) >= row.most {
         return false;
     }
-    !is_space(row.form) || FEWEST_PAGES <= MOST_PAGES - pages_of(before)
+    !is_space(row.form) || FEWEST_PAGES <= MOST_PAGES - pages_of(spaces)
 }
 
 // The option that a word names, where it may stand behind these.
-fn option_at(command: Command, before: &[OptionSetting], word: &str) -> Option<OptionName>
-    requires { pages_asked before.now ≤ pages_allowed }
-    ensures { MatchOption result ((f : _) → word.now ≡ (row_of f).word → MayStand command before.now f → ⊥) (λ f. (word.now ≡ (row_of f).word) × MayStand command before.now f) }
+fn option_at(
+    command: Command,
+    names: &[OptionName],
+    spaces: &[NewSpace],
+    word: &str,
+) -> Option<OptionName>
+    requires { pages_in spaces.now ≤ pages_allowed }
+    ensures { MatchOption result ((f : _) → word.now ≡ (row_of f).word → MayStand command names.now spaces.now f → ⊥) (λ f. (word.now ≡ (row_of f).word) × MayStand command names.now spaces.now f) }
 {
     let name = OptionName::named(word)?;
-    if !has_room(command, before, name) {
+    if !has_room(command, names, spaces, name) {
         return None;
     }
     Some(name)
 }
 
-// Whether a value that its form allows may stand behind these.
-fn joins(before: &[OptionSetting], value: &Option<OptionValue>) -> bool
-    requires { pages_asked before.now ≤ pages_allowed }
-    ensures { IsTrue result ↔ Joins before.now value.now }
+// Whether a value that its form allows may stand behind these tablespaces.
+fn joins(spaces: &[NewSpace], value: &Option<OptionValue>) -> bool
+    requires { pages_in spaces.now ≤ pages_allowed }
+    ensures { IsTrue result ↔ Joins spaces.now value.now }
 {
     let Some(space) = space_in(value) else {
         return true;
     };
-    is_free(before, space.space) && space.pages <= MOST_PAGES - pages_of(before)
+    is_free(spaces, space.space) && space.pages <= MOST_PAGES - pages_of(spaces)
 }
 
-// The option that stands behind these, read from its word and the word after it.
+// The option that stands behind options of these names and tablespaces, read from its word and the
+// word after it.
 pub(crate) fn read_setting(
     alloc: Global,
     command: Command,
-    before: &[OptionSetting],
+    names: &[OptionName],
+    spaces: &[NewSpace],
     word: &str,
     next: Option<&str>,
 ) -> Result<OptionSetting, SettingFault>
-    requires { pages_asked before.now ≤ pages_allowed }
-    ensures ok { IfOk result (λ s. (word.now ≡ (row_of s.name).word) × AreWordsOf next.entry s.value × MayFollow command before.now s) }
-    ensures err { IfErr result (IsSettingFault command before.now word.now next.entry) }
+    requires { pages_in spaces.now ≤ pages_allowed }
+    ensures ok { IfOk result (λ s. (word.now ≡ (row_of s.name).word) × AreWordsOf next.entry s.value × MayFollow command names.now spaces.now s) }
+    ensures err { IfErr result (IsSettingFault command names.now spaces.now word.now next.entry) }
 {
-    let Some(name) = option_at(command, before, word) else {
+    let Some(name) = option_at(command, names, spaces, word) else {
         return Err(SettingFault::Name);
     };
     let value = read_value(alloc, name.row().form, next)?;
-    if !joins(before, &value) {
+    if !joins(spaces, &value) {
         return Err(SettingFault::Value);
     }
     Ok(OptionSetting { name, value })
 }
 
-// Whether each option that the command needs stands.
-pub(crate) fn has_needed(command: Command, settings: &[OptionSetting]) -> bool
-    ensures { IsTrue result ↔ HasNeeded command settings.now }
+// Whether each option that the command needs stands among these.
+pub(crate) fn has_needed(command: Command, names: &[OptionName]) -> bool
+    ensures { IsTrue result ↔ HasNeeded command names.now }
 {
     for name in OptionName::ALL {
-        let row = name.row();
-        if row.needed && row.takers.include(command) && times_of(settings, name) == 0 {
+        if name.row().uses.by(command).is_needed() && times_of(names, name) == 0 {
             return false;
         }
     }

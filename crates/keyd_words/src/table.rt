@@ -1,5 +1,9 @@
 // The commands of `keyd`, and the table of their options.
 ghost use Rattle.std.specs.Prelude.{◌≡◌, ◌≢◌, MatchOption, IsTrue, ◌↔◌};
+ghost use Rattle.keyd_words.specs.Table.{uses};
+
+// The last turn at which a disk can be stopped.
+const LAST_STOP: u32 = 1_000_000;
 
 /// A command of `keyd`, the first of its words.
 #[derive(Clone, Copy, Debug, PartialEq, Eq)]
@@ -66,8 +70,10 @@ pub(crate) enum OptionName {
 // How the value of an option reads.
 #[derive(Clone, Copy, Debug, PartialEq, Eq)]
 pub(crate) enum ValueForm {
-    // Any word.
-    Text,
+    // Any word: the name of a key file.
+    FileName,
+    // Any word: the password of enciphered key files.
+    FileKey,
     // A number from `low` to `high`, in decimal digits without a sign or a leading zero.
     Number { low: u32, high: u32 },
     // sha1 or sha256.
@@ -76,59 +82,102 @@ pub(crate) enum ValueForm {
     Algorithm,
     // ID:PAGES:KEY:plain or ID:PAGES:KEY:cipher.
     Space,
-    // 1 to 64 letters of l, k and t.
-    Choices,
+    // 1 to 64 letters of l, k and t, for the crash of the first session.
+    FirstChoices,
+    // The same for that of the second.
+    SecondChoices,
 }
 
-// The commands that take an option.
+// Whether a command takes an option.
 #[derive(Clone, Copy, Debug, PartialEq, Eq)]
-pub(crate) enum Takers {
-    // Each but `make`.
-    Every,
-    // Those that make a store: create and drill.
-    Makers,
-    // Those that run a schedule: step, run and drill.
-    Runners,
-    // Those that run one on the store at hand: step and run.
-    Sessions,
-    Run,
-    Drill,
+pub(crate) enum OptionUse {
+    // It doesn't.
+    No,
+    // The option may stand.
+    May,
+    // It must.
+    Must,
 }
 
-impl Takers {
-    ghost use Rattle.keyd_words.specs.Table.{takes};
+impl OptionUse {
+    ghost use Rattle.std.specs.Prelude.{◌≡◌};
+    ghost use Rattle.keyd_words.specs.Table.{is_taken, is_needed};
 
-    // Whether the command is one of them.
-    #[tactic(auto, unfolding(crate::specs::Table::takes))]
-    pub(crate) fn include(self, command: Command) -> bool
-        ensures { result ≡ takes self command }
+    // Whether the option may stand.
+    #[tactic(auto, unfolding(crate::specs::Table::is_taken))]
+    pub(crate) fn is_taken(self) -> bool
+        ensures { result ≡ is_taken self }
     {
         match self {
-            Takers::Every => match command {
-                Command::Make => false,
-                _ => true,
-            },
-            Takers::Makers => match command {
-                Command::Create | Command::Drill => true,
-                _ => false,
-            },
-            Takers::Runners => match command {
-                Command::Step | Command::Run | Command::Drill => true,
-                _ => false,
-            },
-            Takers::Sessions => match command {
-                Command::Step | Command::Run => true,
-                _ => false,
-            },
-            Takers::Run => match command {
-                Command::Run => true,
-                _ => false,
-            },
-            Takers::Drill => match command {
-                Command::Drill => true,
-                _ => false,
-            },
+            OptionUse::No => false,
+            OptionUse::May => true,
+            OptionUse::Must => true,
         }
+    }
+
+    // Whether it must.
+    #[tactic(auto, unfolding(crate::specs::Table::is_needed))]
+    pub(crate) fn is_needed(self) -> bool
+        ensures { result ≡ is_needed self }
+    {
+        match self {
+            OptionUse::No => false,
+            OptionUse::May => false,
+            OptionUse::Must => true,
+        }
+    }
+}
+
+// Which commands take an option. `make` takes none.
+#[derive(Clone, Copy, Debug)]
+pub(crate) struct OptionUses {
+    pub create: OptionUse,
+    pub step: OptionUse,
+    pub run: OptionUse,
+    pub drill: OptionUse,
+    pub recover: OptionUse,
+    pub report: OptionUse,
+}
+
+impl OptionUses {
+    ghost use Rattle.std.specs.Prelude.{◌≡◌};
+    ghost use Rattle.keyd_words.specs.Table.{use_by};
+
+    // Whether the command takes it.
+    #[tactic(auto, unfolding(crate::specs::Table::use_by))]
+    pub(crate) fn by(self, command: Command) -> OptionUse
+        ensures { result ≡ use_by self command }
+    {
+        match command {
+            Command::Create => self.create,
+            Command::Step => self.step,
+            Command::Run => self.run,
+            Command::Drill => self.drill,
+            Command::Recover => self.recover,
+            Command::Report => self.report,
+            Command::Make => OptionUse::No,
+        }
+    }
+}
+
+// The columns of the table: create, step, run, drill, recover, report.
+fn uses(
+    create: OptionUse,
+    step: OptionUse,
+    run: OptionUse,
+    drill: OptionUse,
+    recover: OptionUse,
+    report: OptionUse,
+) -> OptionUses
+    ensures { result ≡ uses create step run drill recover report }
+{
+    OptionUses {
+        create,
+        step,
+        run,
+        drill,
+        recover,
+        report,
     }
 }
 
@@ -141,31 +190,21 @@ pub(crate) struct OptionRow {
     pub form: Option<ValueForm>,
     // How often it may stand.
     pub most: usize,
-    // The commands that take it.
-    pub takers: Takers,
-    // Whether each of these needs it.
-    pub needed: bool,
+    // Which commands take it.
+    pub uses: OptionUses,
 }
 
-fn row(
-    word: &'static str,
-    form: Option<ValueForm>,
-    most: usize,
-    takers: Takers,
-    needed: bool,
-) -> OptionRow
+fn row(word: &'static str, form: Option<ValueForm>, most: usize, uses: OptionUses) -> OptionRow
     ensures word { result.word.now ≡ word.now }
     ensures form { result.form ≡ form }
     ensures most { result.most ≡ most }
-    ensures takers { result.takers ≡ takers }
-    ensures needed { result.needed ≡ needed }
+    ensures uses { result.uses ≡ uses }
 {
     OptionRow {
         word,
         form,
         most,
-        takers,
-        needed,
+        uses,
     }
 }
 
@@ -173,39 +212,99 @@ impl OptionName {
     ghost use Rattle.std.specs.Prelude.{IsTrue, ◌↔◌};
     ghost use Rattle.keyd_words.specs.Table.{row_of};
 
-    // The option's line of the table.
+    // The table: an option's word, how its value reads, how often it may stand, and whether create,
+    // step, run, drill, recover and report take it.
     #[tactic(auto, unfolding(crate::specs::Table::row_of))]
     pub(crate) fn row(self) -> OptionRow
         ensures word { result.word.now ≡ (row_of self).word }
         ensures form { result.form ≡ (row_of self).form }
         ensures most { result.most ≡ (row_of self).most }
-        ensures takers { result.takers ≡ (row_of self).takers }
-        ensures needed { result.needed ≡ (row_of self).needed }
+        ensures uses { result.uses ≡ (row_of self).uses }
     {
-        use Takers::{Drill, Every, Makers, Run, Runners, Sessions};
+        use OptionUse::{May, Must, No};
+        use ValueForm::{Algorithm, Digest, FileKey, FileName, FirstChoices, SecondChoices, Space};
         match self {
-            OptionName::KeyFile => row("--key-file", Some(ValueForm::Text), 64, Every, true),
-            OptionName::FileKey => row("--filekey", Some(ValueForm::Text), 1, Every, false),
-            OptionName::Digest => row("--digest", Some(ValueForm::Digest), 1, Every, false),
-            OptionName::Space => row("--space", Some(ValueForm::Space), 16, Makers, true),
-            OptionName::Log => row("--log", number(32, 4096), 1, Makers, false),
+            OptionName::KeyFile => row(
+                "--key-file",
+                Some(FileName),
+                64,
+                uses(Must, Must, Must, Must, Must, Must),
+            ),
+            OptionName::FileKey => row(
+                "--filekey",
+                Some(FileKey),
+                1,
+                uses(May, May, May, May, May, May),
+            ),
+            OptionName::Digest => row(
+                "--digest",
+                Some(Digest),
+                1,
+                uses(May, May, May, May, May, May),
+            ),
+            OptionName::Space => row("--space", Some(Space), 16, uses(Must, No, No, Must, No, No)),
+            OptionName::Log => row("--log", number(32, 4096), 1, uses(May, No, No, May, No, No)),
             OptionName::Algorithm => row(
                 "--algorithm",
-                Some(ValueForm::Algorithm),
+                Some(Algorithm),
                 1,
-                Makers,
-                false,
+                uses(May, No, No, May, No, No),
             ),
-            OptionName::Active => row("--active", number(1, u32::MAX), 1, Every, false),
-            OptionName::Age => row("--age", number(0, 1 << 31), 1, Runners, false),
-            OptionName::Binlog => row("--binlog", None, 1, Sessions, false),
-            OptionName::Flushers => row("--flushers", number(1, 4), 1, Run, false),
-            OptionName::Rotators => row("--rotators", number(1, 4), 1, Run, false),
-            OptionName::Stop => row("--stop", number(1, 1_000_000), 1, Drill, false),
-            OptionName::Choice => row("--choice", Some(ValueForm::Choices), 1, Drill, false),
-            OptionName::Reopen => row("--reopen", number(1, 1_000_000), 1, Drill, false),
-            OptionName::Stop2 => row("--stop2", number(1, 1_000_000), 1, Drill, false),
-            OptionName::Choice2 => row("--choice2", Some(ValueForm::Choices), 1, Drill, false),
+            OptionName::Active => row(
+                "--active",
+                number(1, u32::MAX),
+                1,
+                uses(May, May, May, May, May, May),
+            ),
+            OptionName::Age => row(
+                "--age",
+                number(0, 1 << 31),
+                1,
+                uses(No, May, May, May, No, No),
+            ),
+            OptionName::Binlog => row("--binlog", None, 1, uses(No, May, May, No, No, No)),
+            OptionName::Flushers => row(
+                "--flushers",
+                number(1, 4),
+                1,
+                uses(No, No, May, No, No, No),
+            ),
+            OptionName::Rotators => row(
+                "--rotators",
+                number(1, 4),
+                1,
+                uses(No, No, May, No, No, No),
+            ),
+            OptionName::Stop => row(
+                "--stop",
+                number(1, LAST_STOP),
+                1,
+                uses(No, No, No, May, No, No),
+            ),
+            OptionName::Choice => row(
+                "--choice",
+                Some(FirstChoices),
+                1,
+                uses(No, No, No, May, No, No),
+            ),
+            OptionName::Reopen => row(
+                "--reopen",
+                number(1, LAST_STOP),
+                1,
+                uses(No, No, No, May, No, No),
+            ),
+            OptionName::Stop2 => row(
+                "--stop2",
+                number(1, LAST_STOP),
+                1,
+                uses(No, No, No, May, No, No),
+            ),
+            OptionName::Choice2 => row(
+                "--choice2",
+                Some(SecondChoices),
+                1,
+                uses(No, No, No, May, No, No),
+            ),
         }
     }
 

@@ -1,5 +1,8 @@
 // Lists of words that are read, and lists that are not.
-use crate::{Command, Plan, WordsFault, read_words};
+use crate::{Command, FileNames, NewSpace, OptionText, Plan, WordsFault, read_words};
+use aes_core::Algorithm;
+use disk_model::Choice;
+use key_file::KeyDigest;
 use std::alloc::{AllocError, Global};
 use std::test::Fail;
 
@@ -25,12 +28,23 @@ fn words_of(alloc: Global, line: &str) -> Result<Vec<String>, AllocError> {
     Ok(words)
 }
 
-// At which word a line is refused. None where it is valid, or where memory is refused.
-fn refused_at(alloc: Global, line: &str) -> Result<Option<usize>, AllocError> {
+// What a line says.
+fn plan_of(alloc: Global, line: &str) -> Result<Plan, Fail> {
     let words = words_of(alloc, line)?;
     match read_words(alloc, &ALL, &words) {
+        Ok(plan) => Ok(plan),
+        Err(WordsFault::Usage(_)) => Err(Fail::from("the words are refused")),
+        Err(WordsFault::OutOfMemory) => Err(Fail::from("out of memory")),
+    }
+}
+
+// At which word a line is refused. None where it is valid.
+fn refused_at(alloc: Global, line: &str) -> Result<Option<usize>, Fail> {
+    let words = words_of(alloc, line)?;
+    match read_words(alloc, &ALL, &words) {
+        Ok(_) => Ok(None),
         Err(WordsFault::Usage(i)) => Ok(Some(i)),
-        _ => Ok(None),
+        Err(WordsFault::OutOfMemory) => Err(Fail::from("out of memory")),
     }
 }
 
@@ -41,7 +55,7 @@ struct Case {
     at: Option<usize>,
 }
 
-fn is_as_said(alloc: Global, case: &Case) -> Result<bool, AllocError> {
+fn is_as_said(alloc: Global, case: &Case) -> Result<bool, Fail> {
     let at = refused_at(alloc, case.line)?;
     Ok(at == case.at)
 }
@@ -152,7 +166,7 @@ fn reads_option(
     option: &str,
     value: &str,
     taken: bool,
-) -> Result<bool, AllocError> {
+) -> Result<bool, Fail> {
     let whole = format!(in alloc; "{command} {option} {value}")?;
     let bare = format!(in alloc; "{command} {option}")?;
     let at = if taken { 3 } else { 1 };
@@ -203,7 +217,7 @@ fn refused_with(
     command: &str,
     options: &str,
     count: u32,
-) -> Result<Option<usize>, AllocError> {
+) -> Result<Option<usize>, Fail> {
     let mut line = String::from_str(alloc, command)?;
     for i in 0..count {
         let number = i + 1;
@@ -266,20 +280,153 @@ fn a_command_that_is_not_built_is_refused(rt: HostRuntime) -> Result<(), Fail> {
     Ok(())
 }
 
+// Whether these are the names of the key files.
+fn are_named(files: &FileNames, wanted: &[&str]) -> bool {
+    let names = files.names();
+    if names.len() != wanted.len() {
+        return false;
+    }
+    for i in 0..names.len() {
+        if names[i].as_str() != wanted[i] {
+            return false;
+        }
+    }
+    true
+}
+
+// Whether the password is this.
+fn is_password(filekey: &Option<OptionText>, wanted: &str) -> bool {
+    match filekey {
+        Some(text) => text.as_str() == wanted,
+        None => false,
+    }
+}
+
 #[test]
-fn a_drill_is_what_its_words_say(rt: HostRuntime) -> Result<(), Fail> {
+fn create_asks_for_what_its_words_say(rt: HostRuntime) -> Result<(), Fail> {
     let line =
-        "drill --key-file a --space 5:4:1:cipher --key-file b --stop 3 --choice lk --stop2 2";
-    let words = words_of(rt.alloc(), line)?;
-    let Ok(Plan::Drill(plan)) = read_words(rt.alloc(), &ALL, &words) else {
-        assert!(rt; false);
-        return Ok(());
+        "create --space 5:4:1:cipher --key-file a --log 4096 --key-file b --algorithm ctr --space 9:2:3:plain --filekey FILE:p --digest sha256";
+    let Plan::Create(plan) = plan_of(rt.alloc(), line)? else {
+        return Err(Fail::from("another command"));
     };
-    assert_eq!(rt; plan.store.keys.active, 2);
-    assert_eq!(rt; plan.store.keys.key_files.names().len(), 2);
-    assert_eq!(rt; plan.store.spaces.spaces().len(), 1);
-    assert_eq!(rt; plan.first.stop, Some(3));
-    assert_eq!(rt; plan.first.choices.choices().len(), 2);
-    assert!(rt; plan.second.is_some());
+    let spaces = [
+        NewSpace {
+            space: 5,
+            pages: 4,
+            key_id: 1,
+            ciphered: true,
+        },
+        NewSpace {
+            space: 9,
+            pages: 2,
+            key_id: 3,
+            ciphered: false,
+        },
+    ];
+    assert!(rt; plan.spaces.spaces() == spaces.as_slice());
+    assert!(rt; plan.log == 4096 && matches!(plan.algorithm, Algorithm::Ctr));
+    assert!(rt; are_named(&plan.keys.key_files, &["a", "b"]) && plan.keys.active == 2);
+    assert!(rt; is_password(&plan.keys.filekey, "FILE:p"));
+    assert!(rt; matches!(plan.keys.digest, KeyDigest::Sha256));
+    Ok(())
+}
+
+#[test]
+fn create_has_defaults(rt: HostRuntime) -> Result<(), Fail> {
+    let line = "create --key-file a --space 5:4:1:plain";
+    let Plan::Create(plan) = plan_of(rt.alloc(), line)? else {
+        return Err(Fail::from("another command"));
+    };
+    assert!(rt; plan.log == 256 && matches!(plan.algorithm, Algorithm::Cbc));
+    assert!(rt; plan.keys.active == 1 && plan.keys.filekey.is_none());
+    assert!(rt; matches!(plan.keys.digest, KeyDigest::Sha1));
+    Ok(())
+}
+
+#[test]
+fn step_asks_for_what_its_words_say(rt: HostRuntime) -> Result<(), Fail> {
+    let line = "step --binlog --age 2147483648 --key-file a --active 7";
+    let Plan::Step(plan) = plan_of(rt.alloc(), line)? else {
+        return Err(Fail::from("another command"));
+    };
+    assert!(rt; plan.binlog && plan.age == 2_147_483_648);
+    assert!(rt; are_named(&plan.keys.key_files, &["a"]) && plan.keys.active == 7);
+    Ok(())
+}
+
+#[test]
+fn run_asks_for_what_its_words_say(rt: HostRuntime) -> Result<(), Fail> {
+    let line = "run --rotators 2 --key-file a --flushers 4";
+    let Plan::Run(plan) = plan_of(rt.alloc(), line)? else {
+        return Err(Fail::from("another command"));
+    };
+    assert!(rt; plan.flushers == 4 && plan.rotators == 2);
+    assert!(rt; !plan.step.binlog && plan.step.age == 1);
+    assert!(rt; are_named(&plan.step.keys.key_files, &["a"]));
+    Ok(())
+}
+
+#[test]
+fn recover_asks_for_what_its_words_say(rt: HostRuntime) -> Result<(), Fail> {
+    let line = "recover --key-file a --active 3 --filekey b";
+    let Plan::Recover(keys) = plan_of(rt.alloc(), line)? else {
+        return Err(Fail::from("another command"));
+    };
+    assert!(rt; are_named(&keys.key_files, &["a"]) && keys.active == 3);
+    assert!(rt; is_password(&keys.filekey, "b"));
+    Ok(())
+}
+
+#[test]
+fn report_asks_for_what_its_words_say(rt: HostRuntime) -> Result<(), Fail> {
+    let line = "report --digest sha1 --key-file b --key-file a";
+    let Plan::Report(keys) = plan_of(rt.alloc(), line)? else {
+        return Err(Fail::from("another command"));
+    };
+    assert!(rt; are_named(&keys.key_files, &["b", "a"]) && keys.active == 2);
+    assert!(rt; matches!(keys.digest, KeyDigest::Sha1));
+    Ok(())
+}
+
+#[test]
+fn make_asks_for_what_its_words_say(rt: HostRuntime) -> Result<(), Fail> {
+    let Plan::Make(plan) = plan_of(rt.alloc(), "make 18446744073709551615 300")? else {
+        return Err(Fail::from("another command"));
+    };
+    assert!(rt; plan.number == u64::MAX && plan.count == 300);
+    Ok(())
+}
+
+#[test]
+fn a_drill_asks_for_what_its_words_say(rt: HostRuntime) -> Result<(), Fail> {
+    let line =
+        "drill --key-file a --space 5:4:1:cipher --key-file b --stop 3 --choice lk --stop2 2 --reopen 9 --age 0";
+    let Plan::Drill(plan) = plan_of(rt.alloc(), line)? else {
+        return Err(Fail::from("another command"));
+    };
+    assert!(rt; are_named(&plan.store.keys.key_files, &["a", "b"]) && plan.store.log == 256);
+    assert!(rt; plan.first.stop == Some(3) && plan.reopen == Some(9) && plan.age == 0);
+    assert!(rt; plan.first.choices.choices() == [Choice::Lost, Choice::Kept].as_slice());
+    let Some(second) = &plan.second else {
+        return Err(Fail::from("no second session"));
+    };
+    assert!(rt; second.stop == Some(2));
+    assert!(rt; second.choices.choices() == [Choice::Lost].as_slice());
+    Ok(())
+}
+
+#[test]
+fn a_drill_has_defaults(rt: HostRuntime) -> Result<(), Fail> {
+    let line = "drill --key-file a --space 5:4:1:cipher --choice2 t";
+    let Plan::Drill(plan) = plan_of(rt.alloc(), line)? else {
+        return Err(Fail::from("another command"));
+    };
+    assert!(rt; plan.first.stop.is_none() && plan.reopen.is_none() && plan.age == 1);
+    assert!(rt; plan.first.choices.choices() == [Choice::Lost].as_slice());
+    let Some(second) = &plan.second else {
+        return Err(Fail::from("no second session"));
+    };
+    assert!(rt; second.stop.is_none());
+    assert!(rt; second.choices.choices() == [Choice::Torn].as_slice());
     Ok(())
 }

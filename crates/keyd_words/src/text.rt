@@ -19,7 +19,7 @@ impl Model for OptionText {
 }
 
 impl OptionText {
-    ghost use Rattle.std.specs.Prelude.{◌≡◌, IfOk};
+    ghost use Rattle.std.specs.Prelude.{◌≡◌, IfOk, string_bytes};
 
     // A copy of a word.
     pub(crate) fn of(alloc: Global, word: &str) -> Result<OptionText, OutOfMemory>
@@ -29,11 +29,11 @@ impl OptionText {
         Ok(OptionText { text })
     }
 
-    // The same once more.
-    pub(crate) fn copy(&self, alloc: Global) -> Result<OptionText, OutOfMemory>
-        ensures { IfOk result (λ text. text ≡ self.now) }
+    // The text itself.
+    fn into_string(self) -> String
+        ensures { string_bytes result ≡ self }
     {
-        OptionText::of(alloc, self.as_str())
+        self.text
     }
 
     /// The text, lent.
@@ -59,7 +59,7 @@ impl Model for FileNames {
 }
 
 impl FileNames {
-    ghost use Rattle.std.specs.Prelude.{◌≡◌, [], ◌∷◌, ◌++◌, OnOk, map, string_bytes};
+    ghost use Rattle.std.specs.Prelude.{◌≡◌, [], ◌∷◌, ◌++◌, OnOk, map, string_bytes, length};
 
     pub(crate) fn none(alloc: Global) -> FileNames
         ensures { result ≡ [] }
@@ -70,11 +70,18 @@ impl FileNames {
     }
 
     // One name more.
-    pub(crate) fn push(&mut self, alloc: Global, name: &str) -> Result<(), OutOfMemory>
-        ensures { OnOk result (self.new ≡ self.old ++ name.now ∷ []) }
+    pub(crate) fn push(&mut self, name: OptionText) -> Result<(), OutOfMemory>
+        ensures { OnOk result (self.new ≡ self.old ++ name ∷ []) }
     {
-        self.names.push(String::from_str(alloc, name)?)?;
+        self.names.push(name.into_string())?;
         Ok(())
+    }
+
+    // How many there are.
+    pub(crate) fn len(&self) -> usize
+        ensures { result ≡ length self.now }
+    {
+        self.names.len()
     }
 
     /// The names.
@@ -114,12 +121,22 @@ impl Model for NewSpaces {
 }
 
 impl NewSpaces {
-    ghost use Rattle.std.specs.Prelude.{◌≡◌};
+    ghost use Rattle.std.specs.Prelude.{◌≡◌, [], ◌∷◌, ◌++◌, OnOk};
 
-    pub(crate) fn of(spaces: Vec<NewSpace>) -> NewSpaces
-        ensures { result ≡ spaces.items }
+    pub(crate) fn none(alloc: Global) -> NewSpaces
+        ensures { result ≡ [] }
     {
-        NewSpaces { spaces }
+        NewSpaces {
+            spaces: Vec::new(alloc),
+        }
+    }
+
+    // One tablespace more.
+    pub(crate) fn push(&mut self, space: NewSpace) -> Result<(), OutOfMemory>
+        ensures { OnOk result (self.new ≡ self.old ++ space ∷ []) }
+    {
+        self.spaces.push(space)?;
+        Ok(())
     }
 
     /// The tablespaces.
@@ -164,30 +181,10 @@ impl CrashChoices {
         Ok(CrashChoices { choices })
     }
 
-    // The same once more.
-    pub(crate) fn copy(&self, alloc: Global) -> Result<CrashChoices, OutOfMemory>
-        ensures { IfOk result (λ c. c ≡ self.now) }
-    {
-        let choices = copied(alloc, &self.choices)?;
-        Ok(CrashChoices { choices })
-    }
-
     /// The choices.
     pub fn choices(&self) -> &[Choice]
         ensures { result.now ≡ self.now }
     {
         &self.choices
     }
-}
-
-ghost use Rattle.std.specs.Prelude.{◌≡◌, IfOk};
-
-fn copied(alloc: Global, choices: &[Choice]) -> Result<Vec<Choice>, OutOfMemory>
-    ensures { IfOk result (λ copy. copy.items ≡ choices.now) }
-{
-    let mut copy = Vec::new(alloc);
-    for choice in choices {
-        copy.push(*choice)?;
-    }
-    Ok(copy)
 }

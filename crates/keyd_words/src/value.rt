@@ -1,7 +1,7 @@
 // The value of an option.
 ghost use Rattle.std.specs.Prelude.{◌≡◌, [], ◌∷◌, ◌⊎◌, MatchOption, IfOk, IfErr, length, map, All, Some};
 ghost use Rattle.keyd_words.specs.Parts.{IsCutAt, HasNoByte, AreFourParts};
-ghost use Rattle.keyd_words.specs.Values.{IsNewSpace, space_text, digest_word, algorithm_word, kind_word, choice_letter, value_word, IsValueOf, IsSetTo, AreWordsOf, ForMisfit};
+ghost use Rattle.keyd_words.specs.Values.{IsNewSpace, space_text, digest_word, algorithm_word, kind_word, choice_letter, value_word, AreChoices, IsValueOf, IsSetTo, AreWordsOf, ForMisfit};
 
 use crate::fault::SettingFault;
 use crate::number::number_from;
@@ -18,12 +18,14 @@ const MOST_CHOICES: usize = 64;
 // A value, by its form.
 #[derive(Debug, Drop)]
 pub(crate) enum OptionValue {
-    Text(OptionText),
+    FileName(OptionText),
+    FileKey(OptionText),
     Number(u32),
     Digest(KeyDigest),
     Algorithm(Algorithm),
     Space(NewSpace),
-    Choices(CrashChoices),
+    FirstChoices(CrashChoices),
+    SecondChoices(CrashChoices),
 }
 
 #[tactic(auto, unfolding(crate::specs::Values::digest_word))]
@@ -125,8 +127,8 @@ fn choice_of(letter: u8) -> Option<Choice>
 
 // The choices of a word, 1 to 64.
 fn choices_of(alloc: Global, word: &[u8]) -> Result<CrashChoices, SettingFault>
-    ensures ok { IfOk result (λ cs. (word.now ≡ map choice_letter cs) × IsValueOf (ValueForm.Choices) (OptionValue.Choices cs)) }
-    ensures err { IfErr result (λ e. ForMisfit e ((cs : _) → word.now ≡ map choice_letter cs → IsValueOf (ValueForm.Choices) (OptionValue.Choices cs) → ⊥)) }
+    ensures ok { IfOk result (λ cs. (word.now ≡ map choice_letter cs) × AreChoices cs) }
+    ensures err { IfErr result (λ e. ForMisfit e ((cs : _) → word.now ≡ map choice_letter cs → AreChoices cs → ⊥)) }
 {
     if word.is_empty() {
         return Err(SettingFault::Value);
@@ -150,7 +152,8 @@ fn value_of(alloc: Global, form: ValueForm, word: &str) -> Result<OptionValue, S
     ensures err { IfErr result (λ e. ForMisfit e ((v : _) → word.now ≡ value_word v → IsValueOf form v → ⊥)) }
 {
     match form {
-        ValueForm::Text => Ok(OptionValue::Text(OptionText::of(alloc, word)?)),
+        ValueForm::FileName => Ok(OptionValue::FileName(OptionText::of(alloc, word)?)),
+        ValueForm::FileKey => Ok(OptionValue::FileKey(OptionText::of(alloc, word)?)),
         ValueForm::Number { low, high } => match number_from(word.as_bytes(), low, high) {
             Some(number) => Ok(OptionValue::Number(number)),
             None => Err(SettingFault::Value),
@@ -167,8 +170,12 @@ fn value_of(alloc: Global, form: ValueForm, word: &str) -> Result<OptionValue, S
             Some(space) => Ok(OptionValue::Space(space)),
             None => Err(SettingFault::Value),
         },
-        ValueForm::Choices => match choices_of(alloc, word.as_bytes()) {
-            Ok(choices) => Ok(OptionValue::Choices(choices)),
+        ValueForm::FirstChoices => match choices_of(alloc, word.as_bytes()) {
+            Ok(choices) => Ok(OptionValue::FirstChoices(choices)),
+            Err(fault) => Err(fault),
+        },
+        ValueForm::SecondChoices => match choices_of(alloc, word.as_bytes()) {
+            Ok(choices) => Ok(OptionValue::SecondChoices(choices)),
             Err(fault) => Err(fault),
         },
     }

@@ -1,165 +1,103 @@
-use Rattle.std.proofs.Common.{rules, ◌≡◌, ◌≤◌, List, map, string_bytes, Contains, sym, ◌∙◌, subst, ap}
+use Rattle.std.proofs.Common.{rules, ◌≡◌, List, map, string_bytes, Contains, ◌∙◌, subst}
 use Rattle.std.specs.Result.{IsErrAnd}
-use Rattle.keyd_words.specs.declared.setting.OptionSetting.{OptionSetting}
 use Rattle.keyd_words.specs.declared.table.Command.{Command}
 use Rattle.keyd_words.specs.declared.table.Command.TheVariants as command
-use Rattle.keyd_words.specs.declared.table.OptionName.TheVariants as name
 use Rattle.keyd_words.specs.Plans.{key_plan, create_plan, step_plan, run_plan, drill_plan}
-use Rattle.keyd_words.specs.Settings.{times_set}
-use Rattle.keyd_words.specs.Words.{IsListOf, IsListFor, Says, IsValid, StartsWith, IsWordsFault}
+use Rattle.keyd_words.specs.Words.{IsListFor, Says, IsValid, StartsWith, IsWordsFault}
 use Rattle.keyd_words.proofs.ValueLemmas.{handed}
-use Rattle.keyd_words.proofs.PlanWords.{words_fault, few_files}
+use Rattle.keyd_words.proofs.PlanLemmas.{told_keys, told_store, told_step, told_run, told_drill}
+use Rattle.keyd_words.proofs.PlanWords.{words_fault, asked}
 use Rattle.keyd_words.proofs.reading.read_plan.Goals as goal
 
-pub returns-in_err-settings-in-Create-clause-err : goal.returns-in_err-settings-in-Create-clause-err
-returns-in_err-settings-in-Create-clause-err c built known =
+pub returns-in_err-draft-in-Create-clause-err : goal.returns-in_err-draft-in-Create-clause-err
+returns-in_err-draft-in-Create-clause-err c built known =
     let words = map string_bytes c.args.words.now in
-    let f = c.in_err-settings-in-Create.field-0.0 in
+    let f = c.in_err-draft-in-Create.field-0.0 in
     let same : IsErrAnd c.from_residual.result (λ e. e ≡ f) = search rules in
-    let is = subst (λ d. IsWordsFault (IsListFor d) words f) c.in-Create.is c.in_err-settings-in-Create.ensures.err in
+    let is = subst (λ d. IsWordsFault (IsListFor d) words f) c.in-Create.is c.in_err-draft-in-Create.ensures.err in
     handed (IsWordsFault (IsValid built) words) c.from_residual.result f same
     (words_fault built command.Create words f (subst (Contains built) c.in-Create.is known) (subst (λ d. StartsWith d words) c.in-Create.is c.requires) is)
 
-pub create_options-requires : goal.create_options-requires
-create_options-requires c =
-    subst (λ ss. times_set name.KeyFile ss ≤ 64) (sym c.deref.ensures.value) (few_files c.args.command (map string_bytes c.args.words.now) c.in_ok-settings-in-Create.settings.items c.in_ok-settings-in-Create.ensures.ok)
-
-pub returns-in_ok-create_options-in-Create-clause-ok : goal.returns-in_ok-create_options-in-Create-clause-ok
+pub returns-in_ok-draft-in-Create-clause-ok : goal.returns-in_ok-draft-in-Create-clause-ok
 unfolding Says
-returns-in_ok-create_options-in-Create-clause-ok c built known =
-    let words = map string_bytes c.args.words.now in
-    let ss = c.in_ok-settings-in-Create.settings.items in
-    record {
-      known = subst (Contains built) c.in-Create.is known;
-      settings = ss;
-      list = subst (λ d. IsListOf d words ss) c.in-Create.is c.in_ok-settings-in-Create.ensures.ok;
-      are = c.in_ok-create_options-in-Create.ensures ∙ ap create_plan c.deref.ensures.value;
-    }
+returns-in_ok-draft-in-Create-clause-ok c built known =
+    let draft = c.in_ok-draft-in-Create.draft in
+    asked built c.args.command command.Create (map string_bytes c.args.words.now) draft create_plan c.store.result c.in-Create.is known c.in_ok-draft-in-Create.ensures.ok (λ ss tells. c.store.ensures ∙ told_store draft ss tells)
 
-pub returns-in_err-settings-in-Step-clause-err : goal.returns-in_err-settings-in-Step-clause-err
-returns-in_err-settings-in-Step-clause-err c built known =
+pub returns-in_err-draft-in-Step-clause-err : goal.returns-in_err-draft-in-Step-clause-err
+returns-in_err-draft-in-Step-clause-err c built known =
     let words = map string_bytes c.args.words.now in
-    let f = c.in_err-settings-in-Step.field-0.0 in
-    let same : IsErrAnd c.from_residual-in_err-settings-in-Step.result (λ e. e ≡ f) = search rules in
-    let is = subst (λ d. IsWordsFault (IsListFor d) words f) c.in-Step.is c.in_err-settings-in-Step.ensures.err in
-    handed (IsWordsFault (IsValid built) words) c.from_residual-in_err-settings-in-Step.result f same
+    let f = c.in_err-draft-in-Step.field-0.0 in
+    let same : IsErrAnd c.from_residual-in_err-draft-in-Step.result (λ e. e ≡ f) = search rules in
+    let is = subst (λ d. IsWordsFault (IsListFor d) words f) c.in-Step.is c.in_err-draft-in-Step.ensures.err in
+    handed (IsWordsFault (IsValid built) words) c.from_residual-in_err-draft-in-Step.result f same
     (words_fault built command.Step words f (subst (Contains built) c.in-Step.is known) (subst (λ d. StartsWith d words) c.in-Step.is c.requires) is)
 
-pub step_options-requires : goal.step_options-requires
-step_options-requires c =
-    subst (λ ss. times_set name.KeyFile ss ≤ 64) (sym c.deref-in-Step.ensures.value) (few_files c.args.command (map string_bytes c.args.words.now) c.in_ok-settings-in-Step.settings.items c.in_ok-settings-in-Step.ensures.ok)
-
-pub returns-in_ok-step_options-in-Step-clause-ok : goal.returns-in_ok-step_options-in-Step-clause-ok
+pub returns-in_ok-draft-in-Step-clause-ok : goal.returns-in_ok-draft-in-Step-clause-ok
 unfolding Says
-returns-in_ok-step_options-in-Step-clause-ok c built known =
-    let words = map string_bytes c.args.words.now in
-    let ss = c.in_ok-settings-in-Step.settings.items in
-    record {
-      known = subst (Contains built) c.in-Step.is known;
-      settings = ss;
-      list = subst (λ d. IsListOf d words ss) c.in-Step.is c.in_ok-settings-in-Step.ensures.ok;
-      are = c.in_ok-step_options-in-Step.ensures ∙ ap step_plan c.deref-in-Step.ensures.value;
-    }
+returns-in_ok-draft-in-Step-clause-ok c built known =
+    let draft = c.in_ok-draft-in-Step.draft in
+    asked built c.args.command command.Step (map string_bytes c.args.words.now) draft step_plan c.step.result c.in-Step.is known c.in_ok-draft-in-Step.ensures.ok (λ ss tells. c.step.ensures ∙ told_step draft ss tells)
 
-pub returns-in_err-settings-in-Run-clause-err : goal.returns-in_err-settings-in-Run-clause-err
-returns-in_err-settings-in-Run-clause-err c built known =
+pub returns-in_err-draft-in-Run-clause-err : goal.returns-in_err-draft-in-Run-clause-err
+returns-in_err-draft-in-Run-clause-err c built known =
     let words = map string_bytes c.args.words.now in
-    let f = c.in_err-settings-in-Run.field-0.0 in
-    let same : IsErrAnd c.from_residual-in_err-settings-in-Run.result (λ e. e ≡ f) = search rules in
-    let is = subst (λ d. IsWordsFault (IsListFor d) words f) c.in-Run.is c.in_err-settings-in-Run.ensures.err in
-    handed (IsWordsFault (IsValid built) words) c.from_residual-in_err-settings-in-Run.result f same
+    let f = c.in_err-draft-in-Run.field-0.0 in
+    let same : IsErrAnd c.from_residual-in_err-draft-in-Run.result (λ e. e ≡ f) = search rules in
+    let is = subst (λ d. IsWordsFault (IsListFor d) words f) c.in-Run.is c.in_err-draft-in-Run.ensures.err in
+    handed (IsWordsFault (IsValid built) words) c.from_residual-in_err-draft-in-Run.result f same
     (words_fault built command.Run words f (subst (Contains built) c.in-Run.is known) (subst (λ d. StartsWith d words) c.in-Run.is c.requires) is)
 
-pub run_options-requires : goal.run_options-requires
-run_options-requires c =
-    subst (λ ss. times_set name.KeyFile ss ≤ 64) (sym c.deref-in-Run.ensures.value) (few_files c.args.command (map string_bytes c.args.words.now) c.in_ok-settings-in-Run.settings.items c.in_ok-settings-in-Run.ensures.ok)
-
-pub returns-in_ok-run_options-in-Run-clause-ok : goal.returns-in_ok-run_options-in-Run-clause-ok
+pub returns-in_ok-draft-in-Run-clause-ok : goal.returns-in_ok-draft-in-Run-clause-ok
 unfolding Says
-returns-in_ok-run_options-in-Run-clause-ok c built known =
-    let words = map string_bytes c.args.words.now in
-    let ss = c.in_ok-settings-in-Run.settings.items in
-    record {
-      known = subst (Contains built) c.in-Run.is known;
-      settings = ss;
-      list = subst (λ d. IsListOf d words ss) c.in-Run.is c.in_ok-settings-in-Run.ensures.ok;
-      are = c.in_ok-run_options-in-Run.ensures ∙ ap run_plan c.deref-in-Run.ensures.value;
-    }
+returns-in_ok-draft-in-Run-clause-ok c built known =
+    let draft = c.in_ok-draft-in-Run.draft in
+    asked built c.args.command command.Run (map string_bytes c.args.words.now) draft run_plan c.run.result c.in-Run.is known c.in_ok-draft-in-Run.ensures.ok (λ ss tells. c.run.ensures ∙ told_run draft ss tells)
 
-pub returns-in_err-settings-in-Drill-clause-err : goal.returns-in_err-settings-in-Drill-clause-err
-returns-in_err-settings-in-Drill-clause-err c built known =
+pub returns-in_err-draft-in-Drill-clause-err : goal.returns-in_err-draft-in-Drill-clause-err
+returns-in_err-draft-in-Drill-clause-err c built known =
     let words = map string_bytes c.args.words.now in
-    let f = c.in_err-settings-in-Drill.field-0.0 in
-    let same : IsErrAnd c.from_residual-in_err-settings-in-Drill.result (λ e. e ≡ f) = search rules in
-    let is = subst (λ d. IsWordsFault (IsListFor d) words f) c.in-Drill.is c.in_err-settings-in-Drill.ensures.err in
-    handed (IsWordsFault (IsValid built) words) c.from_residual-in_err-settings-in-Drill.result f same
+    let f = c.in_err-draft-in-Drill.field-0.0 in
+    let same : IsErrAnd c.from_residual-in_err-draft-in-Drill.result (λ e. e ≡ f) = search rules in
+    let is = subst (λ d. IsWordsFault (IsListFor d) words f) c.in-Drill.is c.in_err-draft-in-Drill.ensures.err in
+    handed (IsWordsFault (IsValid built) words) c.from_residual-in_err-draft-in-Drill.result f same
     (words_fault built command.Drill words f (subst (Contains built) c.in-Drill.is known) (subst (λ d. StartsWith d words) c.in-Drill.is c.requires) is)
 
-pub drill_options-requires : goal.drill_options-requires
-drill_options-requires c =
-    subst (λ ss. times_set name.KeyFile ss ≤ 64) (sym c.deref-in-Drill.ensures.value) (few_files c.args.command (map string_bytes c.args.words.now) c.in_ok-settings-in-Drill.settings.items c.in_ok-settings-in-Drill.ensures.ok)
-
-pub returns-in_ok-drill_options-in-Drill-clause-ok : goal.returns-in_ok-drill_options-in-Drill-clause-ok
+pub returns-in_ok-drill-in-Drill-clause-ok : goal.returns-in_ok-drill-in-Drill-clause-ok
 unfolding Says
-returns-in_ok-drill_options-in-Drill-clause-ok c built known =
-    let words = map string_bytes c.args.words.now in
-    let ss = c.in_ok-settings-in-Drill.settings.items in
-    record {
-      known = subst (Contains built) c.in-Drill.is known;
-      settings = ss;
-      list = subst (λ d. IsListOf d words ss) c.in-Drill.is c.in_ok-settings-in-Drill.ensures.ok;
-      are = c.in_ok-drill_options-in-Drill.ensures ∙ ap drill_plan c.deref-in-Drill.ensures.value;
-    }
+returns-in_ok-drill-in-Drill-clause-ok c built known =
+    let draft = c.in_ok-draft-in-Drill.draft in
+    asked built c.args.command command.Drill (map string_bytes c.args.words.now) draft drill_plan c.in_ok-drill-in-Drill.field-0 c.in-Drill.is known c.in_ok-draft-in-Drill.ensures.ok (λ ss tells. c.in_ok-drill-in-Drill.ensures ∙ told_drill draft ss tells)
 
-pub returns-in_err-settings-in-Recover-clause-err : goal.returns-in_err-settings-in-Recover-clause-err
-returns-in_err-settings-in-Recover-clause-err c built known =
+pub returns-in_err-draft-in-Recover-clause-err : goal.returns-in_err-draft-in-Recover-clause-err
+returns-in_err-draft-in-Recover-clause-err c built known =
     let words = map string_bytes c.args.words.now in
-    let f = c.in_err-settings-in-Recover.field-0.0 in
-    let same : IsErrAnd c.from_residual-in_err-settings-in-Recover.result (λ e. e ≡ f) = search rules in
-    let is = subst (λ d. IsWordsFault (IsListFor d) words f) c.in-Recover.is c.in_err-settings-in-Recover.ensures.err in
-    handed (IsWordsFault (IsValid built) words) c.from_residual-in_err-settings-in-Recover.result f same
+    let f = c.in_err-draft-in-Recover.field-0.0 in
+    let same : IsErrAnd c.from_residual-in_err-draft-in-Recover.result (λ e. e ≡ f) = search rules in
+    let is = subst (λ d. IsWordsFault (IsListFor d) words f) c.in-Recover.is c.in_err-draft-in-Recover.ensures.err in
+    handed (IsWordsFault (IsValid built) words) c.from_residual-in_err-draft-in-Recover.result f same
     (words_fault built command.Recover words f (subst (Contains built) c.in-Recover.is known) (subst (λ d. StartsWith d words) c.in-Recover.is c.requires) is)
 
-pub key_options-requires : goal.key_options-requires
-key_options-requires c =
-    subst (λ ss. times_set name.KeyFile ss ≤ 64) (sym c.deref-in-Recover.ensures.value) (few_files c.args.command (map string_bytes c.args.words.now) c.in_ok-settings-in-Recover.settings.items c.in_ok-settings-in-Recover.ensures.ok)
-
-pub returns-in_ok-key_options-in-Recover-clause-ok : goal.returns-in_ok-key_options-in-Recover-clause-ok
+pub returns-in_ok-draft-in-Recover-clause-ok : goal.returns-in_ok-draft-in-Recover-clause-ok
 unfolding Says
-returns-in_ok-key_options-in-Recover-clause-ok c built known =
-    let words = map string_bytes c.args.words.now in
-    let ss = c.in_ok-settings-in-Recover.settings.items in
-    record {
-      known = subst (Contains built) c.in-Recover.is known;
-      settings = ss;
-      list = subst (λ d. IsListOf d words ss) c.in-Recover.is c.in_ok-settings-in-Recover.ensures.ok;
-      are = c.in_ok-key_options-in-Recover.ensures ∙ ap key_plan c.deref-in-Recover.ensures.value;
-    }
+returns-in_ok-draft-in-Recover-clause-ok c built known =
+    let draft = c.in_ok-draft-in-Recover.draft in
+    asked built c.args.command command.Recover (map string_bytes c.args.words.now) draft key_plan c.keys.result c.in-Recover.is known c.in_ok-draft-in-Recover.ensures.ok (λ ss tells. c.keys.ensures ∙ told_keys draft ss tells)
 
-pub returns-in_err-settings-in-Report-clause-err : goal.returns-in_err-settings-in-Report-clause-err
-returns-in_err-settings-in-Report-clause-err c built known =
+pub returns-in_err-draft-in-Report-clause-err : goal.returns-in_err-draft-in-Report-clause-err
+returns-in_err-draft-in-Report-clause-err c built known =
     let words = map string_bytes c.args.words.now in
-    let f = c.in_err-settings-in-Report.field-0.0 in
-    let same : IsErrAnd c.from_residual-in_err-settings-in-Report.result (λ e. e ≡ f) = search rules in
-    let is = subst (λ d. IsWordsFault (IsListFor d) words f) c.in-Report.is c.in_err-settings-in-Report.ensures.err in
-    handed (IsWordsFault (IsValid built) words) c.from_residual-in_err-settings-in-Report.result f same
+    let f = c.in_err-draft-in-Report.field-0.0 in
+    let same : IsErrAnd c.from_residual-in_err-draft-in-Report.result (λ e. e ≡ f) = search rules in
+    let is = subst (λ d. IsWordsFault (IsListFor d) words f) c.in-Report.is c.in_err-draft-in-Report.ensures.err in
+    handed (IsWordsFault (IsValid built) words) c.from_residual-in_err-draft-in-Report.result f same
     (words_fault built command.Report words f (subst (Contains built) c.in-Report.is known) (subst (λ d. StartsWith d words) c.in-Report.is c.requires) is)
 
-pub key_options-requires-in-Report : goal.key_options-requires-in-Report
-key_options-requires-in-Report c =
-    subst (λ ss. times_set name.KeyFile ss ≤ 64) (sym c.deref-in-Report.ensures.value) (few_files c.args.command (map string_bytes c.args.words.now) c.in_ok-settings-in-Report.settings.items c.in_ok-settings-in-Report.ensures.ok)
-
-pub returns-in_ok-key_options-in-Report-clause-ok : goal.returns-in_ok-key_options-in-Report-clause-ok
+pub returns-in_ok-draft-in-Report-clause-ok : goal.returns-in_ok-draft-in-Report-clause-ok
 unfolding Says
-returns-in_ok-key_options-in-Report-clause-ok c built known =
-    let words = map string_bytes c.args.words.now in
-    let ss = c.in_ok-settings-in-Report.settings.items in
-    record {
-      known = subst (Contains built) c.in-Report.is known;
-      settings = ss;
-      list = subst (λ d. IsListOf d words ss) c.in-Report.is c.in_ok-settings-in-Report.ensures.ok;
-      are = c.in_ok-key_options-in-Report.ensures ∙ ap key_plan c.deref-in-Report.ensures.value;
-    }
+returns-in_ok-draft-in-Report-clause-ok c built known =
+    let draft = c.in_ok-draft-in-Report.draft in
+    asked built c.args.command command.Report (map string_bytes c.args.words.now) draft key_plan c.keys-in-Report.result c.in-Report.is known c.in_ok-draft-in-Report.ensures.ok (λ ss tells. c.keys-in-Report.ensures ∙ told_keys draft ss tells)
 
 pub returns-in_err-read_make-in-Make-clause-err : goal.returns-in_err-read_make-in-Make-clause-err
 returns-in_err-read_make-in-Make-clause-err c built known =

@@ -1,5 +1,7 @@
 use Rattle.std.proofs.Common.{map, string_bytes, Result, Ok, Err, IfOk}
 use Rattle.keyd_words.specs.Words.{Says, SaysOnly}
+use Rattle.keyd_words.specs.Limits.{IsWithinLimits}
+use Rattle.keyd_words.proofs.LimitLemmas.{said_within}
 use Rattle.keyd_words.proofs.PlanWords.{usage_unknown, one_plan}
 use Rattle.keyd_words.proofs.reading.read_words.Goals as goal
 
@@ -15,6 +17,12 @@ returns-clause-only c =
     let built = c.args.built.now in
     let words = map string_bytes c.args.words.now in
     ok_more (Says built words) (SaysOnly built words) c.read_plan.result (c.read_plan.ensures.ok built c.in-Some.ensures.0) (λ p says q other. one_plan built words p q says other)
+
+pub returns-clause-limits : goal.returns-clause-limits
+returns-clause-limits c =
+    let built = c.args.built.now in
+    let words = map string_bytes c.args.words.now in
+    ok_more (Says built words) IsWithinLimits c.read_plan.result (c.read_plan.ensures.ok built c.in-Some.ensures.0) (said_within built words)
 
 pub returns-clause-err : goal.returns-clause-err
 returns-clause-err c = c.read_plan.ensures.err c.args.built.now c.in-Some.ensures.0

@@ -1,6 +1,6 @@
-use Rattle.std.proofs.Common.{take}
-use Rattle.keyd_words.specs.Settings.{IsFree}
+use Rattle.std.proofs.Common.{◌≡◌, ◌≢◌, ℕ, ◌<◌, get_or}
+use Rattle.keyd_words.specs.declared.text.NewSpace.{NewSpace}
 use Rattle.keyd_words.proofs.setting.is_free.Given as goal
 
-abbrev pub invariant-loop-setting : goal.invariant-loop-setting
-invariant-loop-setting l = IsFree l.id (take l.setting-index l.settings)
+abbrev pub invariant-loop-space : goal.invariant-loop-space
+invariant-loop-space l = (k : ℕ) (d : NewSpace) → k < l.space-index → (get_or l.spaces k d).space ≢ l.id

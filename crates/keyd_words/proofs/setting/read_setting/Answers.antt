@@ -18,6 +18,6 @@ returns-then-not-joins-clause-err c =
       room = c.in-Some.ensures.1;
       refused = λ v are is joins.
           let same : v ≡ read = one_read (row_of f).form c.args.next v read (each_small f) are c.in_ok-value.ensures.ok.0 is set in
-          let there : Joins c.args.before.now read = subst (Joins c.args.before.now) same joins in
+          let there : Joins c.args.spaces.now read = subst (Joins c.args.spaces.now) same joins in
           search (rules, c.joins.ensures.1 there, c.if-not-joins.true);
     }
