@@ -10,7 +10,7 @@ use mathlib.Core.List.{append_assoc}
 use Rattle.disk_model.specs.declared.calls.Choice.TheVariants.{Lost}
 use Rattle.key_file.specs.declared.derivation.KeyDigest.TheVariants as digest
 use Rattle.aes_core.specs.declared.algorithm.Algorithm.TheVariants as algorithm
-use Rattle.keyd_words.specs.declared.table.Command.{Command}
+use Rattle.keyd_words.specs.declared.command.Command.{Command}
 use Rattle.keyd_words.specs.declared.table.OptionName.{OptionName}
 use Rattle.keyd_words.specs.declared.table.OptionName.TheVariants as name
 use Rattle.keyd_words.specs.declared.table.ValueForm.{ValueForm}

@@ -3,7 +3,7 @@ use Rattle.std.proofs.Common.{◌≡◌, ◌≢◌, ℕ, ◌+◌, ◌≤◌, ◌
 use Rattle.std.specs.List.{filter_map, cons_option}
 use Rattle.std.specs.Str.{bytes_eq}
 use Rattle.std.proofs.lemmas.Slice.Eq.{bytes_eq-Decides}
-use Rattle.keyd_words.specs.declared.table.Command.{Command}
+use Rattle.keyd_words.specs.declared.command.Command.{Command}
 use Rattle.keyd_words.specs.declared.table.OptionName.{OptionName}
 use Rattle.keyd_words.specs.declared.table.OptionName.TheVariants.{KeyFile, FileKey, Digest, Space, Log, Algorithm, Active, Age, Binlog, Flushers, Rotators, Stop, Choice, Reopen, Stop2, Choice2}
 use Rattle.keyd_words.specs.declared.table.ValueForm.{ValueForm}

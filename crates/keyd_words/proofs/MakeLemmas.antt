@@ -2,7 +2,7 @@
 use Rattle.std.proofs.Common.{◌≡◌, ℕ, ◌+◌, ◌≤◌, ◌<◌, ◌^◌, ◌++◌, length, take, drop, get_or, arith, sym, ◌∙◌, ap, subst, List, [], ◌∷◌, suc, refl}
 use Rattle.std.specs.Fmt.{decimal}
 use Rattle.keyd_words.specs.declared.plan.MakeOptions.{MakeOptions}
-use Rattle.keyd_words.specs.declared.table.Command.TheVariants as command
+use Rattle.keyd_words.specs.declared.command.Command.TheVariants as command
 use Rattle.keyd_words.specs.Table.{Argument, command_word}
 use Rattle.keyd_words.specs.Values.{WritesNumber}
 use Rattle.keyd_words.specs.Words.{AsksToMake, BeginsList, IsUsageAt}

@@ -9,7 +9,7 @@ use Rattle.std.proofs.Math.Seq.{get_or-append_seam}
 use Rattle.std.proofs.lemmas.List.Concat.{flat_map-append}
 use Rattle.std.proofs.lemmas.List.{take-append-drop, take_more, map-append}
 use mathlib.Core.List.{append_assoc}
-use Rattle.keyd_words.specs.declared.table.Command.{Command}
+use Rattle.keyd_words.specs.declared.command.Command.{Command}
 use Rattle.keyd_words.specs.declared.table.OptionName.{OptionName}
 use Rattle.keyd_words.specs.declared.table.OptionName.TheVariants as name
 use Rattle.keyd_words.specs.declared.text.NewSpace.{NewSpace}

@@ -2,8 +2,8 @@
 use Rattle.std.proofs.Common.{◌≡◌, ◌≢◌, ℕ, ◌≤◌, ◌<◌, ◌⊎◌, length, get_or, [], ◌∷◌, arith, sym, ◌∙◌, ap, inl, inr, Bool, true, false, nat_eq, if◌then◌else◌, refl, Option, Some, None, rules}
 use Rattle.std.specs.Str.{bytes_eq}
 use Rattle.std.proofs.lemmas.Slice.Eq.{bytes_eq-Decides}
-use Rattle.keyd_words.specs.declared.table.Command.{Command}
-use Rattle.keyd_words.specs.declared.table.Command.TheVariants as command
+use Rattle.keyd_words.specs.declared.command.Command.{Command}
+use Rattle.keyd_words.specs.declared.command.Command.TheVariants as command
 use Rattle.keyd_words.specs.declared.table.OptionName.{OptionName}
 use Rattle.keyd_words.specs.declared.table.OptionName.TheVariants.{KeyFile, FileKey, Digest, Space, Log, Algorithm, Active, Age, Binlog, Flushers, Rotators, Stop, Choice, Reopen, Stop2, Choice2}
 use Rattle.keyd_words.specs.declared.table.ValueForm.{ValueForm}

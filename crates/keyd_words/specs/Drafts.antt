@@ -9,7 +9,7 @@ use Rattle.keyd_words.specs.Table.{Argument, row_of}
 use Rattle.keyd_words.specs.Settings.{names_of, times_in, spaces_of}
 use Rattle.keyd_words.specs.Plans.{last_found, number_set, file_key_set, digest_set, algorithm_set, first_choices_set, second_choices_set, file_names, keys_with, store_with, step_with, run_with, crash_plan, second_plan, drill_with}
 use Rattle.keyd_words.specs.Words.{IsListOf}
-use Rattle.keyd_words.specs.declared.table.Command.{Command}
+use Rattle.keyd_words.specs.declared.command.Command.{Command}
 use Rattle.keyd_words.specs.declared.table.OptionName.TheVariants as name
 use Rattle.keyd_words.specs.declared.value.OptionValue.{OptionValue}
 use Rattle.keyd_words.specs.declared.value.OptionValue.TheVariants as value

@@ -5,7 +5,7 @@ use Rattle.std.specs.Borrow.{Bor}
 use Rattle.std.specs.Str.{bytes_eq}
 use Rattle.keyd_words.specs.declared.fault.SettingFault.{SettingFault}
 use Rattle.keyd_words.specs.declared.fault.SettingFault.TheVariants as fault
-use Rattle.keyd_words.specs.declared.table.Command.{Command}
+use Rattle.keyd_words.specs.declared.command.Command.{Command}
 use Rattle.keyd_words.specs.declared.table.OptionName.{OptionName}
 use Rattle.keyd_words.specs.declared.table.ValueForm.TheVariants as form
 use Rattle.keyd_words.specs.declared.text.NewSpace.{NewSpace}

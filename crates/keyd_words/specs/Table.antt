@@ -1,7 +1,7 @@
 -- The commands of `keyd`, and the table of their options.
 use Rattle.std.specs.Prelude.{ℕ, Bool, true, false, List, Option, Some, None, codes}
-use Rattle.keyd_words.specs.declared.table.Command.{Command}
-use Rattle.keyd_words.specs.declared.table.Command.TheVariants as command
+use Rattle.keyd_words.specs.declared.command.Command.{Command}
+use Rattle.keyd_words.specs.declared.command.Command.TheVariants as command
 use Rattle.keyd_words.specs.declared.table.OptionName.{OptionName}
 use Rattle.keyd_words.specs.declared.table.OptionName.TheVariants as name
 use Rattle.keyd_words.specs.declared.table.ValueForm.{ValueForm}

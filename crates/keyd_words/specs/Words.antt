@@ -7,8 +7,8 @@ use Rattle.keyd_words.specs.declared.plan.MakeOptions.{MakeOptions}
 use Rattle.keyd_words.specs.declared.plan.Plan.{Plan}
 use Rattle.keyd_words.specs.declared.plan.Plan.TheVariants.{Create, Step, Run, Drill, Recover, Report, Make}
 use Rattle.keyd_words.specs.declared.setting.OptionSetting.{OptionSetting}
-use Rattle.keyd_words.specs.declared.table.Command.{Command}
-use Rattle.keyd_words.specs.declared.table.Command.TheVariants as command
+use Rattle.keyd_words.specs.declared.command.Command.{Command}
+use Rattle.keyd_words.specs.declared.command.Command.TheVariants as command
 use Rattle.keyd_words.specs.Plans.{key_plan, create_plan, step_plan, run_plan, drill_plan}
 use Rattle.keyd_words.specs.Settings.{settings_words, AreAllOptionsOf}
 use Rattle.keyd_words.specs.Table.{Argument, command_word}

@@ -4,14 +4,14 @@ ghost use Rattle.keyd_words.specs.Drafts.{IsDraftOf};
 ghost use Rattle.keyd_words.specs.Limits.{IsWithinLimits};
 ghost use Rattle.keyd_words.specs.Table.{Argument, command_word};
 ghost use Rattle.keyd_words.specs.Words.{IsListOf, AsksToMake, Says, SaysOnly, IsValid, IsWordsFault, IsUsageAt, IsListFor, StartsWith};
-ghost use Rattle.keyd_words.specs.declared.table.Command.TheVariants as command;
+ghost use Rattle.keyd_words.specs.declared.command.Command.TheVariants as command;
 
+use crate::command::Command;
 use crate::draft::Draft;
 use crate::fault::{SettingFault, WordsFault};
 use crate::number::{number_from, number_in};
 use crate::plan::{MakeOptions, Plan};
 use crate::setting::{has_needed, read_setting};
-use crate::table::Command;
 use std::alloc::Global;
 
 // The most mini-transactions of `make`.

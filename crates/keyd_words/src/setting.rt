@@ -4,8 +4,9 @@ ghost use Rattle.keyd_words.specs.Values.{AreWordsOf, pages_allowed};
 ghost use Rattle.keyd_words.specs.Settings.{times_in, space_in_value, pages_in, IsFree, HasNeeded, MayStand, Joins, MayFollow, IsSettingFault};
 ghost use Rattle.keyd_words.specs.Table.{row_of};
 
+use crate::command::Command;
 use crate::fault::SettingFault;
-use crate::table::{Command, OptionName, ValueForm};
+use crate::table::{OptionName, ValueForm};
 use crate::text::NewSpace;
 use crate::value::{OptionValue, read_value};
 use std::alloc::Global;
@@ -87,7 +88,7 @@ fn has_room(command: Command, names: &[OptionName], spaces: &[NewSpace], name: O
     ensures { IsTrue result ↔ MayStand command names.now spaces.now name }
 {
     let row = name.row();
-    if !row.uses.by(command).is_taken() {
+    if !row.uses.of(command).is_taken() {
         return false;
     }
     if times_of(names, name) >= row.most {
@@ -153,7 +154,7 @@ pub(crate) fn has_needed(command: Command, names: &[OptionName]) -> bool
     ensures { IsTrue result ↔ HasNeeded command names.now }
 {
     for name in OptionName::ALL {
-        if name.row().uses.by(command).is_needed() && times_of(names, name) == 0 {
+        if name.row().uses.of(command).is_needed() && times_of(names, name) == 0 {
             return false;
         }
     }

@@ -1,52 +1,13 @@
-// The commands of `keyd`, and the table of their options.
-ghost use Rattle.std.specs.Prelude.{◌≡◌, ◌≢◌, MatchOption, IsTrue, ◌↔◌};
+// The table of the options of `keyd`'s commands.
+ghost use Rattle.std.specs.Prelude.{◌≡◌, Some, None};
 ghost use Rattle.keyd_words.specs.Table.{uses};
 
-// The last turn at which a disk can be stopped.
-const LAST_STOP: u32 = 1_000_000;
+use crate::command::Command;
 
-/// A command of `keyd`, the first of its words.
-#[derive(Clone, Copy, Debug, PartialEq, Eq)]
-pub enum Command {
-    Create,
-    Step,
-    Run,
-    Drill,
-    Recover,
-    Report,
-    Make,
-}
+// The turns at which a disk can be stopped.
+const TURNS: u32 = 1_000_000;
 
-impl Command {
-    ghost use Rattle.std.specs.Prelude.{◌≡◌, ◌≢◌, IsTrue, ◌↔◌, MatchOption};
-    ghost use Rattle.keyd_words.specs.Table.{command_word};
-
-    // Whether it is this command.
-    pub(crate) fn is(self, other: Command) -> bool
-        ensures { IsTrue result ↔ self ≡ other }
-    {
-        self == other
-    }
-
-    // The command that a word names.
-    #[tactic(auto, unfolding(crate::specs::Table::command_word))]
-    pub(crate) fn named(word: &str) -> Option<Command>
-        ensures { MatchOption result ((c : _) → word.now ≢ command_word c) (λ c. word.now ≡ command_word c) }
-    {
-        match word {
-            "create" => Some(Command::Create),
-            "step" => Some(Command::Step),
-            "run" => Some(Command::Run),
-            "drill" => Some(Command::Drill),
-            "recover" => Some(Command::Recover),
-            "report" => Some(Command::Report),
-            "make" => Some(Command::Make),
-            _ => None,
-        }
-    }
-}
-
-/// An option of a command.
+// An option of a command.
 #[derive(Clone, Copy, Debug, PartialEq, Eq)]
 pub(crate) enum OptionName {
     KeyFile,
@@ -145,7 +106,7 @@ impl OptionUses {
 
     // Whether the command takes it.
     #[tactic(auto, unfolding(crate::specs::Table::use_by))]
-    pub(crate) fn by(self, command: Command) -> OptionUse
+    pub(crate) fn of(self, command: Command) -> OptionUse
         ensures { result ≡ use_by self command }
     {
         match command {
@@ -181,6 +142,13 @@ fn uses(
     }
 }
 
+// The same for each command but `make`.
+fn each(same: OptionUse) -> OptionUses
+    ensures { result ≡ uses same same same same same same }
+{
+    uses(same, same, same, same, same, same)
+}
+
 // What the table says of an option.
 #[derive(Clone, Copy, Debug)]
 pub(crate) struct OptionRow {
@@ -208,8 +176,44 @@ fn row(word: &'static str, form: Option<ValueForm>, most: usize, uses: OptionUse
     }
 }
 
+// An option with a value that may stand so often.
+fn often(word: &'static str, form: ValueForm, most: usize, uses: OptionUses) -> OptionRow
+    ensures word { result.word.now ≡ word.now }
+    ensures form { result.form ≡ Some form }
+    ensures most { result.most ≡ most }
+    ensures uses { result.uses ≡ uses }
+{
+    row(word, Some(form), most, uses)
+}
+
+// One with a value that may stand once.
+fn once(word: &'static str, form: ValueForm, uses: OptionUses) -> OptionRow
+    ensures word { result.word.now ≡ word.now }
+    ensures form { result.form ≡ Some form }
+    ensures most { result.most ≡ 1 }
+    ensures uses { result.uses ≡ uses }
+{
+    row(word, Some(form), 1, uses)
+}
+
+// One without a value.
+fn flag(word: &'static str, uses: OptionUses) -> OptionRow
+    ensures word { result.word.now ≡ word.now }
+    ensures form { result.form ≡ None }
+    ensures most { result.most ≡ 1 }
+    ensures uses { result.uses ≡ uses }
+{
+    row(word, None, 1, uses)
+}
+
+fn number(low: u32, high: u32) -> ValueForm
+    ensures { result ≡ ValueForm.Number low high }
+{
+    ValueForm::Number { low, high }
+}
+
 impl OptionName {
-    ghost use Rattle.std.specs.Prelude.{IsTrue, ◌↔◌};
+    ghost use Rattle.std.specs.Prelude.{◌≡◌, ◌≢◌, IsTrue, ◌↔◌, MatchOption};
     ghost use Rattle.keyd_words.specs.Table.{row_of};
 
     // The table: an option's word, how its value reads, how often it may stand, and whether create,
@@ -224,87 +228,22 @@ impl OptionName {
         use OptionUse::{May, Must, No};
         use ValueForm::{Algorithm, Digest, FileKey, FileName, FirstChoices, SecondChoices, Space};
         match self {
-            OptionName::KeyFile => row(
-                "--key-file",
-                Some(FileName),
-                64,
-                uses(Must, Must, Must, Must, Must, Must),
-            ),
-            OptionName::FileKey => row(
-                "--filekey",
-                Some(FileKey),
-                1,
-                uses(May, May, May, May, May, May),
-            ),
-            OptionName::Digest => row(
-                "--digest",
-                Some(Digest),
-                1,
-                uses(May, May, May, May, May, May),
-            ),
-            OptionName::Space => row("--space", Some(Space), 16, uses(Must, No, No, Must, No, No)),
-            OptionName::Log => row("--log", number(32, 4096), 1, uses(May, No, No, May, No, No)),
-            OptionName::Algorithm => row(
-                "--algorithm",
-                Some(Algorithm),
-                1,
-                uses(May, No, No, May, No, No),
-            ),
-            OptionName::Active => row(
-                "--active",
-                number(1, u32::MAX),
-                1,
-                uses(May, May, May, May, May, May),
-            ),
-            OptionName::Age => row(
-                "--age",
-                number(0, 1 << 31),
-                1,
-                uses(No, May, May, May, No, No),
-            ),
-            OptionName::Binlog => row("--binlog", None, 1, uses(No, May, May, No, No, No)),
-            OptionName::Flushers => row(
-                "--flushers",
-                number(1, 4),
-                1,
-                uses(No, No, May, No, No, No),
-            ),
-            OptionName::Rotators => row(
-                "--rotators",
-                number(1, 4),
-                1,
-                uses(No, No, May, No, No, No),
-            ),
-            OptionName::Stop => row(
-                "--stop",
-                number(1, LAST_STOP),
-                1,
-                uses(No, No, No, May, No, No),
-            ),
-            OptionName::Choice => row(
-                "--choice",
-                Some(FirstChoices),
-                1,
-                uses(No, No, No, May, No, No),
-            ),
-            OptionName::Reopen => row(
-                "--reopen",
-                number(1, LAST_STOP),
-                1,
-                uses(No, No, No, May, No, No),
-            ),
-            OptionName::Stop2 => row(
-                "--stop2",
-                number(1, LAST_STOP),
-                1,
-                uses(No, No, No, May, No, No),
-            ),
-            OptionName::Choice2 => row(
-                "--choice2",
-                Some(SecondChoices),
-                1,
-                uses(No, No, No, May, No, No),
-            ),
+            OptionName::KeyFile => often("--key-file", FileName, 64, each(Must)),
+            OptionName::FileKey => once("--filekey", FileKey, each(May)),
+            OptionName::Digest => once("--digest", Digest, each(May)),
+            OptionName::Space => often("--space", Space, 16, uses(Must, No, No, Must, No, No)),
+            OptionName::Log => once("--log", number(32, 4096), uses(May, No, No, May, No, No)),
+            OptionName::Algorithm => once("--algorithm", Algorithm, uses(May, No, No, May, No, No)),
+            OptionName::Active => once("--active", number(1, u32::MAX), each(May)),
+            OptionName::Age => once("--age", number(0, 1 << 31), uses(No, May, May, May, No, No)),
+            OptionName::Binlog => flag("--binlog", uses(No, May, May, No, No, No)),
+            OptionName::Flushers => once("--flushers", number(1, 4), uses(No, No, May, No, No, No)),
+            OptionName::Rotators => once("--rotators", number(1, 4), uses(No, No, May, No, No, No)),
+            OptionName::Stop => once("--stop", number(1, TURNS), uses(No, No, No, May, No, No)),
+            OptionName::Choice => once("--choice", FirstChoices, uses(No, No, No, May, No, No)),
+            OptionName::Reopen => once("--reopen", number(1, TURNS), uses(No, No, No, May, No, No)),
+            OptionName::Stop2 => once("--stop2", number(1, TURNS), uses(No, No, No, May, No, No)),
+            OptionName::Choice2 => once("--choice2", SecondChoices, uses(No, No, No, May, No, No)),
         }
     }
 
@@ -346,12 +285,4 @@ impl OptionName {
         }
         None
     }
-}
-
-ghost use Rattle.std.specs.Prelude.{Some};
-
-fn number(low: u32, high: u32) -> Option<ValueForm>
-    ensures { result ≡ Some (ValueForm.Number low high) }
-{
-    Some(ValueForm::Number { low, high })
 }

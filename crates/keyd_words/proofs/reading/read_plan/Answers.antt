@@ -1,7 +1,7 @@
 use Rattle.std.proofs.Common.{rules, ◌≡◌, List, map, string_bytes, Contains, ◌∙◌, subst}
 use Rattle.std.specs.Result.{IsErrAnd}
-use Rattle.keyd_words.specs.declared.table.Command.{Command}
-use Rattle.keyd_words.specs.declared.table.Command.TheVariants as command
+use Rattle.keyd_words.specs.declared.command.Command.{Command}
+use Rattle.keyd_words.specs.declared.command.Command.TheVariants as command
 use Rattle.keyd_words.specs.Plans.{key_plan, create_plan, step_plan, run_plan, drill_plan}
 use Rattle.keyd_words.specs.Words.{IsListFor, Says, IsValid, StartsWith, IsWordsFault}
 use Rattle.keyd_words.proofs.ValueLemmas.{handed}
