@@ -1,10 +1,10 @@
 -- Clean pages that are found, put and taken out.
-use Rattle.std.proofs.Common.{◌≡◌, ℕ, ◌-◌, inl, inr, Bool, true, false, cond, List, [], ◌∷◌, take, Contains, Option, Some, None, is_some, Result, Ok, Err, OnOk, OnErr, refl, sym, ◌∙◌, ap, subst, arith}
+use Rattle.std.proofs.Common.{◌≡◌, inl, inr, Bool, true, false, cond, List, [], ◌∷◌, take, Contains, Option, Some, None, is_some, refl, sym, ◌∙◌, ap, subst, arith}
 use Rattle.std.specs.List.{IsDistinct}
 use Rattle.std.specs.Option.{option_map, option_map_or}
 use Rattle.std.specs.Map.{keys_of, lookup, lookup_entry, remove_entry}
 use Rattle.std.proofs.lemmas.Bool.Decides.{nat_tests}
-use Rattle.lru.specs.LruCache.{LruCache, lru_cache, promoted, put_entries}
+use Rattle.lru.specs.LruCache.{promoted}
 use Rattle.lru.proofs.CallerLemmas.{Contains-lookup, Contains-lookup_entry, Contains-promoted, Contains-take}
 use Rattle.lru.proofs.Pairs.{lookup-lookup_entry}
 use Rattle.lru.proofs.Splits.{Contains-cons, Contains-nil, all_at, all_unmap}
@@ -43,21 +43,14 @@ lookup_found name clean (Some e) is =
 pub lookup_promoted : (name : PageName) (clean : List (PageName × PlainPage)) → lookup (is_name name) (promoted (is_name name) clean) ≡ lookup (is_name name) clean
 lookup_promoted name clean = lookup_found name clean (lookup_entry (is_name name) clean) refl
 
--- a page that is put, and wasn't there
-absent_entry : (o : Option (PageName × PlainPage)) → option_map (λ (x : PageName × PlainPage). x.1) o ≡ None → o ≡ None
+-- a page that isn't there
+pub absent_entry : (o : Option (PageName × PlainPage)) → option_map (λ (x : PageName × PlainPage). x.1) o ≡ None → o ≡ None
 absent_entry None is = refl
 absent_entry (Some e) is = cc
 
-absent_lookup : (o : Option PlainPage) → is_some o ≡ false → o ≡ None
+pub absent_lookup : (o : Option PlainPage) → is_some o ≡ false → o ≡ None
 absent_lookup None is = refl
 absent_lookup (Some p) is = cc
-
-pub put_new : (cache : LruCache PageName PlainPage) (name : PageName) (page : PlainPage) → cache.cap ≡ 64 → is_some (lookup (is_name name) cache.entries) ≡ false → put_entries is_name cache name page ≡ admitted name page cache.entries
-put_new cache name page cap absent =
-    let none : lookup (is_name name) cache.entries ≡ None = absent_lookup (lookup (is_name name) cache.entries) absent in
-    let no_entry : lookup_entry (is_name name) cache.entries ≡ None = absent_entry (lookup_entry (is_name name) cache.entries) (lookup-lookup_entry (is_name name) cache.entries ∙ none) in
-    ap (λ (o : Option (PageName × PlainPage)). option_map_or (λ e. (e.0, page) ∷ remove_entry (is_name name) cache.entries) o ((name, page) ∷ take (cache.cap - 1) cache.entries)) no_entry
-    ∙ ap (λ (n : ℕ). (name, page) ∷ take (n - 1) cache.entries) cap
 
 pub clean_admitted : (list : DirtyList) (clean : List (PageName × PlainPage)) (name : PageName) (page : PlainPage) → AreClean list clean → is_dirty name list ≡ false → AreClean list (admitted name page clean)
 clean_admitted list clean name page are not_dirty e there = elim (Contains-cons (name, page) (take 63 clean) e there) [
@@ -100,15 +93,3 @@ gone name (f ∷ fs) distinct e there = by (is_name name f.0) refl there (gone n
       | inl same ↦ subst (λ (x : PageName × PlainPage). is_name name x.0 ≡ false) same is
       | inr behind ↦ later behind
     ]
-
--- what `put` leaves of a cache
-pub clean_put : {R E : Type 0} (list : DirtyList) (old new : LruCache PageName PlainPage) (name : PageName) (page : PlainPage) (r : Result R E)
-    → OnOk r (new ≡ lru_cache (put_entries is_name old name page) old.cap) → OnErr r (new ≡ old)
-    → AreClean list old.entries → old.cap ≡ 64 → is_dirty name list ≡ false → is_some (lookup (is_name name) old.entries) ≡ false
-    → AreClean list new.entries × (new.cap ≡ 64)
-clean_put list old new name page (Ok x) put stays are cap not_dirty absent = (
-  subst (AreClean list) (sym (ap (λ (c : LruCache PageName PlainPage). c.entries) put ∙ put_new old name page cap absent)) (clean_admitted list old.entries name page are not_dirty),
-  ap (λ (c : LruCache PageName PlainPage). c.cap) put ∙ cap,
-)
-clean_put list old new name page (Err x) put stays are cap not_dirty absent =
-    (subst (λ (c : LruCache PageName PlainPage). AreClean list c.entries) (sym stays) are, ap (λ (c : LruCache PageName PlainPage). c.cap) stays ∙ cap)

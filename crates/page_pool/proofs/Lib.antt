@@ -1,4 +1,5 @@
 pub mod Bodies
+pub mod CleanLists
 pub mod Cleans
 pub mod Counts
 pub mod Entries
@@ -7,3 +8,4 @@ pub mod HeadChanges
 pub mod HeldLaws
 pub mod Lists
 pub mod Named
+pub mod Slots

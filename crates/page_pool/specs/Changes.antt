@@ -1,5 +1,5 @@
 -- What the calls of a pool change.
-use Rattle.std.specs.Prelude.{◌≡◌, ℕ, zero, suc, ◌+◌, ◌<◌, ◌≤◌, ◌⊎◌, Bool, false, nat_eq, ◌||◌, if◌then◌else◌, List, [], ◌∷◌, length, take, slice_get, Option, Some, MatchBool}
+use Rattle.std.specs.Prelude.{◌≡◌, ℕ, zero, suc, ◌+◌, ◌<◌, ◌≤◌, Bool, false, nat_eq, ◌||◌, if◌then◌else◌, List, [], ◌∷◌, length, take, Option, Some}
 use Rattle.std.specs.Int.{to_be_bytes, w32}
 use Rattle.std.specs.Map.{lookup, remove_entry}
 use Rattle.lru.specs.LruCache.{promoted}
@@ -13,7 +13,7 @@ use Rattle.page_pool.specs.declared.names.DirtyPage.{DirtyPage}
 use Rattle.page_pool.specs.declared.names.PageName.{PageName}
 use Rattle.page_pool.specs.declared.fault.PoolFault.{PoolFault}
 use Rattle.page_pool.specs.declared.fault.PoolFault.TheVariants.{Full, OutOfMemory}
-use Rattle.page_pool.specs.Pages.{DirtyList, PoolState, entered, is_dirty, is_held, is_name, is_named, place_of, without}
+use Rattle.page_pool.specs.Pages.{DirtyList, PoolState, entered, held_page, is_dirty, is_held, is_name, is_named, place_of, without}
 
 -- The page as a change of it leaves it, by the fold's words. In page 0 a floor is the least version of the crypt record, and a ciphered space has the record's type 1 and its mode 1.
 abbrev pub page_changed_by : Change → PlainPage → PlainPage
@@ -102,10 +102,10 @@ abbrev pub IsFull : ℕ → DirtyList → PoolFault → Type 0
 IsFull fresh list (Full dirty more) = (dirty ≡ length list.entries) × (more ≡ fresh) × (256 < dirty + more)
 IsFull fresh list OutOfMemory = ⊥
 
--- where the changes aren't made
-abbrev pub IsPoolRefusal : List Change → DirtyList → PoolFault → Type 0
-IsPoolRefusal cs list (Full dirty fresh) = (dirty ≡ length list.entries) × (fresh ≡ fresh_pages cs list) × (256 < dirty + fresh)
-IsPoolRefusal cs list OutOfMemory = length list.entries + fresh_pages cs list < 257
+-- Where the changes aren't made: there is no room, or there is and a page that isn't held needs memory.
+abbrev pub IsPoolRefusal : List Change → PoolState → PoolFault → Type 0
+IsPoolRefusal cs s (Full dirty fresh) = (dirty ≡ length s.dirty.entries) × (fresh ≡ fresh_pages cs s.dirty) × (256 < dirty + fresh)
+IsPoolRefusal cs s OutOfMemory = (length s.dirty.entries + fresh_pages cs s.dirty < 257) × (0 < unused_pages cs s)
 
 -- ---- the other calls
 
@@ -122,13 +122,8 @@ abbrev pub is_dirty_at : PageName → ℕ → List DirtyPage → Bool
 is_dirty_at name lsn [] = false
 is_dirty_at name lsn (d ∷ ds) = if is_named name d then nat_eq d.lsn lsn else is_dirty_at name lsn ds
 
--- The page of a name isn't dirty any more: it is held as the first of the clean ones, or not at all where there is no memory for it.
-abbrev pub IsMadeClean : PageName → PoolState → PoolState → Type 0
-IsMadeClean name old new =
-    (page : PlainPage) × (slice_get old.dirty.pages (place_of name old.dirty.entries) ≡ Some page)
-    × (new.dirty ≡ without (place_of name old.dirty.entries) old.dirty)
-    × ((new.clean ≡ admitted name page old.clean) ⊎ (new.clean ≡ old.clean))
-
--- exactly a page that is dirty at this LSN is made clean
-abbrev pub IsCleanedAt : PageName → ℕ → PoolState → PoolState → Type 0
-IsCleanedAt name lsn old new = MatchBool (is_dirty_at name lsn old.dirty.entries) (IsMadeClean name old new) (new ≡ old)
+-- A page that is dirty at this LSN is dirty no more, and is the first of the clean ones; else nothing changes.
+abbrev pub cleaned : PageName → ℕ → PoolState → PoolState
+cleaned name lsn s =
+    if is_dirty_at name lsn s.dirty.entries then record { dirty = without (place_of name s.dirty.entries) s.dirty; clean = admitted name (used (held_page name s)) s.clean }
+    else s

@@ -1,3 +1,4 @@
 pub mod Changes
 pub mod Contents
 pub mod Pages
+pub mod Slots

@@ -1,7 +1,7 @@
 -- Pages by name, and what a pool holds of them.
 use Rattle.std.specs.Prelude.{◌≡◌, ℕ, ◌≤◌, Bool, false, nat_eq, nat_lt, ◌&&◌, ◌||◌, if◌then◌else◌, List, [], ◌∷◌, length, Contains, is_some, slice_get, Option}
-use Rattle.std.specs.List.{insert, remove, list_any, position_or_len, prefix_len}
-use Rattle.std.specs.Map.{lookup}
+use Rattle.std.specs.List.{IsDistinct, insert, remove, list_any, position_or_len, prefix_len}
+use Rattle.std.specs.Map.{keys_of, lookup}
 use Rattle.byte_list.specs.Bytes.{range}
 use Rattle.byte_list.specs.Fields.{be16_at}
 use Rattle.store_model.specs.declared.contents.PlainPage.{PlainPage}
@@ -81,6 +81,17 @@ pub record IsDirtyList (list : DirtyList) : Type 0 where
 abbrev pub is_held : PageName → PoolState → Bool
 is_held name s = is_dirty name s.dirty || is_some (lookup (is_name name) s.clean)
 
+-- What holds of clean pages: none of them is the same page as another.
+pub record IsCleanList (clean : List (PageName × PlainPage)) : Type 0 where
+  pub most : length clean ≤ 64
+  pub apart : IsDistinct is_name (keys_of clean)
+
 -- no clean page is dirty
 abbrev pub AreClean : DirtyList → List (PageName × PlainPage) → Type 0
 AreClean list clean = (e : PageName × PlainPage) → Contains clean e → is_dirty e.0 list ≡ false
+
+-- What holds of every pool.
+pub record IsPool (s : PoolState) : Type 0 where
+  pub dirty : IsDirtyList s.dirty
+  pub clean : IsCleanList s.clean
+  pub apart : AreClean s.dirty s.clean

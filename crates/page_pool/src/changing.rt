@@ -64,7 +64,8 @@ fn name_page(changes: &[Change], name: PageName) -> bool
 }
 
 fn zero_frames(alloc: Global, n: usize) -> Result<Vec<Frame>, OutOfMemory>
-    ensures { IfOk result (λ frames. frames.items ≡ replicate n (used None)) }
+    ensures zero { IfOk result (λ frames. frames.items ≡ replicate n (used None)) }
+    ensures refused { OnErr result (0 < n) }
 {
     let mut frames = Vec::new(alloc);
     for _i in 0..n {
@@ -81,7 +82,8 @@ impl Pool {
     ///
     /// # Errors
     /// [`PoolFault::Full`] exactly where the dirty pages and the pages named that aren't dirty are
-    /// more than 256, then [`PoolFault::OutOfMemory`]. The pool is as it was after both.
+    /// more than 256, then [`PoolFault::OutOfMemory`], only where a page is named that isn't held.
+    /// The pool is as it was after both.
     pub fn change(&mut self, mtr: &Mtr, lsn: u64, first: u64) -> Result<(), PoolFault>
         requires { AreAllowed mtr.now }
         ensures changed { OnOk result (self.new ≡ pool_after lsn first mtr.now self.old) }
@@ -91,7 +93,7 @@ impl Pool {
         ensures folded { OnOk result (FoldsPages mtr.now self.old self.new) }
         ensures accepted { OnOk result (length self.old.dirty.entries + fresh_pages mtr.now self.old.dirty < 257) }
         // The conditions exclude one another, so each answer comes exactly where its own holds.
-        ensures refused { IfErr result (IsPoolRefusal mtr.now self.old.dirty) }
+        ensures refused { IfErr result (IsPoolRefusal mtr.now self.old) }
         ensures unchanged { OnErr result (self.new ≡ self.old) }
     {
         let changes = mtr.changes();
@@ -112,7 +114,7 @@ impl Pool {
         ensures holds { OnOk result ((name : PageName) → held_page name self.new ≡ held_after (change_of change.now ∷ []) name (held_page name self.old)) }
         ensures folded { OnOk result (FoldsPages (change_of change.now ∷ []) self.old self.new) }
         ensures accepted { OnOk result (length self.old.dirty.entries + fresh_pages (change_of change.now ∷ []) self.old.dirty < 257) }
-        ensures refused { IfErr result (IsPoolRefusal (change_of change.now ∷ []) self.old.dirty) }
+        ensures refused { IfErr result (IsPoolRefusal (change_of change.now ∷ []) self.old) }
         ensures unchanged { OnErr result (self.new ≡ self.old) }
     {
         let name = name_of(change);
@@ -146,7 +148,7 @@ impl Pool {
     fn is_held(&self, name: PageName) -> bool
         ensures { result ≡ is_held name self.now }
     {
-        self.is_dirty(name) || self.clean.contains(&name)
+        self.is_dirty(name) || self.clean.has(name)
     }
 
     // How many pages are named that aren't dirty.
@@ -205,8 +207,8 @@ impl Pool {
             return;
         }
         // No name stands twice among the clean pages.
-        let _held = self.clean.len();
-        let mut frame = match self.clean.pop(&name) {
+        self.clean.kept();
+        let mut frame = match self.clean.take(name) {
             Some(frame) => frame,
             None => spare.pop().unwrap(),
         };

@@ -8,11 +8,12 @@
 //! 1. At most 256 pages are dirty, and at most 64 are clean. None is both, and none comes twice.
 //! 2. A mini-transaction is made whole or not at all: what a refused one names is as it was.
 //! 3. What a change does to a page is what it does in the fold of a journal.
-//! 4. `find`, `oldest` and `dirty` take no memory. `clean` asks for one entry of the cache, and lets the
-//!    page go where there is none. None of the four answers want of memory.
+//! 4. `find`, `clean`, `oldest` and `dirty` take no memory. `change` and `apply` take it only for
+//!    pages that aren't held, and `admit` for its page.
 #![tactic(auto)]
 
 mod changing;
+mod clean;
 mod dirty;
 mod fault;
 mod frame;
@@ -21,8 +22,9 @@ mod pool;
 #[cfg(test)]
 mod tests;
 
+pub use clean::MOST_CLEAN;
 pub use dirty::MOST_DIRTY;
 pub use fault::PoolFault;
 pub use frame::PAGE_BYTES;
 pub use names::{DirtyPage, PageName};
-pub use pool::{MOST_CLEAN, Pool};
+pub use pool::Pool;

@@ -2,28 +2,23 @@
 
 ghost use Rattle.std.specs.Prelude.{◌≡◌, ◌<◌, ◌≤◌, ⊤, false, Some, [], is_some, length, slice_get, All, OnOk, OnErr, IfOk, IfSome};
 ghost use Rattle.std.specs.Option.{option_map};
-ghost use Rattle.std.specs.Map.{lookup};
-ghost use Rattle.page_pool.specs.Changes.{IsCleanedAt, admitted, found_page};
-ghost use Rattle.page_pool.specs.Pages.{AreInOrder, AreNamedOnce, held_page, is_held, is_name, place_of, plain_page, without};
+ghost use Rattle.page_pool.specs.Changes.{admitted, cleaned, found_page};
+ghost use Rattle.page_pool.specs.Pages.{AreInOrder, AreNamedOnce, IsPool, held_page, is_held, place_of, plain_page, without};
 
+use crate::clean::CleanPages;
 use crate::dirty::DirtyPages;
 use crate::frame::Frame;
 use crate::names::{DirtyPage, PageName, entry_at};
 use cause_core::OutOfMemory;
-use lru::LruCache;
 use std::alloc::Global;
 use std::marker::Model;
-use std::num::NonZeroUsize;
-
-/// How many clean pages may be held.
-pub const MOST_CLEAN: usize = 64;
 
 /// Pages of the spaces of a store, dirty and clean.
 #[derive(Drop)]
 pub struct Pool {
     pub(crate) alloc: Global,
     pub(crate) dirty: DirtyPages,
-    pub(crate) clean: LruCache<PageName, Frame>,
+    pub(crate) clean: CleanPages,
 }
 
 impl Model for Pool {
@@ -32,9 +27,9 @@ impl Model for Pool {
 
     ghost Value = { PoolState };
 
-    ghost view = { λ p. record { dirty = p.dirty; clean = p.clean.entries } };
+    ghost view = { λ p. record { dirty = p.dirty; clean = p.clean } };
 
-    ghost invariant = { λ p. AreClean p.dirty p.clean.entries × (p.clean.cap ≡ 64) };
+    ghost invariant = { λ p. AreClean p.dirty p.clean };
 }
 
 impl Pool {
@@ -47,7 +42,7 @@ impl Pool {
         ensures { IfOk result (λ pool. pool ≡ record { dirty = record { entries = []; pages = [] }; clean = [] }) }
     {
         let dirty = DirtyPages::new(alloc)?;
-        let clean = LruCache::new(alloc, NonZeroUsize::new(MOST_CLEAN).unwrap())?;
+        let clean = CleanPages::new(alloc)?;
         Ok(Pool {
             alloc,
             dirty,
@@ -74,7 +69,7 @@ impl Pool {
         ensures page { held_page name self.new ≡ held_page name self.old }
         ensures held { is_held name self.new ≡ is_held name self.old }
     {
-        self.clean.promote(&name);
+        self.clean.bring(name);
     }
 
     fn held(&self, name: PageName) -> Option<&[u8]>
@@ -84,18 +79,7 @@ impl Pool {
     {
         match self.dirty.place(name) {
             Some(place) => Some(self.dirty.page(place)),
-            None => self.clean_page(name),
-        }
-    }
-
-    fn clean_page(&self, name: PageName) -> Option<&[u8]>
-        ensures page { option_map (λ bytes. plain_page bytes.now) result ≡ lookup (is_name name) self.now.clean }
-        ensures held { is_some result ≡ is_some (lookup (is_name name) self.now.clean) }
-        ensures whole { IfSome result (λ bytes. length bytes.now ≡ 16384) }
-    {
-        match self.clean.peek(&name) {
-            Some(frame) => Some(frame.bytes()),
-            None => None,
+            None => self.clean.page(name),
         }
     }
 
@@ -111,38 +95,34 @@ impl Pool {
         ensures unchanged { OnErr result (self.new ≡ self.old) }
     {
         let frame = Frame::copy_of(self.alloc, plain)?;
-        self.hold_clean(PageName { space, page }, frame)
+        self.hold_clean(PageName { space, page }, frame);
+        Ok(())
     }
 
     // Holds a page that isn't held as the first of the clean ones.
-    fn hold_clean(&mut self, name: PageName, frame: Frame) -> Result<(), OutOfMemory>
+    fn hold_clean(&mut self, name: PageName, frame: Frame)
         requires { is_held name self.old ≡ false }
-        ensures admitted { OnOk result (self.new ≡ record { dirty = self.old.dirty; clean = admitted name frame self.old.clean }) }
-        ensures unchanged { OnErr result (self.new ≡ self.old) }
+        ensures { self.new ≡ record { dirty = self.old.dirty; clean = admitted name frame self.old.clean } }
     {
-        match self.clean.put(name, frame) {
-            Ok(_) => Ok(()),
-            Err(_) => Err(OutOfMemory),
-        }
+        self.clean.hold(name, frame);
     }
 
     /// Marks a dirty page clean where this is the LSN of its last change; else nothing changes. It
-    /// is then the first of the clean pages, and the last of 64 is dropped. Where the machine has
-    /// no memory for that it isn't held.
+    /// is then the first of the clean pages, and the last of 64 is dropped. It takes no memory.
     pub fn clean(&mut self, space: u32, page: u32, lsn: u64)
-        ensures { IsCleanedAt (record { space = space; page = page }) lsn self.old self.new }
+        ensures { self.new ≡ cleaned (record { space = space; page = page }) lsn self.old }
     {
         let name = PageName { space, page };
         if let Some(place) = entry_at(name, lsn, self.dirty.entries()) {
             let frame = self.take_dirty(name, place);
-            let _ = self.hold_clean(name, frame);
+            self.hold_clean(name, frame);
         }
     }
 
     // Takes out a dirty page, which isn't held then.
     fn take_dirty(&mut self, name: PageName, place: usize) -> Frame
         requires { (place ≡ place_of name self.old.dirty.entries) × (place < length self.old.dirty.entries) }
-        ensures page { slice_get self.old.dirty.pages place ≡ Some result }
+        ensures page { held_page name self.old ≡ Some result }
         ensures rest { self.new ≡ record { dirty = without place self.old.dirty; clean = self.old.clean } }
         ensures gone { is_held name self.new ≡ false }
     {
@@ -165,7 +145,10 @@ impl Pool {
         ensures most { length self.now.dirty.entries ≤ 256 }
         ensures order { AreInOrder self.now.dirty.entries }
         ensures once { AreNamedOnce self.now.dirty.entries }
+        // At most 64 pages are clean, each of them once, and none of them is dirty.
+        ensures kept { IsPool self.now }
     {
+        self.clean.kept();
         self.dirty.entries()
     }
 }
