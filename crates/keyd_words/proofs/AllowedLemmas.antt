@@ -1,5 +1,5 @@
 -- Options that a command takes: one more of them, and what stands behind some.
-use Rattle.std.proofs.Common.{◌≡◌, ◌≢◌, ℕ, ◌+◌, ◌≤◌, ◌<◌, ◌*◌, ◌++◌, ◌⊎◌, length, get_or, arith, sym, ◌∙◌, ap, subst, inl, inr, List, [], ◌∷◌, zero, suc, true, false, Bool, refl, rules, All, AllPairs, map, Option, Some, None, nat_eq, codes}
+use Rattle.std.proofs.Common.{◌≡◌, ◌≢◌, ℕ, ◌+◌, ◌≤◌, ◌<◌, ◌++◌, ◌⊎◌, length, get_or, arith, sym, ◌∙◌, ap, subst, inl, inr, List, [], ◌∷◌, zero, suc, true, false, refl, All, AllPairs, map, Option, Some, None}
 use Rattle.std.specs.List.{sum_by}
 use Rattle.std.proofs.lemmas.List.Elements.{All-append}
 use Rattle.std.proofs.lemmas.List.Quantifiers.{all_pairs_push}
@@ -19,13 +19,13 @@ use Rattle.keyd_words.specs.declared.text.NewSpace.{NewSpace}
 use Rattle.keyd_words.specs.declared.value.OptionValue.{OptionValue}
 use Rattle.keyd_words.specs.declared.value.OptionValue.TheVariants as value
 use Rattle.keyd_words.specs.declared.setting.OptionSetting.{OptionSetting}
-use Rattle.keyd_words.specs.Table.{Argument, row_of, takes, needs}
-use Rattle.keyd_words.specs.Values.{IsSetTo, IsValueOf, IsNewSpace, pages_allowed, greatest_space}
+use Rattle.keyd_words.specs.Table.{row_of, takes}
+use Rattle.keyd_words.specs.Values.{IsSetTo, IsValueOf, IsNewSpace, pages_allowed}
 use Rattle.keyd_words.specs.Settings.{names_of, times_set, space_in_value, spaces_of, pages_in, pages_asked, IsTakenBy, AreOptionsOf, HasNeeded, AreAllOptionsOf, MayStand, IsFree, Joins, MayFollow}
 use Rattle.keyd_words.proofs.FreshLemmas.{Avoids, fresh}
-use Rattle.keyd_words.proofs.TableLemmas.{same_word, other_word, either_way, word-injective, each_small, most_from, only_space, only_needed, needed_taken, IsSmall}
-use Rattle.keyd_words.proofs.ValueLemmas.{space_set, set_space}
-use Rattle.keyd_words.proofs.SettingLemmas.{times-append, times-cons, times_same, times_other, times_one, spaces-append, spaces_some, spaces_none, pages-append, pages_some, pages_none, some_or_none, all_one, all_none, all_front, all_middle, taken_space, no_spaces, two_pages}
+use Rattle.keyd_words.proofs.TableLemmas.{same_word, either_way, word-injective, each_small, most_from, only_space, only_needed, needed_taken, IsSmall}
+use Rattle.keyd_words.proofs.ValueLemmas.{set_space}
+use Rattle.keyd_words.proofs.SettingLemmas.{times-append, times-cons, times_same, times_other, times_one, spaces-append, spaces_some, spaces_none, pages-append, pages_some, pages_none, some_or_none, all_one, all_none, all_middle, taken_space, no_spaces, two_pages}
 use Rattle.std.specs.Str.{bytes_eq}
 use Rattle.std.proofs.lemmas.Slice.Eq.{bytes_eq-Decides}
 

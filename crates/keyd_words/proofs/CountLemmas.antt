@@ -1,8 +1,6 @@
 -- How many values of a form options in a row have.
-use Rattle.std.proofs.Common.{◌≡◌, ◌≢◌, ℕ, ◌+◌, ◌≤◌, ◌⊎◌, length, arith, sym, ◌∙◌, ap, subst, inl, inr, List, [], ◌∷◌, suc, refl, All, Option, Some, None, true, false}
+use Rattle.std.proofs.Common.{◌≡◌, ◌≢◌, ◌≤◌, length, arith, sym, ◌∙◌, ap, subst, inl, inr, List, [], ◌∷◌, suc, refl, All, Option, Some, None}
 use Rattle.std.specs.List.{filter_map, cons_option}
-use Rattle.std.specs.Str.{bytes_eq}
-use Rattle.std.proofs.lemmas.Slice.Eq.{bytes_eq-Decides}
 use Rattle.keyd_words.specs.declared.command.Command.{Command}
 use Rattle.keyd_words.specs.declared.table.OptionName.{OptionName}
 use Rattle.keyd_words.specs.declared.table.OptionName.TheVariants.{KeyFile, FileKey, Digest, Space, Log, Algorithm, Active, Age, Binlog, Flushers, Rotators, Stop, Choice, Reopen, Stop2, Choice2}
@@ -15,7 +13,6 @@ use Rattle.keyd_words.specs.Table.{Argument, row_of}
 use Rattle.keyd_words.specs.Values.{IsSetTo, IsValueOf}
 use Rattle.keyd_words.specs.Settings.{times_set, space_in_value, spaces_of, IsTakenBy, AreOptionsOf}
 use Rattle.keyd_words.specs.Plans.{file_name_in, file_names}
-use Rattle.keyd_words.proofs.TableLemmas.{word-injective, either_way}
 use Rattle.keyd_words.proofs.ValueLemmas.{set_space}
 use Rattle.keyd_words.proofs.SettingLemmas.{times-cons, times_same, times_other, some_or_none, head_of, tail_of, taken_space}
 

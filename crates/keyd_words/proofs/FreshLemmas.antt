@@ -1,5 +1,5 @@
 -- Among more numbers than a list has there is one that it hasn't.
-use Rattle.std.proofs.Common.{◌≡◌, ◌≢◌, ℕ, ◌+◌, ◌≤◌, ◌<◌, ◌⊎◌, length, get_or, arith, sym, ◌∙◌, ap, inl, inr, Bool, true, false, nat_eq, if◌then◌else◌, refl, List, [], ◌∷◌, zero, suc, All, rules, map, subst}
+use Rattle.std.proofs.Common.{◌≡◌, ◌≢◌, ℕ, ◌≤◌, ◌<◌, ◌⊎◌, length, arith, sym, ◌∙◌, ap, inl, inr, Bool, true, false, nat_eq, if◌then◌else◌, refl, List, [], ◌∷◌, zero, suc, subst}
 use Rattle.std.proofs.lemmas.Bool.Decides.{nat_tests}
 
 -- no element is this one

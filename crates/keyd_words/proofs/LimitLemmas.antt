@@ -1,17 +1,15 @@
 -- What is asked for is within the bounds of the table.
-use Rattle.std.proofs.Common.{◌≡◌, ◌≢◌, ℕ, ◌+◌, ◌≤◌, length, arith, sym, ◌∙◌, ap, subst, inl, inr, List, [], ◌∷◌, zero, suc, refl, All, Option, Some, None, MatchOption, unwrap_or, true, false, if◌then◌else◌, get_or}
-use Rattle.std.specs.List.{filter_map, cons_option}
+use Rattle.std.proofs.Common.{◌≡◌, ℕ, ◌≤◌, length, arith, sym, ◌∙◌, ap, subst, inl, inr, List, [], ◌∷◌, zero, suc, refl, All, Option, Some, None, MatchOption, unwrap_or, true, if◌then◌else◌}
+use Rattle.std.specs.List.{cons_option}
 use Rattle.std.specs.Str.{bytes_eq}
 use Rattle.std.proofs.lemmas.Slice.Eq.{bytes_eq-Decides}
 use Rattle.disk_model.specs.declared.calls.Choice.{Choice}
-use Rattle.disk_model.specs.declared.calls.Choice.TheVariants.{Lost}
 use Rattle.keyd_words.specs.declared.command.Command.{Command}
 use Rattle.keyd_words.specs.declared.command.Command.TheVariants as command
 use Rattle.keyd_words.specs.declared.table.OptionName.{OptionName}
 use Rattle.keyd_words.specs.declared.table.OptionName.TheVariants as name
 use Rattle.keyd_words.specs.declared.table.ValueForm.{ValueForm}
 use Rattle.keyd_words.specs.declared.table.ValueForm.TheVariants as form
-use Rattle.keyd_words.specs.declared.text.NewSpace.{NewSpace}
 use Rattle.keyd_words.specs.declared.value.OptionValue.{OptionValue}
 use Rattle.keyd_words.specs.declared.value.OptionValue.TheVariants as value
 use Rattle.keyd_words.specs.declared.setting.OptionSetting.{OptionSetting}
@@ -19,9 +17,9 @@ use Rattle.keyd_words.specs.declared.plan.Plan.{Plan}
 use Rattle.keyd_words.specs.declared.plan.Plan.TheVariants.{Create, Step, Run, Drill, Recover, Report, Make}
 use Rattle.keyd_words.specs.Table.{Argument, row_of, needs, is_needed, use_by}
 use Rattle.keyd_words.specs.Values.{IsSetTo, IsValueOf, IsNewSpace, AreChoices}
-use Rattle.keyd_words.specs.Settings.{times_set, space_in_value, spaces_of, IsTakenBy, AreAllOptionsOf}
+use Rattle.keyd_words.specs.Settings.{space_in_value, spaces_of, IsTakenBy, AreAllOptionsOf}
 use Rattle.keyd_words.specs.Plans.{or_else, last_found, number_for, number_set, first_choices_in, first_choices_set, second_choices_in, second_choices_set, file_names, key_plan, create_plan, step_plan, run_plan, crash_plan, second_plan, drill_plan}
-use Rattle.keyd_words.specs.Words.{Asks, Says}
+use Rattle.keyd_words.specs.Words.{Says}
 use Rattle.keyd_words.specs.Limits.{IsFrom, IsFromIfSome, AreKeys, IsStore, IsStep, IsRun, IsCrash, IsDrill, IsWithinLimits}
 use Rattle.keyd_words.proofs.TableLemmas.{word-injective, either_way}
 use Rattle.keyd_words.proofs.SettingLemmas.{some_or_none, head_of, tail_of, all_none, taken_space}

@@ -1,5 +1,5 @@
 -- The words of `make`.
-use Rattle.std.proofs.Common.{◌≡◌, ℕ, ◌+◌, ◌≤◌, ◌<◌, ◌^◌, ◌++◌, length, take, drop, get_or, arith, sym, ◌∙◌, ap, subst, List, [], ◌∷◌, suc, refl}
+use Rattle.std.proofs.Common.{◌≡◌, ℕ, ◌≤◌, ◌<◌, ◌^◌, length, get_or, arith, sym, ◌∙◌, ap, subst, List, [], ◌∷◌, suc, refl}
 use Rattle.std.specs.Fmt.{decimal}
 use Rattle.keyd_words.specs.declared.plan.MakeOptions.{MakeOptions}
 use Rattle.keyd_words.specs.declared.command.Command.TheVariants as command

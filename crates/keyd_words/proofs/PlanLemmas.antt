@@ -1,7 +1,6 @@
 -- What options in a row are set to, with one more of them; and the plan of a draft.
-use Rattle.std.proofs.Common.{◌≡◌, ℕ, ◌++◌, sym, ◌∙◌, ap, List, [], ◌∷◌, refl, Option, Some, None, if◌then◌else◌}
-use Rattle.std.specs.List.{filter_map, cons_option}
-use Rattle.std.specs.Str.{bytes_eq}
+use Rattle.std.proofs.Common.{◌≡◌, ◌++◌, sym, ◌∙◌, ap, List, [], ◌∷◌, refl, Option, Some, None}
+use Rattle.std.specs.List.{cons_option}
 use Rattle.std.proofs.lemmas.List.{map-append, append-nil}
 use Rattle.std.proofs.lemmas.List.Elements.{filter_map-append}
 use Rattle.keyd_words.specs.declared.table.OptionName.{OptionName}
@@ -11,10 +10,9 @@ use Rattle.keyd_words.specs.declared.draft.Draft.{Draft}
 use Rattle.keyd_words.specs.declared.value.OptionValue.{OptionValue}
 use Rattle.keyd_words.specs.declared.value.OptionValue.TheVariants as value
 use Rattle.keyd_words.specs.declared.setting.OptionSetting.{OptionSetting}
-use Rattle.keyd_words.specs.Table.{row_of}
-use Rattle.keyd_words.specs.Settings.{names_of, spaces_of, space_in_value}
-use Rattle.keyd_words.specs.Plans.{or_else, last_found, file_name_in, file_key_in, digest_in, algorithm_in, first_choices_in, second_choices_in, number_for, number_set, key_plan, create_plan, step_plan, run_plan, drill_plan}
-use Rattle.keyd_words.specs.Drafts.{number_under, number_among, number_named, Tells, number_of, keys_of, store_of, step_of, run_of, drill_of}
+use Rattle.keyd_words.specs.Settings.{space_in_value}
+use Rattle.keyd_words.specs.Plans.{or_else, last_found, file_name_in, file_key_in, digest_in, algorithm_in, first_choices_in, second_choices_in, number_for, key_plan, create_plan, step_plan, run_plan, drill_plan}
+use Rattle.keyd_words.specs.Drafts.{number_under, number_among, number_named, Tells, keys_of, store_of, step_of, run_of, drill_of}
 
 or_else-assoc : {X : Type 0} (a b c : Option X) → or_else (or_else a b) c ≡ or_else a (or_else b c)
 or_else-assoc (Some x) b c = refl

@@ -1,5 +1,5 @@
 -- What lists of words say, command by command.
-use Rattle.std.proofs.Common.{◌≡◌, ◌≢◌, ℕ, ◌+◌, ◌≤◌, ◌<◌, ◌^◌, ◌++◌, length, take, drop, get_or, arith, sym, ◌∙◌, ap, subst, List, [], ◌∷◌, suc, refl, Contains}
+use Rattle.std.proofs.Common.{◌≡◌, ℕ, ◌<◌, ◌++◌, length, take, drop, get_or, arith, sym, ◌∙◌, ap, subst, List, [], ◌∷◌, suc, refl, Contains}
 use Rattle.std.specs.Fmt.{decimal}
 use Rattle.std.proofs.lemmas.Fmt.{decimal_injective}
 use Rattle.std.proofs.lemmas.List.{append-nil}
@@ -12,13 +12,12 @@ use Rattle.keyd_words.specs.declared.command.Command.TheVariants as command
 use Rattle.keyd_words.specs.declared.draft.Draft.{Draft}
 use Rattle.keyd_words.specs.Drafts.{Tells, IsDraftOf}
 use Rattle.keyd_words.specs.Plans.{key_plan, create_plan, step_plan, run_plan, drill_plan}
-use Rattle.keyd_words.specs.Settings.{settings_words, times_set}
+use Rattle.keyd_words.specs.Settings.{settings_words}
 use Rattle.keyd_words.specs.Values.{value_words}
-use Rattle.keyd_words.specs.Table.{Argument, command_word, row_of}
+use Rattle.keyd_words.specs.Table.{Argument, command_word}
 use Rattle.keyd_words.specs.Words.{IsListOf, IsListFor, Asks, AsksToMake, Says, IsValid, BeginsList, IsUsageAt, StartsWith, IsWordsFault}
 use Rattle.keyd_words.specs.declared.fault.WordsFault.{WordsFault}
 use Rattle.keyd_words.specs.declared.fault.WordsFault.TheVariants as fault
-use Rattle.keyd_words.specs.declared.table.OptionName.TheVariants as name
 use Rattle.keyd_words.proofs.SettingLemmas.{split_words}
 use Rattle.keyd_words.proofs.TableLemmas.{command_word-injective}
 use Rattle.keyd_words.proofs.UsageLemmas.{usage_as}

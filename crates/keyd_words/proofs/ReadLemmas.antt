@@ -8,12 +8,11 @@ use Rattle.keyd_words.specs.declared.table.OptionName.{OptionName}
 use Rattle.keyd_words.specs.declared.value.OptionValue.{OptionValue}
 use Rattle.keyd_words.specs.declared.setting.OptionSetting.{OptionSetting}
 use Rattle.keyd_words.specs.Table.{Argument, command_word, row_of}
-use Rattle.keyd_words.specs.Values.{pages_allowed, value_words, value_word, AreWordsOf}
-use Rattle.keyd_words.specs.Settings.{setting_words, settings_words, names_of, spaces_of, pages_in, AreOptionsOf, HasNeeded, MayStand, IsBadValue}
+use Rattle.keyd_words.specs.Values.{pages_allowed, value_words, AreWordsOf}
+use Rattle.keyd_words.specs.Settings.{settings_words, names_of, spaces_of, pages_in, AreOptionsOf, HasNeeded, MayStand, IsBadValue}
 use Rattle.keyd_words.specs.declared.draft.Draft.{Draft}
 use Rattle.keyd_words.specs.declared.text.NewSpace.{NewSpace}
 use Rattle.keyd_words.specs.Drafts.{Tells, IsDraftOf}
-use Rattle.keyd_words.specs.Plans.{file_names}
 use Rattle.keyd_words.proofs.CountLemmas.{few_files}
 use Rattle.keyd_words.proofs.AllowedLemmas.{none_allowed}
 use Rattle.keyd_words.specs.Words.{IsListFor, BeginsList, IsUsageAt, StartsWith}

@@ -1,13 +1,13 @@
 -- Options in a row: how often each stands, their tablespaces, and the words that write them.
-use Rattle.std.proofs.Common.{◌≡◌, ◌≢◌, ℕ, ◌+◌, ◌≤◌, ◌<◌, ◌*◌, ◌++◌, ◌⊎◌, length, take, drop, get_or, arith, sym, ◌∙◌, ap, subst, inl, inr, List, [], ◌∷◌, zero, suc, true, false, Bool, cond, refl, rules, All, AllPairs, map, Option, Some, None}
-use Rattle.std.specs.List.{count_by, sum_by, filter_map, flat_map, cons_option}
+use Rattle.std.proofs.Common.{◌≡◌, ◌≢◌, ℕ, ◌+◌, ◌≤◌, ◌<◌, ◌*◌, ◌++◌, ◌⊎◌, length, take, drop, get_or, arith, sym, ◌∙◌, ap, subst, inl, inr, List, [], ◌∷◌, zero, suc, true, false, cond, refl, All, Option, Some, None}
+use Rattle.std.specs.List.{sum_by, cons_option}
 use Rattle.std.specs.Str.{bytes_eq}
 use Rattle.std.proofs.lemmas.List.Sums.{sum_by-append, sum_by-cons}
-use Rattle.std.proofs.lemmas.List.Elements.{filter_map-append, All-append}
+use Rattle.std.proofs.lemmas.List.Elements.{filter_map-append}
 use Rattle.std.proofs.Math.ListN.{get_or-append, length-append}
 use Rattle.std.proofs.Math.Seq.{get_or-append_seam}
 use Rattle.std.proofs.lemmas.List.Concat.{flat_map-append}
-use Rattle.std.proofs.lemmas.List.{take-append-drop, take_more, map-append}
+use Rattle.std.proofs.lemmas.List.{take_more, map-append}
 use mathlib.Core.List.{append_assoc}
 use Rattle.keyd_words.specs.declared.command.Command.{Command}
 use Rattle.keyd_words.specs.declared.table.OptionName.{OptionName}
@@ -17,7 +17,7 @@ use Rattle.keyd_words.specs.declared.value.OptionValue.{OptionValue}
 use Rattle.keyd_words.specs.declared.setting.OptionSetting.{OptionSetting}
 use Rattle.keyd_words.specs.Table.{Argument, row_of}
 use Rattle.keyd_words.specs.Values.{IsSetTo, value_words, IsNewSpace}
-use Rattle.keyd_words.specs.Settings.{setting_words, settings_words, names_of, times_in, times_set, space_in_value, spaces_of, pages_in, pages_asked, IsTakenBy, IsFree}
+use Rattle.keyd_words.specs.Settings.{setting_words, settings_words, names_of, times_in, times_set, space_in_value, spaces_of, pages_asked, IsTakenBy}
 use Rattle.keyd_words.proofs.TableLemmas.{same_word, other_word, word-injective, each_small, only_space}
 use Rattle.keyd_words.proofs.ValueLemmas.{one_set, space_set}
 

@@ -1,5 +1,5 @@
 -- A space's word, cut at its colons.
-use Rattle.std.proofs.Common.{◌≡◌, ◌≢◌, ℕ, ◌<◌, ◌≤◌, ◌^◌, ◌++◌, length, get_or, arith, sym, ◌∙◌, ap, subst, List, [], ◌∷◌, zero, suc, codes, refl, All, drop, Bool, true, false}
+use Rattle.std.proofs.Common.{◌≡◌, ◌≢◌, ℕ, ◌<◌, ◌^◌, ◌++◌, length, get_or, arith, sym, ◌∙◌, ap, List, [], ◌∷◌, zero, suc, refl, drop, Bool, true, false}
 use Rattle.std.specs.Fmt.{decimal}
 use Rattle.std.proofs.lemmas.Fmt.{decimal_injective, digits_decimal}
 use Rattle.std.proofs.lemmas.Str.Parse.{digit_at}

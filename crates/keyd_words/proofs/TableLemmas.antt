@@ -1,5 +1,5 @@
 -- The words of the table name one option each, and those of the commands one command.
-use Rattle.std.proofs.Common.{◌≡◌, ◌≢◌, ℕ, ◌≤◌, ◌<◌, ◌⊎◌, length, get_or, [], ◌∷◌, arith, sym, ◌∙◌, ap, inl, inr, Bool, true, false, nat_eq, if◌then◌else◌, refl, Option, Some, None, rules}
+use Rattle.std.proofs.Common.{◌≡◌, ◌≢◌, ℕ, ◌≤◌, ◌<◌, ◌⊎◌, length, get_or, [], ◌∷◌, arith, sym, ◌∙◌, ap, inl, inr, Bool, true, false, nat_eq, if◌then◌else◌, refl, Option, Some}
 use Rattle.std.specs.Str.{bytes_eq}
 use Rattle.std.proofs.lemmas.Slice.Eq.{bytes_eq-Decides}
 use Rattle.keyd_words.specs.declared.command.Command.{Command}

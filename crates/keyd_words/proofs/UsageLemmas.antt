@@ -1,16 +1,16 @@
 -- Where words stop being the first of a valid list.
-use Rattle.std.proofs.Common.{◌≡◌, ◌≢◌, ℕ, ◌+◌, ◌≤◌, ◌<◌, ◌++◌, ◌⊎◌, length, take, drop, get_or, arith, sym, ◌∙◌, ap, subst, inl, inr, List, [], ◌∷◌, suc, refl, rules, All, Option, Some, None, add-one}
+use Rattle.std.proofs.Common.{◌≡◌, ℕ, ◌+◌, ◌<◌, ◌++◌, ◌⊎◌, length, take, drop, get_or, arith, sym, ◌∙◌, ap, subst, inl, inr, List, [], ◌∷◌, suc, refl, Option, Some, None, add-one}
 use Rattle.std.specs.Borrow.{Bor}
-use Rattle.std.proofs.lemmas.List.{take-take, take-append-drop, append-nil, take_all}
+use Rattle.std.proofs.lemmas.List.{take-take, take-append-drop, append-nil}
 use mathlib.Core.List.{append_assoc}
 use Rattle.keyd_words.specs.declared.command.Command.{Command}
 use Rattle.keyd_words.specs.declared.table.OptionName.{OptionName}
 use Rattle.keyd_words.specs.declared.value.OptionValue.{OptionValue}
 use Rattle.keyd_words.specs.declared.setting.OptionSetting.{OptionSetting}
 use Rattle.keyd_words.specs.Table.{Argument, command_word, row_of}
-use Rattle.keyd_words.specs.Values.{value_words, value_word, AreWordsOf, IsSetTo}
-use Rattle.keyd_words.specs.Settings.{setting_words, settings_words, names_of, spaces_of, IsTakenBy, AreOptionsOf, HasNeeded, AreAllOptionsOf, MayStand, MayFollow, IsBadValue}
-use Rattle.keyd_words.specs.Words.{IsListOf, IsListFor, BeginsList, IsUsageAt}
+use Rattle.keyd_words.specs.Values.{value_words, AreWordsOf, IsSetTo}
+use Rattle.keyd_words.specs.Settings.{setting_words, settings_words, names_of, spaces_of, AreOptionsOf, HasNeeded, AreAllOptionsOf, MayStand, MayFollow, IsBadValue}
+use Rattle.keyd_words.specs.Words.{IsListFor, BeginsList, IsUsageAt}
 use Rattle.keyd_words.proofs.SettingLemmas.{words-append, split_words}
 use Rattle.keyd_words.proofs.AllowedLemmas.{allowed_more, next_follows, some_setting, whole_of}
 use Rattle.keyd_words.proofs.TableLemmas.{word-injective}

@@ -1,6 +1,5 @@
 -- A value is the only one of its form that its word writes.
-use Rattle.std.proofs.Common.{◌≡◌, ℕ, ◌≤◌, ◌<◌, ◌^◌, ◌++◌, arith, sym, ◌∙◌, ap, subst, List, [], ◌∷◌, map, get_or, drop, length, suc, refl, Option, Some, None, MatchOption, inl, inr, ◌⊎◌, rules}
-use Rattle.std.specs.Fmt.{decimal}
+use Rattle.std.proofs.Common.{◌≡◌, ℕ, ◌++◌, arith, sym, ◌∙◌, ap, subst, List, [], ◌∷◌, map, get_or, drop, length, suc, refl, Option, Some, None, inl, inr}
 use Rattle.std.proofs.lemmas.Fmt.{decimal_injective}
 use Rattle.aes_core.specs.declared.algorithm.Algorithm.{Algorithm}
 use Rattle.aes_core.specs.declared.algorithm.Algorithm.TheVariants as algorithm

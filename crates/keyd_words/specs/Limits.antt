@@ -1,6 +1,5 @@
 -- The bounds of what a plan has.
-use Rattle.std.specs.Prelude.{◌≡◌, ℕ, ◌≤◌, ◌<◌, ◌^◌, List, length, All, Option, MatchOption}
-use Rattle.keyd_words.specs.declared.text.NewSpace.{NewSpace}
+use Rattle.std.specs.Prelude.{ℕ, ◌≤◌, ◌<◌, ◌^◌, length, All, Option, MatchOption}
 use Rattle.keyd_words.specs.declared.plan.KeyOptions.{KeyOptions}
 use Rattle.keyd_words.specs.declared.plan.CreateOptions.{CreateOptions}
 use Rattle.keyd_words.specs.declared.plan.StepOptions.{StepOptions}

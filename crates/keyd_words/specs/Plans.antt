@@ -1,5 +1,5 @@
 -- What options ask for.
-use Rattle.std.specs.Prelude.{◌≡◌, ℕ, Bool, List, [], ◌∷◌, length, Option, Some, None, unwrap_or, if◌then◌else◌, nat_lt}
+use Rattle.std.specs.Prelude.{ℕ, List, [], ◌∷◌, length, Option, Some, None, unwrap_or, if◌then◌else◌, nat_lt}
 use Rattle.std.specs.List.{filter_map}
 use Rattle.std.specs.Str.{bytes_eq}
 use Rattle.aes_core.specs.declared.algorithm.Algorithm.{Algorithm}
@@ -21,7 +21,7 @@ use Rattle.keyd_words.specs.declared.plan.RunOptions.{RunOptions}
 use Rattle.keyd_words.specs.declared.plan.CrashOptions.{CrashOptions}
 use Rattle.keyd_words.specs.declared.plan.DrillOptions.{DrillOptions}
 use Rattle.keyd_words.specs.Table.{Argument, row_of}
-use Rattle.keyd_words.specs.Settings.{names_of, times_set, spaces_of}
+use Rattle.keyd_words.specs.Settings.{times_set, spaces_of}
 
 -- the first that is there
 abbrev pub or_else : {X : Type 0} → Option X → Option X → Option X

@@ -1,4 +1,4 @@
-use Rattle.std.proofs.Common.{rules, ◌≡◌, ◌∷◌, [], map, string_bytes, get_or, Contains, sym, ◌∙◌, subst, ap}
+use Rattle.std.proofs.Common.{rules, ◌≡◌, [], get_or, Contains, sym, ◌∙◌, subst, ap}
 use Rattle.keyd_words.specs.Table.{command_word}
 use Rattle.keyd_words.proofs.TableLemmas.{command_word-injective}
 use Rattle.keyd_words.proofs.reading.command_in.Goals as goal

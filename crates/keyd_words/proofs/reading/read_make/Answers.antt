@@ -1,11 +1,10 @@
-use Rattle.std.proofs.Common.{◌≡◌, ℕ, ◌≤◌, ◌<◌, ◌^◌, length, map, string_bytes, get_or, arith, sym, ◌∙◌, subst, List, [], ◌∷◌}
+use Rattle.std.proofs.Common.{◌≡◌, ℕ, ◌≤◌, ◌<◌, ◌^◌, length, map, string_bytes, get_or, arith, sym, ◌∙◌, subst, List, []}
 use Rattle.std.specs.Fmt.{decimal}
 use Rattle.std.proofs.lemmas.List.{length-map}
 use Rattle.keyd_words.specs.Table.{Argument}
 use Rattle.keyd_words.specs.Values.{WritesNumber}
 use Rattle.keyd_words.specs.Words.{IsUsageAt}
 use Rattle.keyd_words.proofs.MakeLemmas.{IsMake, make_alone, make_unread, make_short, make_uncounted, make_long}
-use Rattle.keyd_words.proofs.PlanWords.{one_plan}
 use Rattle.keyd_words.proofs.reading.read_make.Goals as goal
 
 pub returns-in_default-clause-err : goal.returns-in_default-clause-err

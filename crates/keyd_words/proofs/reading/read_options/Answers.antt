@@ -1,4 +1,4 @@
-use Rattle.std.proofs.Common.{rules, ◌≡◌, ◌+◌, ◌≤◌, ◌++◌, length, map, string_bytes, arith, sym, ◌∙◌, ap, subst, [], ◌∷◌, true, false, is_some, get_or}
+use Rattle.std.proofs.Common.{rules, ◌≡◌, ◌≤◌, ◌++◌, length, map, string_bytes, arith, sym, ◌∙◌, subst, [], ◌∷◌, true, false, is_some}
 use Rattle.std.proofs.lemmas.List.{length-map}
 use Rattle.keyd_words.specs.Settings.{names_of, spaces_of, HasNeeded, IsSettingFault, MayFollow}
 use Rattle.keyd_words.specs.declared.fault.SettingFault.TheVariants as fault

@@ -1,6 +1,5 @@
-use Rattle.std.proofs.Common.{rules, ◌≡◌, List, map, string_bytes, Contains, ◌∙◌, subst}
+use Rattle.std.proofs.Common.{rules, ◌≡◌, map, string_bytes, Contains, ◌∙◌, subst}
 use Rattle.std.specs.Result.{IsErrAnd}
-use Rattle.keyd_words.specs.declared.command.Command.{Command}
 use Rattle.keyd_words.specs.declared.command.Command.TheVariants as command
 use Rattle.keyd_words.specs.Plans.{key_plan, create_plan, step_plan, run_plan, drill_plan}
 use Rattle.keyd_words.specs.Words.{IsListFor, Says, IsValid, StartsWith, IsWordsFault}

@@ -1,4 +1,4 @@
-use Rattle.std.proofs.Common.{◌≡◌, ◌≢◌, ℕ, ◌<◌, get_or}
+use Rattle.std.proofs.Common.{◌≢◌, ℕ, ◌<◌, get_or}
 use Rattle.keyd_words.specs.declared.text.NewSpace.{NewSpace}
 use Rattle.keyd_words.proofs.setting.is_free.Given as goal
 

@@ -1,7 +1,6 @@
-use Rattle.std.proofs.Common.{rules, ◌≡◌, sym, ◌∙◌, subst, Option}
-use Rattle.keyd_words.specs.declared.value.OptionValue.{OptionValue}
+use Rattle.std.proofs.Common.{rules, ◌≡◌, subst}
 use Rattle.keyd_words.specs.Table.{row_of}
-use Rattle.keyd_words.specs.Values.{IsSetTo, AreWordsOf}
+use Rattle.keyd_words.specs.Values.{IsSetTo}
 use Rattle.keyd_words.specs.Settings.{Joins}
 use Rattle.keyd_words.proofs.TableLemmas.{each_small}
 use Rattle.keyd_words.proofs.ValueLemmas.{one_read}

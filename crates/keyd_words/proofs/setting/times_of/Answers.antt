@@ -1,4 +1,4 @@
-use Rattle.std.proofs.Common.{rules, ◌≡◌, ◌≢◌, ◌+◌, take, get_or, arith, ◌∙◌, ap, [], ◌∷◌, ◌++◌}
+use Rattle.std.proofs.Common.{rules, ◌≡◌, ◌≢◌, ◌+◌, take, get_or, arith, ◌∙◌, ap, [], ◌∷◌}
 use Rattle.std.proofs.lemmas.List.{take_more}
 use Rattle.keyd_words.specs.declared.table.OptionName.{OptionName}
 use Rattle.keyd_words.specs.declared.table.OptionName.TheVariants.{KeyFile}

@@ -1,7 +1,6 @@
-use Rattle.std.proofs.Common.{rules, ◌≡◌, ◌≤◌, ◌<◌, length, map, take, get_or, arith, sym, ◌∙◌, ap, ℕ}
+use Rattle.std.proofs.Common.{rules, ◌≡◌, ◌<◌, length, map, get_or, arith, sym, ◌∙◌, ap}
 use Rattle.std.proofs.lemmas.List.{length-map, take_all}
 use Rattle.std.proofs.lemmas.List.{get_or-map}
-use Rattle.disk_model.specs.declared.calls.Choice.{Choice}
 use Rattle.disk_model.specs.declared.calls.Choice.TheVariants.{Lost}
 use Rattle.keyd_words.specs.Values.{choice_letter, IsValueOf}
 use Rattle.keyd_words.proofs.value.choices_of.Goals as goal

@@ -1,4 +1,4 @@
-use Rattle.std.proofs.Common.{◌≡◌, ◌++◌, ◌∷◌}
+use Rattle.std.proofs.Common.{◌++◌, ◌∷◌}
 use Rattle.keyd_words.proofs.SpaceLemmas.{no_cut, behind_one, behind_two}
 use Rattle.keyd_words.proofs.value.parts_of.Goals as goal
 

@@ -5,7 +5,6 @@ use Rattle.keyd_words.specs.Parts.{AreFourParts}
 use Rattle.keyd_words.specs.Values.{IsNewSpace, space_text, kind_word}
 use Rattle.keyd_words.specs.Table.{Argument}
 use Rattle.keyd_words.proofs.SpaceLemmas.{one_way, parts_of_space, space_of_parts}
-use Rattle.keyd_words.proofs.ValueLemmas.{one_set}
 use Rattle.keyd_words.proofs.value.space_of.Goals as goal
 
 -- the parts that were found are those of the space

@@ -1,7 +1,5 @@
-use Rattle.std.proofs.Common.{rules, ◌≡◌, sym, ◌∙◌, subst, ap, List, map}
+use Rattle.std.proofs.Common.{◌≡◌, sym, ◌∙◌, subst, List, map}
 use Rattle.disk_model.specs.declared.calls.Choice.{Choice}
-use Rattle.keyd_words.specs.declared.table.ValueForm.TheVariants as form
-use Rattle.keyd_words.specs.declared.table.ValueForm.{ValueForm}
 use Rattle.keyd_words.specs.declared.value.OptionValue.{OptionValue}
 use Rattle.keyd_words.specs.declared.value.OptionValue.TheVariants as value
 use Rattle.keyd_words.specs.Values.{WritesNumber, value_word, AreChoices, IsValueOf, ForMisfit, choice_letter}

@@ -1,4 +1,4 @@
-use Rattle.std.proofs.Common.{rules, ◌≡◌, ◌≢◌, ◌+◌, ◌≤◌, take, get_or, arith, sym, ◌∙◌, ap, Option, Some, None, if◌then◌else◌, refl, ℕ}
+use Rattle.std.proofs.Common.{rules, ◌≡◌, ◌≢◌, ◌+◌, take, get_or, arith, sym, ◌∙◌, ap, Option, Some, None, if◌then◌else◌, refl, ℕ}
 use Rattle.std.proofs.lemmas.List.{take_more, take_all}
 use Rattle.keyd_words.specs.declared.draft.NamedNumber.{NamedNumber}
 use Rattle.keyd_words.specs.declared.table.OptionName.TheVariants.{KeyFile}
