@@ -136,6 +136,73 @@ fn a_lent_change(rt: HostRuntime) -> Result<(), Fail> {
     Ok(())
 }
 
+// A clean page gets dirty by a lent change, and a dirty one keeps its first block.
+#[test]
+fn lent_changes_of_a_held_page(rt: HostRuntime) -> Result<(), Fail> {
+    let mut pool = Pool::new(rt.alloc())?;
+    pool.admit(5, 1, &[7; 16384])?;
+    let put = ChangeView::Put {
+        space: 5,
+        page: 1,
+        at: 40,
+        bytes: &[1, 2, 3],
+    };
+    pool.apply(&put, 12288, 2)?;
+    let kind = ChangeView::Kind {
+        space: 5,
+        page: 1,
+        kind: 17855,
+    };
+    pool.apply(&kind, 16384, 3)?;
+    let page = pool.find(5, 1).expect(&rt, "page 1");
+    assert!(rt; &page[24..26] == [0x45, 0xbf].as_slice());
+    assert!(rt; &page[38..44] == [7, 7, 1, 2, 3, 7].as_slice());
+    let dirty = DirtyPage {
+        space: 5,
+        page: 1,
+        first: 2,
+        lsn: 16384,
+    };
+    assert!(rt; pool.dirty() == [dirty].as_slice());
+    Ok(())
+}
+
+// A floor, and a space that is ciphered from here on.
+fn floor_and_encrypt(alloc: Global) -> Result<Mtr, Fail>
+    ensures { IfOk result AreAllowed }
+{
+    let mut changes = Vec::new(alloc);
+    changes.push(Change::Floor {
+        space: 5,
+        version: 0x01020304,
+    })?;
+    changes.push(Change::Encrypt { space: 5 })?;
+    Ok(Mtr::of(changes))
+}
+
+// The crypt record in a page of sevens: six bytes of magic, type 1, a length, a salt of 16 bytes,
+// the least version, a key id and mode 1, at byte 10428.
+const RECORD: [u8; 35] = [
+    7, 7, 7, 7, 7, 7, 7, 1, 7, 7, 7, 7, 7, 7, 7, 7, 7, 7, 7, 7, 7, 7, 7, 7, 7, 1, 2, 3, 4, 7, 7, 7,
+    7, 1, 7,
+];
+
+#[test]
+fn changes_of_a_space_in_its_page_0(rt: HostRuntime) -> Result<(), Fail> {
+    let mut pool = Pool::new(rt.alloc())?;
+    pool.admit(5, 0, &[7; 16384])?;
+    pool.change(&floor_and_encrypt(rt.alloc())?, 12288, 2)?;
+    assert!(rt; &pool.find(5, 0).expect(&rt, "page 0")[10427..10462] == RECORD.as_slice());
+    let floor = ChangeView::Floor {
+        space: 5,
+        version: 9,
+    };
+    pool.apply(&floor, 16384, 3)?;
+    assert!(rt; &pool.find(5, 0).expect(&rt, "page 0")[10452..10456] == [0, 0, 0, 9].as_slice());
+    assert_eq!(rt; pool.dirty().len(), 1);
+    Ok(())
+}
+
 // Changes of the pages 1 to 64.
 fn kinds(alloc: Global) -> Result<Mtr, OutOfMemory>
     ensures { IfOk result AreAllowed }
