@@ -1,5 +1,5 @@
 -- What a reader answers at a stage, and what it rests on at the next.
-use Rattle.std.proofs.Common.{◌≡◌, ℕ, ◌-◌, false, rules, List, [], length, drop, refl, sym, ap, ◌∙◌, subst, arith, length-drop, Option, Some, None, Result, Ok, Err, IfOk, IfSome, unwrap_or}
+use Rattle.std.proofs.Common.{◌≡◌, ℕ, ◌-◌, false, rules, List, [], length, take, drop, refl, sym, ap, ◌∙◌, subst, arith, length-drop, Option, Some, None, Result, Ok, Err, IfOk, IfSome, unwrap_or}
 use Rattle.std.proofs.lemmas.List.{drop-drop}
 use Rattle.io_core.specs.Files.{Files, bytes_from}
 use Rattle.io_core.specs.Told.{Told}
@@ -7,11 +7,13 @@ use Rattle.key_ring.specs.Ring.{RingEntry}
 use Rattle.binlog_text.specs.Held.{IsFront}
 use Rattle.binlog_text.specs.Events.{Found, answered, event_in, placed, placed_event}
 use Rattle.binlog_text.specs.Reading.{Holds, Keeps, Moves, Starts, is_outside_fault}
+use Rattle.binlog_text.specs.Sealed.{IsSealed, StandsSealed}
 use Rattle.binlog_text.specs.declared.fault.BinlogFault.{BinlogFault}
 use Rattle.binlog_text.specs.declared.stage.Position.{Position}
 use Rattle.binlog_text.specs.declared.stage.Stage.{Stage}
 use Rattle.binlog_text.specs.declared.stage.Stage.TheVariants.{Events, Refused, Start}
 use Rattle.binlog_text.specs.declared.stage.StageStep.{StageStep}
+use Rattle.binlog_text.proofs.Refusals.{step_each}
 
 -- a start that was answered Ok
 pub starts_keeps : (held : Option Files) (name rest : List ℕ) (r : Result Position BinlogFault)
@@ -27,6 +29,16 @@ pub answered_event : (ring : List RingEntry) (found : Option (List ℕ)) (stage 
 answered_event ring None stage position rest answer at keeps event = absurd keeps
 answered_event ring (Some file) stage position rest answer at keeps event =
     ap (placed_event ring (Some file)) at ∙ event keeps.front (length-drop position.place file ∙ ap (λ (n : ℕ). n - position.place) (sym keeps.size))
+
+-- an event that was read stands in the file
+pub stands_sealed : (ring : List RingEntry) (found : Option (List ℕ)) (stage : Stage) (position : Position) (rest event : List ℕ) (r : Result (Option StageStep) BinlogFault)
+    → placed found stage ≡ Ok position → Keeps found (Events position) rest
+    → (IsFront rest (drop position.place (unwrap_or found []))
+    → IfOk r (λ found_step. IfSome found_step (λ s. IsSealed ring position.format position.place event (take (length event) (drop position.place (unwrap_or found []))))))
+    → IfOk r (λ found_step. IfSome found_step (λ s. StandsSealed ring found (placed found stage) (record { mark = s.mark; bytes = event })))
+stands_sealed ring None stage position rest event r at keeps sealed = absurd keeps
+stands_sealed ring (Some file) stage position rest event r at keeps sealed =
+    step_each r (λ s is. subst (λ (p : Result Position BinlogFault). StandsSealed ring (Some file) p (record { mark = s.mark; bytes = event })) (sym at) is) (sealed keeps.front)
 
 -- what holds behind an event
 next_holds : (found : Option (List ℕ)) (position : Position) (before rest event : List ℕ) (step : StageStep) → Keeps found (Events position) before

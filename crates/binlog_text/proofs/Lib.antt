@@ -5,3 +5,4 @@ pub mod Started
 pub mod Refusals
 pub mod Answered
 pub mod Room
+pub mod Passed

@@ -3,6 +3,7 @@ pub mod Header
 pub mod Faults
 pub mod Held
 pub mod Events
+pub mod Sealed
 pub mod Reading
 pub mod Views
 pub mod Stages

@@ -116,6 +116,12 @@ IsStage old new (Err fault) = new ≡ (if is_outside fault then old else Refused
 IsStage old new (Ok None) = new ≡ old
 IsStage old new (Ok (Some event)) = left_at new < left_at old
 
+-- The file is read on only where fewer bytes of it are held behind a stage than it has there; at the start none are.
+abbrev pub WantsFile : Stage → List ℕ → Type 0
+WantsFile Start rest = Unit {0}
+WantsFile (Events position) rest = length rest < position.size - position.place
+WantsFile (Refused fault) rest = ⊥
+
 -- where the next event of a stage begins
 abbrev pub StandsAt : Stage → ℕ → Type 0
 StandsAt Start place = place ≡ 4

@@ -1,11 +1,12 @@
 // The bytes of the file that a reader holds: the event that it lends, and what of the file follows it.
 
-ghost use Rattle.std.specs.Prelude.{◌≡◌, ◌+◌, ◌≤◌, [], length, take, drop, min, max, true, IfOk, IfErr, IsErrOf, OnOk};
+ghost use Rattle.std.specs.Prelude.{◌≡◌, ◌+◌, ◌<◌, ◌≤◌, [], length, take, drop, min, max, true, IfOk, IfErr, IsErrOf, OnOk};
 ghost use Rattle.io_core.specs.Told.{Told};
 ghost use Rattle.io_core.specs.Files.{bytes_from};
 ghost use Rattle.binlog_text.specs.Faults.{HasBinlogCauses, IsBinlogRefusal, is_outside};
 ghost use Rattle.binlog_text.specs.Header.{kind_of, least_stored, sum_length};
 ghost use Rattle.binlog_text.specs.Events.{judged_event, opened, opened_event};
+ghost use Rattle.binlog_text.specs.Sealed.{IsSealed};
 
 use crate::piece::{grow, read_front};
 use crate::reading::read_within;
@@ -97,6 +98,7 @@ impl EventBuffer {
         ensures refusal { IfErr result IsBinlogRefusal }
         ensures sum { IfOk result (λ after. 19 + sum_length after.checksum ≤ length self.old.event) }
         ensures value { opened_event position.now (opened ring.now position.now.format position.now.place self.old.event) ≡ judged_event position.now self.new.event result }
+        ensures sealed { OnOk result (IsSealed ring.now position.now.format position.now.place self.new.event self.old.event) }
         ensures long { length self.new.event ≡ length self.old.event }
         ensures rest { self.new.rest ≡ self.old.rest }
         ensures room { self.new.room ≡ self.old.room }
@@ -119,6 +121,7 @@ impl EventBuffer {
     fn keep(&mut self, left: u64)
         ensures event { self.new.event ≡ self.old.event }
         ensures rest { self.new.rest ≡ take left self.old.rest }
+        ensures long { length self.new.rest ≡ min left (length self.old.rest) }
         ensures room { self.new.room ≡ self.old.room }
     {
         let here = ((self.end - self.rest) as u64).min(left) as usize;
@@ -172,6 +175,8 @@ impl EventBuffer {
         ensures causes { HasBinlogCauses (L.faults files.old) (L.faults files.new) (L.absences files.old) (L.absences files.new) result }
         ensures failed { IsErrOf result BinlogFault.FileFault → L.failed_last files.new name.now }
         ensures outside { IfErr result (λ fault. is_outside fault ≡ true) }
+        ensures wanted { IsErrOf result BinlogFault.FileFault → length self.old.rest < left }
+        ensures held { left ≤ length self.old.rest → left ≤ length self.new.rest }
     {
         self.keep(left);
         if self.rest().len() >= need {

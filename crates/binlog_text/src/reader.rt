@@ -28,7 +28,8 @@ impl LogReader {
     ghost use Rattle.io_core.specs.Told.{Told};
     ghost use Rattle.binlog_text.specs.Faults.{HasBinlogCauses};
     ghost use Rattle.binlog_text.specs.Events.{answered, placed};
-    ghost use Rattle.binlog_text.specs.Reading.{FitsMark, IsBehindEvent, Keeps, StandsAt, due_at, is_outside_fault, left_at, marked, shown_step, viewed};
+    ghost use Rattle.binlog_text.specs.Sealed.{StandsSealed};
+    ghost use Rattle.binlog_text.specs.Reading.{FitsMark, IsBehindEvent, Keeps, StandsAt, WantsFile, due_at, is_outside_fault, left_at, marked, shown_step, viewed};
     ghost use Rattle.binlog_text.specs.Advances.{Advances, ReaderCauses};
     ghost use Rattle.binlog_text.specs.contracts.reader.LogReader.{the_row};
 
@@ -52,11 +53,13 @@ impl LogReader {
         ensures stage { self.new.stage ≡ self.old.stage }
         ensures left { IfOk result (λ position. position.size - position.place ≤ left_at self.old.stage) }
         ensures at { IfOk result (λ position. StandsAt self.old.stage position.place) }
+        ensures held { (position : Position) → self.old.stage ≡ Stage.Events position → (result ≡ Ok position) × (self.new.buffer.rest ≡ self.old.buffer.rest) }
         ensures room { self.new.buffer.room ≤ max self.old.buffer.room 65536 }
         ensures again { (fault : BinlogFault) → self.old.stage ≡ Stage.Refused fault → result ≡ Err fault }
         ensures same { L.files files.new ≡ L.files files.old }
         ensures causes { ReaderCauses self.old.stage (L.faults files.old) (L.faults files.new) (L.absences files.old) (L.absences files.new) result }
         ensures failed { IsErrOf result BinlogFault.FileFault → L.failed_last files.new name.now }
+        ensures wanted { IsErrOf result BinlogFault.FileFault → WantsFile self.old.stage self.old.buffer.rest }
     {
         match self.stage {
             Stage::Start => start(&mut self.buffer, files, name),
@@ -79,6 +82,7 @@ impl LogReader {
         ensures stage { self.new.stage ≡ self.old.stage }
         ensures left { IfOk result (λ found. IfSome found (λ step. left_at (Stage.Events step.next) < left_at self.old.stage)) }
         ensures fits { IfOk result (λ found. IfSome found (λ step. FitsMark step.mark self.new.buffer.event)) }
+        ensures sealed { Told (λ fs. IfOk result (λ found. IfSome found (λ step. StandsSealed ring.now (fs name.now) (placed (fs name.now) self.old.stage) (record { mark = step.mark; bytes = self.new.buffer.event })))) (L.files files.old) }
         ensures behind { IfOk result (λ found. IfSome found (λ step. IsBehindEvent self.old.stage (record { mark = step.mark; bytes = self.new.buffer.event }) (Stage.Events step.next))) }
         ensures room { self.new.buffer.room ≤ max self.old.buffer.room 16777216 }
         ensures grown { Told (λ fs. self.new.buffer.room ≤ max self.old.buffer.room (max 65536 (due_at (fs name.now) self.old.stage))) (L.files files.old) }
@@ -86,6 +90,7 @@ impl LogReader {
         ensures same { L.files files.new ≡ L.files files.old }
         ensures causes { ReaderCauses self.old.stage (L.faults files.old) (L.faults files.new) (L.absences files.old) (L.absences files.new) result }
         ensures failed { IsErrOf result BinlogFault.FileFault → L.failed_last files.new name.now }
+        ensures wanted { IsErrOf result BinlogFault.FileFault → WantsFile self.old.stage self.old.buffer.rest }
     {
         let position = self.position(files, name)?;
         read_event(&mut self.buffer, &position, files, name, ring)
@@ -105,6 +110,7 @@ impl LogReader {
         ensures same { L.files files.new ≡ L.files files.old }
         ensures causes { ReaderCauses self.old.stage (L.faults files.old) (L.faults files.new) (L.absences files.old) (L.absences files.new) result }
         ensures failed { IsErrOf result BinlogFault.FileFault → L.failed_last files.new name.now }
+        ensures wanted { IsErrOf result BinlogFault.FileFault → WantsFile self.old.stage self.old.buffer.rest }
     {
         match self.answer(files, name, ring) {
             Ok(Some(step)) => {
@@ -126,7 +132,8 @@ impl LogReader {
     ///
     /// # Errors
     /// The first refusal in the file, which is answered again from then on; `FileFault` and
-    /// `OutOfMemory`, after which the reader stands where it stood. A fault of the file is one of this name.
+    /// `OutOfMemory`, after which the reader stands where it stood. A fault of the file is one of this name,
+    /// and comes only where the reader doesn't hold all that the file has behind the events before.
     pub fn next<L: Library>(
         &mut self,
         files: &mut L,
@@ -140,6 +147,7 @@ impl LogReader {
         ensures same { L.files files.new ≡ L.files files.old }
         ensures causes { ReaderCauses self.old.stage (L.faults files.old) (L.faults files.new) (L.absences files.old) (L.absences files.new) result }
         ensures failed { IsErrOf result BinlogFault.FileFault → L.failed_last files.new name.now }
+        ensures wanted { IsErrOf result BinlogFault.FileFault → WantsFile self.old.stage self.old.buffer.rest }
     {
         match self.advance(files, name, ring)? {
             Some(mark) => Ok(Some(EventView {

@@ -1,6 +1,6 @@
 use Rattle.std.proofs.Common.{◌∙◌, refl, sym}
 use Rattle.io_core.proofs.Causes.{told_same}
-use Rattle.binlog_text.proofs.Answered.{answered_event, keeps_next, kept_stage}
+use Rattle.binlog_text.proofs.Answered.{answered_event, keeps_next, kept_stage, stands_sealed}
 use Rattle.binlog_text.specs.Reading.{due_at}
 use Rattle.binlog_text.proofs.Refusals.{step_each}
 use Rattle.binlog_text.proofs.Room.{passes, stage_room, start_room}
@@ -43,4 +43,11 @@ returns-clause-grown g c = record {
       c.args.self.now.buffer.room c.position.new.self.buffer.room c.read_event.new.buffer.room
       (c.in_ok-position.ensures.position.here fs is refl) (c.in_ok-position.ensures.keeps.here fs is) c.position.ensures.room
       (λ front size. c.read_event.ensures.grown.here fs (c.in_ok-position.ensures.same ∙ is) front size);
+}
+
+pub returns-clause-sealed : goal.returns-clause-sealed
+returns-clause-sealed g c = record {
+  here = λ fs is.
+      stands_sealed c.args.ring.now (fs c.args.name.now) c.args.self.now.stage c.in_ok-position.position c.position.new.self.buffer.rest c.read_event.new.buffer.event c.read_event.result
+      (c.in_ok-position.ensures.position.here fs is refl) (c.in_ok-position.ensures.keeps.here fs is) (c.read_event.ensures.sealed.here fs (c.in_ok-position.ensures.same ∙ is));
 }
