@@ -8,9 +8,11 @@ ghost use Rattle.binlog_text.specs.Header.{kind_of, least_stored, sum_length};
 ghost use Rattle.binlog_text.specs.Events.{judged_event, opened, opened_event};
 ghost use Rattle.binlog_text.specs.Sealed.{IsSealed};
 
+use crate::BinlogFault;
+use crate::format::LogFormat;
 use crate::piece::{grow, read_front};
 use crate::reading::read_within;
-use crate::{BinlogFault, LogFormat, Position};
+use crate::stage::Position;
 use io_core::Library;
 use key_ring::Ring;
 use std::alloc::Global;

@@ -10,7 +10,7 @@ use byte_list::fields::le32_at;
 
 /// The checksum that each event of a log ends with. The names are MariaDB's.
 #[derive(Clone, Copy)]
-pub enum ChecksumAlgorithm {
+pub(crate) enum ChecksumAlgorithm {
     /// None, 0 in the format description.
     Off,
     /// CRC-32 in four bytes, 1 in the format description.
@@ -19,7 +19,7 @@ pub enum ChecksumAlgorithm {
 
 /// What a start encryption says of the events after it.
 #[derive(Clone, Copy)]
-pub struct EventCipher {
+pub(crate) struct EventCipher {
     /// The version of key 1 under which they are ciphered.
     pub version: u32,
     /// The first bytes of each IV.
@@ -28,7 +28,7 @@ pub struct EventCipher {
 
 /// What the events so far say of those that follow.
 #[derive(Clone, Copy)]
-pub struct LogFormat {
+pub(crate) struct LogFormat {
     /// The checksum, once the format description was read.
     pub checksum: Option<ChecksumAlgorithm>,
     /// The cipher, once a start encryption was read.

@@ -8,9 +8,12 @@
 //! 2. [`LogReader`] gives exactly the events of the file in order, and None exactly at its end
 //!    (`answered`). Each refusal comes exactly where it is the first in order, with its place and
 //!    values.
-//! 3. After a fault of the file, which is one of the log's name, or want of memory the reader stands
-//!    where it stood; after every other refusal it answers the same again.
-//! 4. An [`EventView`] lends the plain event from the reader's buffer. The buffer has no bytes at
+//! 3. An event that is given is the bytes of the file at its place, or enciphers to them under the key
+//!    and nonce that the start encryption before it names (`StandsSealed`).
+//! 4. After a fault of the file, which is one of the log's name and comes only where the reader holds
+//!    less than the file has (`WantsFile`), or want of memory the reader stands where it stood; after
+//!    every other refusal it answers the same again.
+//! 5. An [`EventView`] lends the plain event from the reader's buffer. The buffer has no bytes at
 //!    first. A call makes it no longer than one piece of the file, 65536 bytes, or what the file has
 //!    of the event that is due (`due_at`), where it isn't longer already; over a library that doesn't
 //!    tell its files, no longer than 16,777,216 bytes, the most that an event may have.
@@ -33,10 +36,8 @@ mod view;
 
 pub use cipher::{decipher_event, encipher_event};
 pub use fault::BinlogFault;
-pub use format::{ChecksumAlgorithm, EventCipher, LogFormat};
 pub use reader::LogReader;
-pub use stage::{Position, Stage, StageStep};
-pub use view::{EventMark, EventView};
+pub use view::EventView;
 
 #[cfg(test)]
 mod tests;

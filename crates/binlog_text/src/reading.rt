@@ -11,12 +11,13 @@ ghost use Rattle.binlog_text.specs.Events.{event_in, judged_event, opened, opene
 ghost use Rattle.binlog_text.specs.Reading.{Moves, Reaches, due_in, is_outside_fault, shown_step};
 ghost use Rattle.binlog_text.specs.Sealed.{IsSealed};
 
+use crate::BinlogFault;
 use crate::buffer::EventBuffer;
 use crate::format::{HEADER_LEN, LogFormat, framed, has_sum, whole};
 use crate::judging::judge;
 use crate::opening::open;
 use crate::stage::{Position, StageStep};
-use crate::{BinlogFault, EventMark};
+use crate::view::EventMark;
 use io_core::Library;
 use key_ring::Ring;
 

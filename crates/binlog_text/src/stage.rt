@@ -1,10 +1,12 @@
 // Where a reader stands.
 
-use crate::{BinlogFault, EventMark, LogFormat};
+use crate::BinlogFault;
+use crate::format::LogFormat;
+use crate::view::EventMark;
 
 /// Where the next event begins, and what the events before it say of it.
 #[derive(Clone, Copy)]
-pub struct Position {
+pub(crate) struct Position {
     /// Where it begins, in bytes from the file's beginning.
     pub place: u64,
     /// The length of the file in bytes.
@@ -15,7 +17,7 @@ pub struct Position {
 
 /// An event that was read, and where the next one begins.
 #[derive(Clone, Copy)]
-pub struct StageStep {
+pub(crate) struct StageStep {
     /// The event.
     pub mark: EventMark,
     /// Where the next one begins.
@@ -24,7 +26,7 @@ pub struct StageStep {
 
 /// Where a reader stands.
 #[derive(Clone, Copy)]
-pub enum Stage {
+pub(crate) enum Stage {
     /// Nothing was read.
     Start,
     /// The events before this position were read.

@@ -7,7 +7,7 @@ use byte_list::fields::{le16_at, le32_at};
 
 /// Where an event stands, and how.
 #[derive(Clone, Copy)]
-pub struct EventMark {
+pub(crate) struct EventMark {
     /// Where it begins, in bytes from the file's beginning.
     pub place: u64,
     /// The version of key 1 under which it was ciphered, None in clear.
