@@ -27,7 +27,7 @@ read_block f xs i k h e =
     ap (λ (n : ℕ). take n (drop (16 * i) (joined f i ++ drop (16 * i) xs))) e
     ∙ ap (take 16) (drop_at (joined f i) (drop (16 * i) xs) (16 * i) (length-joined f i h))
 
-joined_more : (f : ℕ → List ℕ) (n : ℕ) → joined f (n + 1) ≡ joined f n ++ f n
+pub joined_more : (f : ℕ → List ℕ) (n : ℕ) → joined f (n + 1) ≡ joined f n ++ f n
 unfolding joined
 joined_more f n = rw add-one refl
 
@@ -111,7 +111,7 @@ written_ahead f xs now n m w le =
 
 -- ---- many blocks in one step
 
-joined_after : (f : ℕ → List ℕ) (i m : ℕ) → joined f (i + m) ≡ joined f i ++ joined (λ j. f (i + j)) m
+pub joined_after : (f : ℕ → List ℕ) (i m : ℕ) → joined f (i + m) ≡ joined f i ++ joined (λ j. f (i + j)) m
 unfolding joined
 joined_after f i zero =
     let e : i + 0 ≡ i = omega arith in

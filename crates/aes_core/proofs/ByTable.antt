@@ -31,39 +31,32 @@ inv_sub_table = refl
 pub inv_sub_at : (a : ℕ) → a < 256 → get_or INV_SUB a 0 ≡ inv_sub_byte a
 inv_sub_at a h = at_table INV_SUB inv_sub_byte 0 inv_sub_table a h
 
-in_range : map (λ a. nat_lt (get_or SUB a 0) 256) (range_with_len 0 256) ≡ map (λ a. true) (range_with_len 0 256)
-in_range = refl
+-- what each entry of a table passes, computed of the table
+table_lt : (table : List ℕ) (g : ℕ → ℕ) → ((a : ℕ) → a < 256 → get_or table a 0 ≡ g a) → map (λ a. nat_lt (get_or table a 0) 256) (range_with_len 0 256) ≡ map (λ a. true) (range_with_len 0 256)
+    → (a : ℕ) → a < 256 → g a < 256
+table_lt table g at in_range a h =
+    let e = at a h in
+    let below = ltb-true (get_or table a 0) 256 (everywhere (λ a. nat_lt (get_or table a 0) 256) (λ a. true) in_range a h) in
+    rw e at below
 
 pub sub_byte-lt : (a : ℕ) → a < 256 → sub_byte a < 256
-sub_byte-lt a h =
-    let e = sub_at a h in
-    let below = ltb-true (get_or SUB a 0) 256 (everywhere (λ a. nat_lt (get_or SUB a 0) 256) (λ a. true) in_range a h) in
-    rw e at below
-
-inv_in_range : map (λ a. nat_lt (get_or INV_SUB a 0) 256) (range_with_len 0 256) ≡ map (λ a. true) (range_with_len 0 256)
-inv_in_range = refl
+sub_byte-lt = table_lt SUB sub_byte sub_at refl
 
 pub inv_sub_byte-lt : (a : ℕ) → a < 256 → inv_sub_byte a < 256
-inv_sub_byte-lt a h =
-    let e = inv_sub_at a h in
-    let below = ltb-true (get_or INV_SUB a 0) 256 (everywhere (λ a. nat_lt (get_or INV_SUB a 0) 256) (λ a. true) inv_in_range a h) in
-    rw e at below
+inv_sub_byte-lt = table_lt INV_SUB inv_sub_byte inv_sub_at refl
 
-there : map (λ a. get_or INV_SUB (get_or SUB a 0) 0) (range_with_len 0 256) ≡ map (λ a. a) (range_with_len 0 256)
-there = refl
-
-back : map (λ a. get_or SUB (get_or INV_SUB a 0) 0) (range_with_len 0 256) ≡ map (λ a. a) (range_with_len 0 256)
-back = refl
+-- one table undoes another, computed of both
+undone_by : (there back : List ℕ) (f g : ℕ → ℕ) → ((a : ℕ) → a < 256 → get_or there a 0 ≡ f a) → ((a : ℕ) → a < 256 → get_or back a 0 ≡ g a) → ((a : ℕ) → a < 256 → f a < 256)
+    → map (λ a. get_or back (get_or there a 0) 0) (range_with_len 0 256) ≡ map (λ a. a) (range_with_len 0 256) → (a : ℕ) → a < 256 → g (f a) ≡ a
+undone_by there back f g at_there at_back lt computed a h =
+    sym (at_back (f a) (lt a h)) ∙ ap (λ (n : ℕ). get_or back n 0) (sym (at_there a h))
+    ∙ everywhere (λ a. get_or back (get_or there a 0) 0) (λ a. a) computed a h
 
 pub inv_sub-sub : (a : ℕ) → a < 256 → inv_sub_byte (sub_byte a) ≡ a
-inv_sub-sub a h =
-    sym (inv_sub_at (sub_byte a) (sub_byte-lt a h)) ∙ ap (λ (n : ℕ). get_or INV_SUB n 0) (sym (sub_at a h))
-    ∙ everywhere (λ a. get_or INV_SUB (get_or SUB a 0) 0) (λ a. a) there a h
+inv_sub-sub = undone_by SUB INV_SUB sub_byte inv_sub_byte sub_at inv_sub_at sub_byte-lt refl
 
 pub sub-inv_sub : (a : ℕ) → a < 256 → sub_byte (inv_sub_byte a) ≡ a
-sub-inv_sub a h =
-    sym (sub_at (inv_sub_byte a) (inv_sub_byte-lt a h)) ∙ ap (λ (n : ℕ). get_or SUB n 0) (sym (inv_sub_at a h))
-    ∙ everywhere (λ a. get_or SUB (get_or INV_SUB a 0) 0) (λ a. a) back a h
+sub-inv_sub = undone_by INV_SUB SUB inv_sub_byte sub_byte inv_sub_at sub_at inv_sub_byte-lt refl
 
 -- ---- small multiples
 

@@ -1,7 +1,7 @@
 -- A product is linear in its second factor, and two circulant matrices that undo each other.
 use Rattle.std.proofs.Common.{◌≡◌, ℕ, zero, suc, ◌+◌, ◌*◌, ◌/◌, ◌%◌, ◌^◌, ◌==◌, ◌<◌, Bool, true, false, List, [], ◌∷◌, get_or, bit_xor, refl, sym, ap, ap₂, ◌∙◌, arith, pow_pos}
 use Rattle.std.specs.Prelude.{if◌then◌else◌}
-use Rattle.std.proofs.lemmas.Nat.{xor_comm, xor_lt, xor_shr, xor_mod, xor_block}
+use Rattle.std.proofs.lemmas.Nat.{xor_lt, xor_shr, xor_mod, xor_block}
 use lib.Bits.{xor_assoc, xor_self, xor_zero_r}
 use Rattle.byte_list.proofs.XorLaws.{xor_four}
 use Rattle.aes_core.specs.Field.{product_of, times, times_x}

@@ -6,7 +6,7 @@ use Rattle.std.proofs.lemmas.Simd.{length-zip2, put_chunk_whole}
 use lib.Lanes.{put_chunk, zip2}
 use Rattle.aes_core.specs.Cipher.{xored}
 
-pub mapped_at : (f : ℕ → ℕ) (xs : List ℕ) (i : ℕ) → i < length xs → get_or (map f (take i xs) ++ drop i xs) i 0 ≡ get_or xs i 0
+mapped_at : (f : ℕ → ℕ) (xs : List ℕ) (i : ℕ) → i < length xs → get_or (map f (take i xs) ++ drop i xs) i 0 ≡ get_or xs i 0
 mapped_at f [] i h = absurd (omega arith)
 mapped_at f (x ∷ xs) zero h = refl
 mapped_at f (x ∷ xs) (suc i) h = mapped_at f xs i (omega arith)
@@ -17,9 +17,14 @@ mapped_suc f [] i h = absurd (omega arith)
 mapped_suc f (x ∷ xs) zero h = refl
 mapped_suc f (x ∷ xs) (suc i) h = ap (λ (ys : List ℕ). f x ∷ ys) (mapped_suc f xs i (omega arith))
 
-pub mapped_more : (f : ℕ → ℕ) (xs : List ℕ) (i : ℕ) → i < length xs
+mapped_more : (f : ℕ → ℕ) (xs : List ℕ) (i : ℕ) → i < length xs
     → set (map f (take i xs) ++ drop i xs) i (f (get_or xs i 0)) ≡ map f (take (i + 1) xs) ++ drop (i + 1) xs
 mapped_more f xs i h = mapped_suc f xs i h ∙ ap (λ (n : ℕ). map f (take n xs) ++ drop n xs) (sym (add-one i))
+
+-- the next element is turned
+pub mapped_step : (f : ℕ → ℕ) (xs now : List ℕ) (i v : ℕ) → i < length xs → now ≡ map f (take i xs) ++ drop i xs → v ≡ f (get_or now i 0) → set now i v ≡ map f (take (i + 1) xs) ++ drop (i + 1) xs
+mapped_step f xs now i v lt is value =
+    ap₂ (λ (l : List ℕ) (k : ℕ). set l i k) is (value ∙ ap (λ (l : List ℕ). f (get_or l i 0)) is ∙ ap f (mapped_at f xs i lt)) ∙ mapped_more f xs i lt
 
 pub mapped_all : (f : ℕ → ℕ) (xs : List ℕ) (i : ℕ) → length xs ≤ i → map f (take i xs) ++ drop i xs ≡ map f xs
 mapped_all f [] zero h = refl

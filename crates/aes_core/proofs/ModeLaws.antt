@@ -1,5 +1,5 @@
 -- The modes undo themselves.
-use Rattle.std.proofs.Common.{◌≡◌, ℕ, zero, suc, ◌+◌, ◌-◌, ◌*◌, ◌/◌, ◌%◌, ◌^◌, ◌<◌, ◌≤◌, List, [], ◌∷◌, ◌++◌, length, take, drop, bit_xor, refl, sym, ap, ap₂, ◌∙◌, arith, inl, inr, add-one, length-append, length-drop, append_assoc}
+use Rattle.std.proofs.Common.{◌≡◌, ℕ, zero, suc, ◌+◌, ◌-◌, ◌*◌, ◌/◌, ◌%◌, ◌^◌, ◌<◌, ◌≤◌, List, [], ◌∷◌, ◌++◌, length, take, drop, refl, sym, ap, ap₂, ◌∙◌, arith, inl, inr, length-append, length-drop, append_assoc}
 use Rattle.std.proofs.lemmas.Bool.{cases_lt}
 use Rattle.std.proofs.lemmas.List.{append-nil, drop-drop, drop_all, drop_at, take-append-drop, take_at}
 use Rattle.std.proofs.Math.Seq.{take-add}
@@ -7,7 +7,7 @@ use Rattle.byte_list.proofs.XorLaws.{xored_append, length-xored}
 use Rattle.aes_core.specs.Cipher.{AreBytes, IsCipherBlock, IsKey, decrypted, encrypted, round_count, schedule, xored}
 use Rattle.std.specs.Int.{byte_at, from_be_bytes, to_be_bytes, w128}
 use Rattle.aes_core.specs.Modes.{text_block, block_before, cbc_blocks, cbc_tail, chain, counter_at, ctr, joined, key_stream, masked_tail, tail_of, uncbc_blocks, uncbc_tail, whole_blocks}
-use Rattle.aes_core.proofs.BlockLoop.{AreBlocks, length-text_block, length-joined}
+use Rattle.aes_core.proofs.BlockLoop.{AreBlocks, length-text_block, length-joined, joined_more}
 use Rattle.aes_core.proofs.Inverse.{byte_at-lt, block_decrypted, block_encrypted, block_xored, decrypted-encrypted, encrypted-decrypted}
 use Rattle.aes_core.proofs.Schedule.{keys_of}
 use Rattle.byte_list.proofs.ByteLaws.{bytes_made, bytes_drop, bytes_take}
@@ -61,15 +61,11 @@ xored_joined g xs rest (suc n) h le =
     ∙ xored_append (text_block xs n) (drop (16 * suc n) xs) (g n) rest (length-text_block xs n (omega arith) ∙ sym (h.long n (omega arith))))
     ∙ sym (append_assoc (joined f n) (f n) (xored (drop (16 * suc n) xs) rest))
 
-joined_next : (g : ℕ → List ℕ) (n : ℕ) → joined g (n + 1) ≡ joined g n ++ g n
-unfolding joined
-joined_next g n = rw add-one refl
-
 pub ctr_is : (key counter xs : List ℕ) (n : ℕ) → n ≡ whole_blocks xs → AreBlocks (λ j. encrypted key (counter_at counter j)) n
     → joined (λ j. xored (text_block xs j) (encrypted key (counter_at counter j))) n ++ xored (drop (16 * n) xs) (encrypted key (counter_at counter n)) ≡ ctr key counter xs
 ctr_is key counter xs n e h =
     let g = λ (j : ℕ). encrypted key (counter_at counter j) in
-    sym (xored_joined g xs (g n) n h (omega arith)) ∙ ap (xored xs) (sym (joined_next g n)) ∙ ap (λ (k : ℕ). xored xs (joined g (k + 1))) e
+    sym (xored_joined g xs (g n) n h (omega arith)) ∙ ap (xored xs) (sym (joined_more g n)) ∙ ap (λ (k : ℕ). xored xs (joined g (k + 1))) e
 
 pub ctr_twice : (key counter xs : List ℕ) → AreBlocks (λ j. encrypted key (counter_at counter j)) (whole_blocks xs + 1) → ctr key counter (ctr key counter xs) ≡ xs
 ctr_twice key counter xs h =

@@ -1,5 +1,5 @@
 -- A text, the padding after it, and the text again.
-use Rattle.std.proofs.Common.{◌≡◌, ℕ, zero, suc, ◌+◌, ◌-◌, ◌%◌, ◌<◌, ◌≤◌, List, ◌++◌, length, take, drop, replicate, slice_index, get_or, refl, sym, ap, ap₂, ◌∙◌, arith, length-append, length-drop, length-take-le}
+use Rattle.std.proofs.Common.{◌≡◌, ℕ, suc, ◌+◌, ◌-◌, ◌%◌, ◌≤◌, List, ◌++◌, length, take, drop, replicate, slice_index, get_or, refl, sym, ap, ap₂, ◌∙◌, arith, length-append, length-drop, length-take-le}
 use Rattle.std.proofs.lemmas.List.{append-nil, drop-drop, drop_at, get_or-drop, get_or-replicate, length-replicate, take-append-drop, take_at}
 use Rattle.aes_core.specs.Cipher.{AreBytes, IsCipherBlock, IsKey}
 use Rattle.aes_core.specs.Modes.{EndsIn, cbc_pad, cbc_tail, padded, uncbc_tail, whole_blocks, joined, chain}

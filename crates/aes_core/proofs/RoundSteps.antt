@@ -1,6 +1,12 @@
 -- One round more or less, as the definitions of a block enciphered and deciphered count them.
-use Rattle.std.proofs.Common.{◌≡◌, ℕ, suc, ◌-◌, List, refl}
+use Rattle.std.proofs.Common.{◌≡◌, ℕ, suc, ◌+◌, ◌-◌, ◌*◌, List, take, drop, ap, refl, arith}
 use Rattle.aes_core.specs.Cipher.{after_rounds, before_rounds, inv_mix_columns, inv_shift_rows, inv_sub_bytes, mix_columns, round_key, shift_rows, sub_bytes, xored}
+
+-- the key of round r, as a round of the plain body reads it
+pub plain_key_at : (w : List ℕ) (r : ℕ) → take (16 * r + 16 - 16 * r) (drop (16 * r) w) ≡ round_key w r
+plain_key_at w r =
+    let e : 16 * r + 16 - 16 * r ≡ 16 = omega arith in
+    ap (λ (n : ℕ). take n (drop (16 * r) w)) e
 
 pub after_none : (w s : List ℕ) → xored s (round_key w 0) ≡ after_rounds w s 0
 unfolding after_rounds

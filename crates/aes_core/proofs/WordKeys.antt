@@ -1,5 +1,5 @@
 -- Keys as words.
-use Rattle.std.proofs.Common.{◌≡◌, ℕ, zero, suc, ◌+◌, ◌-◌, ◌*◌, ◌/◌, ◌<◌, ◌≤◌, List, [], ◌∷◌, ◌++◌, length, take, drop, slice_index, set, refl, sym, ap, ap₂, ◌∙◌, arith, inl, inr, add-one, length-drop}
+use Rattle.std.proofs.Common.{◌≡◌, ℕ, zero, suc, ◌+◌, ◌-◌, ◌*◌, ◌/◌, ◌<◌, ◌≤◌, List, [], ◌∷◌, ◌++◌, length, take, drop, slice_index, set, refl, sym, ap, ap₂, ◌∙◌, arith, inl, inr, length-drop}
 use Rattle.std.specs.Int.{from_le_bytes, to_le_bytes, w32}
 use Rattle.std.proofs.lemmas.List.{append-nil, drop-take, length-take-le, take-take, take_more_set}
 use Rattle.std.proofs.lemmas.List.Concat.{flat_map-append}
@@ -8,7 +8,7 @@ use Rattle.std.proofs.Math.Seq.{take-add}
 use borrow.Rule.Slice.PartMut.{mid_of, put_mid, same_len_mid}
 use Rattle.aes_core.specs.Cipher.{AreBytes, IsKeyLength, IsWordSchedule, bytes_of, round_count, round_key, schedule, state_of, inv_mix_columns}
 use Rattle.aes_core.specs.Modes.{joined}
-use Rattle.aes_core.proofs.BlockLoop.{AreBlocks}
+use Rattle.aes_core.proofs.BlockLoop.{AreBlocks, joined_more}
 use Rattle.aes_core.proofs.ModeLaws.{block_of_joined}
 use Rattle.aes_core.proofs.Schedule.{opened, word_four}
 use Rattle.aes_core.proofs.WordsAt.{bytes_from, key_words}
@@ -43,6 +43,10 @@ opened_words words back n m key h e v =
     let o = opened (bytes_of words) n (4 * m) key long h.ready (omega arith) v in
     (words_taken words m ∙ o.0, o.1)
 
+-- how many rounds a key that was opened has
+pub opened_count : (words back : List ℕ) (n : ℕ) (key : List ℕ) → IsWordSchedule words back n → take n (bytes_of words) ≡ key → n / 4 + 6 ≡ round_count key
+opened_count words back n key h v = (opened_words words back n (4 * (n / 4 + 6 + 1)) key h refl v).1
+
 pub opened_back : (words back : List ℕ) (n m : ℕ) → IsWordSchedule words back n → m ≡ 4 * (n / 4 + 6 + 1) → (r : ℕ) → r ≤ n / 4 + 6
     → state_of (take 4 (drop (4 * r) (take m back))) ≡ inv_mix_columns (round_key (bytes_of (take m words)) r)
 opened_back words back n m h e r le =
@@ -67,10 +71,6 @@ word_more keys out i n b lt room held made =
 four_of : (t : List ℕ) → length t ≡ 4 → bytes_of t ≡ state_of t
 four_of (a ∷ b ∷ c ∷ d ∷ []) long = refl
 four_of _ long = absurd (omega arith)
-
-joined_more : (f : ℕ → List ℕ) (n : ℕ) → joined f (n + 1) ≡ joined f n ++ f n
-unfolding joined
-joined_more f n = rw add-one refl
 
 pub turned_more : (f : ℕ → List ℕ) (out w : List ℕ) (r k : ℕ) → length out ≡ 60 → r < 15 → k ≡ 4 → length w ≡ 4
     → bytes_of (take (4 * r) out) ≡ joined f r → state_of w ≡ f r

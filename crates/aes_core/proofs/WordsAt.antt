@@ -98,6 +98,34 @@ in_turn l0 l1 l2 l3 made one a b c d p q r s ha hb hc hd =
     let es = ap (to_le_bytes w32) (turned (l1 a) (l2 b) (l3 c) (l0 d) s ∙ turned (l2 b) (l3 c) (l0 d) (l1 a) s ∙ turned (l3 c) (l0 d) (l1 a) (l2 b) s) ∙ one d a b c s hc in
     (λ i. ep i ++ eq i ++ er i ++ es i)
 
+-- ---- a table of words, by the bytes of what it has for a byte
+
+-- what a table has, where it was made of another by the bytes of its words
+read_of : (table other : List ℕ) (made : ℕ → List ℕ) (g : ℕ → ℕ) → map (λ a. to_le_bytes w32 (get_or table a 0)) (range_with_len 0 256) ≡ map (λ a. made (get_or other a 0)) (range_with_len 0 256)
+    → ((a : ℕ) → a < 256 → get_or other a 0 ≡ g a) → (a : ℕ) → a < 256 → to_le_bytes w32 (get_or table a 0) ≡ made (g a)
+read_of table other made g computed at a h = everywhere (λ a. to_le_bytes w32 (get_or table a 0)) (λ a. made (get_or other a 0)) computed a h ∙ ap made (at a h)
+
+-- A byte of each of four words is looked up, in a table of its own, and the words found are added up with a key.
+module _ (t0 t1 t2 t3 : List ℕ) (g0 g1 g2 g3 : ℕ → List ℕ)
+    (read_0 : (a : ℕ) → a < 256 → to_le_bytes w32 (get_or t0 a 0) ≡ g0 a) (read_1 : (a : ℕ) → a < 256 → to_le_bytes w32 (get_or t1 a 0) ≡ g1 a)
+    (read_2 : (a : ℕ) → a < 256 → to_le_bytes w32 (get_or t2 a 0) ≡ g2 a) (read_3 : (a : ℕ) → a < 256 → to_le_bytes w32 (get_or t3 a 0) ≡ g3 a) where
+  looked_up : (a b c d key : ℕ) → d < 2 ^ 32
+      → to_le_bytes w32 (bit_xor (bit_xor (bit_xor (bit_xor (get_or t0 (bit_and a 255) 0) (get_or t1 (bit_and (b / 256) 255) 0)) (get_or t2 (bit_and (c / 65536) 255) 0)) (get_or t3 (d / 16777216) 0)) key)
+      ≡ xored (xored (xored (xored (g0 (byte_at 0 a)) (g1 (byte_at 1 b))) (g2 (byte_at 2 c))) (g3 (byte_at 3 d))) (to_le_bytes w32 key)
+  looked_up a b c d key hd =
+      let top : d / 16777216 ≡ d / 16777216 % 256 = omega arith in
+      let e0 = ap (λ (n : ℕ). to_le_bytes w32 (get_or t0 n 0)) (and_mask a 8) ∙ read_0 (a % 256) (omega arith) in
+      let e1 = ap (λ (n : ℕ). to_le_bytes w32 (get_or t1 n 0)) (and_mask (b / 256) 8) ∙ read_1 (b / 256 % 256) (omega arith) in
+      let e2 = ap (λ (n : ℕ). to_le_bytes w32 (get_or t2 n 0)) (and_mask (c / 65536) 8) ∙ read_2 (c / 65536 % 256) (omega arith) in
+      let e3 = ap (λ (n : ℕ). to_le_bytes w32 (get_or t3 n 0)) top ∙ read_3 (d / 16777216 % 256) (omega arith) in
+      four_summed _ _ _ _ key _ _ _ _ e0 e1 e2 e3
+
+  -- the same, each added to those before it
+  looked_up_first : (a b c d key : ℕ) → d < 2 ^ 32
+      → to_le_bytes w32 (bit_xor (get_or t3 (d / 16777216) 0) (bit_xor (get_or t2 (bit_and (c / 65536) 255) 0) (bit_xor (get_or t1 (bit_and (b / 256) 255) 0) (bit_xor (get_or t0 (bit_and a 255) 0) key))))
+      ≡ xored (xored (xored (xored (g0 (byte_at 0 a)) (g1 (byte_at 1 b))) (g2 (byte_at 2 c))) (g3 (byte_at 3 d))) (to_le_bytes w32 key)
+  looked_up_first a b c d key hd = ap (to_le_bytes w32) (looked_first (get_or t0 (bit_and a 255) 0) (get_or t1 (bit_and (b / 256) 255) 0) (get_or t2 (bit_and (c / 65536) 255) 0) (get_or t3 (d / 16777216) 0) key) ∙ looked_up a b c d key hd
+
 -- ---- a round
 
 column_0 : map (λ a. to_le_bytes w32 (get_or ROUND_0 a 0)) (range_with_len 0 256)
@@ -120,32 +148,14 @@ column_3 : map (λ a. to_le_bytes w32 (get_or ROUND_3 a 0)) (range_with_len 0 25
 unfolding product_of
 column_3 = refl
 
-read_0 : (a : ℕ) → a < 256 → to_le_bytes w32 (get_or ROUND_0 a 0) ≡ times 2 (sub_byte a) ∷ times 1 (sub_byte a) ∷ times 1 (sub_byte a) ∷ times 3 (sub_byte a) ∷ []
-read_0 a h = everywhere (λ a. to_le_bytes w32 (get_or ROUND_0 a 0)) (λ a. times 2 (get_or SUB a 0) ∷ times 1 (get_or SUB a 0) ∷ times 1 (get_or SUB a 0) ∷ times 3 (get_or SUB a 0) ∷ []) column_0 a h ∙ ap (λ (x : ℕ). times 2 x ∷ times 1 x ∷ times 1 x ∷ times 3 x ∷ []) (sub_at a h)
-
-read_1 : (a : ℕ) → a < 256 → to_le_bytes w32 (get_or ROUND_1 a 0) ≡ times 3 (sub_byte a) ∷ times 2 (sub_byte a) ∷ times 1 (sub_byte a) ∷ times 1 (sub_byte a) ∷ []
-read_1 a h = everywhere (λ a. to_le_bytes w32 (get_or ROUND_1 a 0)) (λ a. times 3 (get_or SUB a 0) ∷ times 2 (get_or SUB a 0) ∷ times 1 (get_or SUB a 0) ∷ times 1 (get_or SUB a 0) ∷ []) column_1 a h ∙ ap (λ (x : ℕ). times 3 x ∷ times 2 x ∷ times 1 x ∷ times 1 x ∷ []) (sub_at a h)
-
-read_2 : (a : ℕ) → a < 256 → to_le_bytes w32 (get_or ROUND_2 a 0) ≡ times 1 (sub_byte a) ∷ times 3 (sub_byte a) ∷ times 2 (sub_byte a) ∷ times 1 (sub_byte a) ∷ []
-read_2 a h = everywhere (λ a. to_le_bytes w32 (get_or ROUND_2 a 0)) (λ a. times 1 (get_or SUB a 0) ∷ times 3 (get_or SUB a 0) ∷ times 2 (get_or SUB a 0) ∷ times 1 (get_or SUB a 0) ∷ []) column_2 a h ∙ ap (λ (x : ℕ). times 1 x ∷ times 3 x ∷ times 2 x ∷ times 1 x ∷ []) (sub_at a h)
-
-read_3 : (a : ℕ) → a < 256 → to_le_bytes w32 (get_or ROUND_3 a 0) ≡ times 1 (sub_byte a) ∷ times 1 (sub_byte a) ∷ times 3 (sub_byte a) ∷ times 2 (sub_byte a) ∷ []
-read_3 a h = everywhere (λ a. to_le_bytes w32 (get_or ROUND_3 a 0)) (λ a. times 1 (get_or SUB a 0) ∷ times 1 (get_or SUB a 0) ∷ times 3 (get_or SUB a 0) ∷ times 2 (get_or SUB a 0) ∷ []) column_3 a h ∙ ap (λ (x : ℕ). times 1 x ∷ times 1 x ∷ times 3 x ∷ times 2 x ∷ []) (sub_at a h)
-
 pub column_is : (a b c d key : ℕ) → d < 2 ^ 32
     → to_le_bytes w32 (bit_xor (get_or ROUND_3 (d / 16777216) 0) (bit_xor (get_or ROUND_2 (bit_and (c / 65536) 255) 0) (bit_xor (get_or ROUND_1 (bit_and (b / 256) 255) 0) (bit_xor (get_or ROUND_0 (bit_and a 255) 0) key))))
     ≡ xored (circulant_times 2 3 1 1 (sub_byte (byte_at 0 a)) (sub_byte (byte_at 1 b)) (sub_byte (byte_at 2 c)) (sub_byte (byte_at 3 d))) (to_le_bytes w32 key)
-column_is a b c d key hd =
-    let w0 : ℕ = get_or ROUND_0 (bit_and a 255) 0 in
-    let w1 : ℕ = get_or ROUND_1 (bit_and (b / 256) 255) 0 in
-    let w2 : ℕ = get_or ROUND_2 (bit_and (c / 65536) 255) 0 in
-    let w3 : ℕ = get_or ROUND_3 (d / 16777216) 0 in
-    let top : d / 16777216 ≡ d / 16777216 % 256 = omega arith in
-    let e0 = ap (λ (n : ℕ). to_le_bytes w32 (get_or ROUND_0 n 0)) (and_mask a 8) ∙ read_0 (a % 256) (omega arith) in
-    let e1 = ap (λ (n : ℕ). to_le_bytes w32 (get_or ROUND_1 n 0)) (and_mask (b / 256) 8) ∙ read_1 (b / 256 % 256) (omega arith) in
-    let e2 = ap (λ (n : ℕ). to_le_bytes w32 (get_or ROUND_2 n 0)) (and_mask (c / 65536) 8) ∙ read_2 (c / 65536 % 256) (omega arith) in
-    let e3 = ap (λ (n : ℕ). to_le_bytes w32 (get_or ROUND_3 n 0)) top ∙ read_3 (d / 16777216 % 256) (omega arith) in
-    ap (to_le_bytes w32) (looked_first w0 w1 w2 w3 key) ∙ four_summed w0 w1 w2 w3 key _ _ _ _ e0 e1 e2 e3
+column_is = looked_up_first ROUND_0 ROUND_1 ROUND_2 ROUND_3 _ _ _ _
+    (read_of ROUND_0 SUB (λ (x : ℕ). times 2 x ∷ times 1 x ∷ times 1 x ∷ times 3 x ∷ []) sub_byte column_0 sub_at)
+    (read_of ROUND_1 SUB (λ (x : ℕ). times 3 x ∷ times 2 x ∷ times 1 x ∷ times 1 x ∷ []) sub_byte column_1 sub_at)
+    (read_of ROUND_2 SUB (λ (x : ℕ). times 1 x ∷ times 3 x ∷ times 2 x ∷ times 1 x ∷ []) sub_byte column_2 sub_at)
+    (read_of ROUND_3 SUB (λ (x : ℕ). times 1 x ∷ times 1 x ∷ times 3 x ∷ times 2 x ∷ []) sub_byte column_3 sub_at)
 
 -- ---- the last round
 
@@ -161,18 +171,6 @@ last_2 = refl
 last_3 : map (λ a. to_le_bytes w32 (get_or LAST_3 a 0)) (range_with_len 0 256) ≡ map (λ a. 0 ∷ 0 ∷ 0 ∷ get_or SUB a 0 ∷ []) (range_with_len 0 256)
 last_3 = refl
 
-last_read_0 : (a : ℕ) → a < 256 → to_le_bytes w32 (get_or LAST_0 a 0) ≡ sub_byte a ∷ 0 ∷ 0 ∷ 0 ∷ []
-last_read_0 a h = everywhere (λ a. to_le_bytes w32 (get_or LAST_0 a 0)) (λ a. get_or SUB a 0 ∷ 0 ∷ 0 ∷ 0 ∷ []) last_0 a h ∙ ap (λ (x : ℕ). x ∷ 0 ∷ 0 ∷ 0 ∷ []) (sub_at a h)
-
-last_read_1 : (a : ℕ) → a < 256 → to_le_bytes w32 (get_or LAST_1 a 0) ≡ 0 ∷ sub_byte a ∷ 0 ∷ 0 ∷ []
-last_read_1 a h = everywhere (λ a. to_le_bytes w32 (get_or LAST_1 a 0)) (λ a. 0 ∷ get_or SUB a 0 ∷ 0 ∷ 0 ∷ []) last_1 a h ∙ ap (λ (x : ℕ). 0 ∷ x ∷ 0 ∷ 0 ∷ []) (sub_at a h)
-
-last_read_2 : (a : ℕ) → a < 256 → to_le_bytes w32 (get_or LAST_2 a 0) ≡ 0 ∷ 0 ∷ sub_byte a ∷ 0 ∷ []
-last_read_2 a h = everywhere (λ a. to_le_bytes w32 (get_or LAST_2 a 0)) (λ a. 0 ∷ 0 ∷ get_or SUB a 0 ∷ 0 ∷ []) last_2 a h ∙ ap (λ (x : ℕ). 0 ∷ 0 ∷ x ∷ 0 ∷ []) (sub_at a h)
-
-last_read_3 : (a : ℕ) → a < 256 → to_le_bytes w32 (get_or LAST_3 a 0) ≡ 0 ∷ 0 ∷ 0 ∷ sub_byte a ∷ []
-last_read_3 a h = everywhere (λ a. to_le_bytes w32 (get_or LAST_3 a 0)) (λ a. 0 ∷ 0 ∷ 0 ∷ get_or SUB a 0 ∷ []) last_3 a h ∙ ap (λ (x : ℕ). 0 ∷ 0 ∷ 0 ∷ x ∷ []) (sub_at a h)
-
 apart : (a b c d : ℕ)
     → xored (xored (xored (a ∷ 0 ∷ 0 ∷ 0 ∷ []) (0 ∷ b ∷ 0 ∷ 0 ∷ [])) (0 ∷ 0 ∷ c ∷ 0 ∷ [])) (0 ∷ 0 ∷ 0 ∷ d ∷ []) ≡ a ∷ b ∷ c ∷ d ∷ []
 apart a b c d =
@@ -186,17 +184,12 @@ pub last_column_is : (a b c d key : ℕ) → d < 2 ^ 32
     → to_le_bytes w32 (bit_xor (get_or LAST_3 (d / 16777216) 0) (bit_xor (get_or LAST_2 (bit_and (c / 65536) 255) 0) (bit_xor (get_or LAST_1 (bit_and (b / 256) 255) 0) (bit_xor (get_or LAST_0 (bit_and a 255) 0) key))))
     ≡ xored (sub_bytes (byte_at 0 a ∷ byte_at 1 b ∷ byte_at 2 c ∷ byte_at 3 d ∷ [])) (to_le_bytes w32 key)
 last_column_is a b c d key hd =
-    let w0 : ℕ = get_or LAST_0 (bit_and a 255) 0 in
-    let w1 : ℕ = get_or LAST_1 (bit_and (b / 256) 255) 0 in
-    let w2 : ℕ = get_or LAST_2 (bit_and (c / 65536) 255) 0 in
-    let w3 : ℕ = get_or LAST_3 (d / 16777216) 0 in
-    let top : d / 16777216 ≡ d / 16777216 % 256 = omega arith in
-    let e0 = ap (λ (n : ℕ). to_le_bytes w32 (get_or LAST_0 n 0)) (and_mask a 8) ∙ last_read_0 (a % 256) (omega arith) in
-    let e1 = ap (λ (n : ℕ). to_le_bytes w32 (get_or LAST_1 n 0)) (and_mask (b / 256) 8) ∙ last_read_1 (b / 256 % 256) (omega arith) in
-    let e2 = ap (λ (n : ℕ). to_le_bytes w32 (get_or LAST_2 n 0)) (and_mask (c / 65536) 8) ∙ last_read_2 (c / 65536 % 256) (omega arith) in
-    let e3 = ap (λ (n : ℕ). to_le_bytes w32 (get_or LAST_3 n 0)) top ∙ last_read_3 (d / 16777216 % 256) (omega arith) in
-    ap (to_le_bytes w32) (looked_first w0 w1 w2 w3 key) ∙ four_summed w0 w1 w2 w3 key _ _ _ _ e0 e1 e2 e3
-    ∙ ap (λ (x : List ℕ). xored x (to_le_bytes w32 key)) (apart (sub_byte (a % 256)) (sub_byte (b / 256 % 256)) (sub_byte (c / 65536 % 256)) (sub_byte (d / 16777216 % 256)))
+    looked_up_first LAST_0 LAST_1 LAST_2 LAST_3 _ _ _ _
+    (read_of LAST_0 SUB (λ (x : ℕ). x ∷ 0 ∷ 0 ∷ 0 ∷ []) sub_byte last_0 sub_at)
+    (read_of LAST_1 SUB (λ (x : ℕ). 0 ∷ x ∷ 0 ∷ 0 ∷ []) sub_byte last_1 sub_at)
+    (read_of LAST_2 SUB (λ (x : ℕ). 0 ∷ 0 ∷ x ∷ 0 ∷ []) sub_byte last_2 sub_at)
+    (read_of LAST_3 SUB (λ (x : ℕ). 0 ∷ 0 ∷ 0 ∷ x ∷ []) sub_byte last_3 sub_at) a b c d key hd
+    ∙ ap (λ (x : List ℕ). xored x (to_le_bytes w32 key)) (apart (sub_byte (byte_at 0 a)) (sub_byte (byte_at 1 b)) (sub_byte (byte_at 2 c)) (sub_byte (byte_at 3 d)))
 
 -- ---- words loaded
 
@@ -258,32 +251,14 @@ inv_column_3 : map (λ a. to_le_bytes w32 (get_or INV_ROUND_3 a 0)) (range_with_
 unfolding product_of
 inv_column_3 = refl
 
-inv_read_0 : (a : ℕ) → a < 256 → to_le_bytes w32 (get_or INV_ROUND_0 a 0) ≡ times 14 (inv_sub_byte a) ∷ times 9 (inv_sub_byte a) ∷ times 13 (inv_sub_byte a) ∷ times 11 (inv_sub_byte a) ∷ []
-inv_read_0 a h = everywhere (λ a. to_le_bytes w32 (get_or INV_ROUND_0 a 0)) (λ a. times 14 (get_or INV_SUB a 0) ∷ times 9 (get_or INV_SUB a 0) ∷ times 13 (get_or INV_SUB a 0) ∷ times 11 (get_or INV_SUB a 0) ∷ []) inv_column_0 a h ∙ ap (λ (x : ℕ). times 14 x ∷ times 9 x ∷ times 13 x ∷ times 11 x ∷ []) (inv_sub_at a h)
-
-inv_read_1 : (a : ℕ) → a < 256 → to_le_bytes w32 (get_or INV_ROUND_1 a 0) ≡ times 11 (inv_sub_byte a) ∷ times 14 (inv_sub_byte a) ∷ times 9 (inv_sub_byte a) ∷ times 13 (inv_sub_byte a) ∷ []
-inv_read_1 a h = everywhere (λ a. to_le_bytes w32 (get_or INV_ROUND_1 a 0)) (λ a. times 11 (get_or INV_SUB a 0) ∷ times 14 (get_or INV_SUB a 0) ∷ times 9 (get_or INV_SUB a 0) ∷ times 13 (get_or INV_SUB a 0) ∷ []) inv_column_1 a h ∙ ap (λ (x : ℕ). times 11 x ∷ times 14 x ∷ times 9 x ∷ times 13 x ∷ []) (inv_sub_at a h)
-
-inv_read_2 : (a : ℕ) → a < 256 → to_le_bytes w32 (get_or INV_ROUND_2 a 0) ≡ times 13 (inv_sub_byte a) ∷ times 11 (inv_sub_byte a) ∷ times 14 (inv_sub_byte a) ∷ times 9 (inv_sub_byte a) ∷ []
-inv_read_2 a h = everywhere (λ a. to_le_bytes w32 (get_or INV_ROUND_2 a 0)) (λ a. times 13 (get_or INV_SUB a 0) ∷ times 11 (get_or INV_SUB a 0) ∷ times 14 (get_or INV_SUB a 0) ∷ times 9 (get_or INV_SUB a 0) ∷ []) inv_column_2 a h ∙ ap (λ (x : ℕ). times 13 x ∷ times 11 x ∷ times 14 x ∷ times 9 x ∷ []) (inv_sub_at a h)
-
-inv_read_3 : (a : ℕ) → a < 256 → to_le_bytes w32 (get_or INV_ROUND_3 a 0) ≡ times 9 (inv_sub_byte a) ∷ times 13 (inv_sub_byte a) ∷ times 11 (inv_sub_byte a) ∷ times 14 (inv_sub_byte a) ∷ []
-inv_read_3 a h = everywhere (λ a. to_le_bytes w32 (get_or INV_ROUND_3 a 0)) (λ a. times 9 (get_or INV_SUB a 0) ∷ times 13 (get_or INV_SUB a 0) ∷ times 11 (get_or INV_SUB a 0) ∷ times 14 (get_or INV_SUB a 0) ∷ []) inv_column_3 a h ∙ ap (λ (x : ℕ). times 9 x ∷ times 13 x ∷ times 11 x ∷ times 14 x ∷ []) (inv_sub_at a h)
-
 pub inv_column_is : (a b c d key : ℕ) → d < 2 ^ 32
     → to_le_bytes w32 (bit_xor (bit_xor (bit_xor (bit_xor (get_or INV_ROUND_0 (bit_and a 255) 0) (get_or INV_ROUND_1 (bit_and (b / 256) 255) 0)) (get_or INV_ROUND_2 (bit_and (c / 65536) 255) 0)) (get_or INV_ROUND_3 (d / 16777216) 0)) key)
     ≡ xored (circulant_times 14 11 13 9 (inv_sub_byte (byte_at 0 a)) (inv_sub_byte (byte_at 1 b)) (inv_sub_byte (byte_at 2 c)) (inv_sub_byte (byte_at 3 d))) (to_le_bytes w32 key)
-inv_column_is a b c d key hd =
-    let w0 : ℕ = get_or INV_ROUND_0 (bit_and a 255) 0 in
-    let w1 : ℕ = get_or INV_ROUND_1 (bit_and (b / 256) 255) 0 in
-    let w2 : ℕ = get_or INV_ROUND_2 (bit_and (c / 65536) 255) 0 in
-    let w3 : ℕ = get_or INV_ROUND_3 (d / 16777216) 0 in
-    let top : d / 16777216 ≡ d / 16777216 % 256 = omega arith in
-    let e0 = ap (λ (n : ℕ). to_le_bytes w32 (get_or INV_ROUND_0 n 0)) (and_mask a 8) ∙ inv_read_0 (a % 256) (omega arith) in
-    let e1 = ap (λ (n : ℕ). to_le_bytes w32 (get_or INV_ROUND_1 n 0)) (and_mask (b / 256) 8) ∙ inv_read_1 (b / 256 % 256) (omega arith) in
-    let e2 = ap (λ (n : ℕ). to_le_bytes w32 (get_or INV_ROUND_2 n 0)) (and_mask (c / 65536) 8) ∙ inv_read_2 (c / 65536 % 256) (omega arith) in
-    let e3 = ap (λ (n : ℕ). to_le_bytes w32 (get_or INV_ROUND_3 n 0)) top ∙ inv_read_3 (d / 16777216 % 256) (omega arith) in
-    four_summed w0 w1 w2 w3 key _ _ _ _ e0 e1 e2 e3
+inv_column_is = looked_up INV_ROUND_0 INV_ROUND_1 INV_ROUND_2 INV_ROUND_3 _ _ _ _
+    (read_of INV_ROUND_0 INV_SUB (λ (x : ℕ). times 14 x ∷ times 9 x ∷ times 13 x ∷ times 11 x ∷ []) inv_sub_byte inv_column_0 inv_sub_at)
+    (read_of INV_ROUND_1 INV_SUB (λ (x : ℕ). times 11 x ∷ times 14 x ∷ times 9 x ∷ times 13 x ∷ []) inv_sub_byte inv_column_1 inv_sub_at)
+    (read_of INV_ROUND_2 INV_SUB (λ (x : ℕ). times 13 x ∷ times 11 x ∷ times 14 x ∷ times 9 x ∷ []) inv_sub_byte inv_column_2 inv_sub_at)
+    (read_of INV_ROUND_3 INV_SUB (λ (x : ℕ). times 9 x ∷ times 13 x ∷ times 11 x ∷ times 14 x ∷ []) inv_sub_byte inv_column_3 inv_sub_at)
 
 -- ---- the inverse of MixColumns is linear
 

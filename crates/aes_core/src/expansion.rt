@@ -1,11 +1,19 @@
 // Key expansion, FIPS 197, 5.2.
 
-ghost use Rattle.std.specs.Prelude.{◌≡◌, ℕ, ◌+◌, ◌-◌, ◌*◌, ◌/◌, ◌%◌, ◌<◌, ◌≤◌, List, length, take};
+ghost use Rattle.std.specs.Prelude.{◌≡◌, ℕ, ◌+◌, ◌-◌, ◌*◌, ◌/◌, ◌%◌, ◌<◌, ◌≤◌, true, List, length, take};
 ghost use Rattle.aes_core.specs.Field.{power};
 ghost use Rattle.aes_core.specs.Cipher.{IsKeyLength, changed_word, expanded, next_word, schedule};
 
 use crate::plain;
 use crate::tables::POWERS;
+
+// Whether a key may have this many bytes.
+pub(crate) fn is_key_length(n: usize) -> bool
+    ensures yes { result ≡ true → IsKeyLength n }
+    ensures no { IsKeyLength n → result ≡ true }
+{
+    n == 16 || n == 24 || n == 32
+}
 
 // The round constant of FIPS 197, counted from 0.
 fn power(n: usize) -> u8

@@ -6,7 +6,7 @@ ghost use Rattle.aes_core.specs.Cipher.{IsCipherBlock, IsKey, IsKeyLength, IsWor
 ghost use Rattle.aes_core.specs.Planes.{AreKeyPlanes, ArePlanes};
 ghost use Rattle.aes_core.specs.Modes.{joined};
 
-use crate::expansion::expand;
+use crate::expansion::{expand, is_key_length};
 use crate::planes::{KeyPlanes, decrypt_eight, encrypt_eight, key_planes};
 use crate::{plain, words};
 use std::marker::Model;
@@ -68,7 +68,7 @@ impl BlockKey {
         ensures { MatchOption result (IsKeyLength (length key.now) → ⊥) (λ k. (k ≡ key.now) × IsKeyLength (length key.now)) }
     {
         let n = key.len();
-        if n != 16 && n != 24 && n != 32 {
+        if !is_key_length(n) {
             return None;
         }
         let mut keys = [0u8; 240];

@@ -6,7 +6,7 @@ ghost use Rattle.std.specs.Prelude.{◌≡◌, ⊤, ℕ, ◌+◌, ◌-◌, ◌*�
 ghost use Rattle.aes_core.specs.Field.{inv_sub_byte, sub_byte, times, times_x};
 ghost use Rattle.aes_core.specs.Cipher.{IsCipherBlock, IsKeyLength, IsKeySchedule, after_rounds, before_rounds, circulant_times, decrypted, decrypted_by, encrypted, encrypted_by, inv_mix_columns, inv_shift_rows, inv_sub_bytes, mix_columns, schedule, shift_rows, sub_bytes, xored};
 
-use crate::expansion::expand;
+use crate::expansion::{expand, is_key_length};
 use crate::tables::{INV_SUB, SUB};
 use crate::xor::xor_with;
 use std::marker::Model;
@@ -34,7 +34,7 @@ impl PlainKey {
         ensures { MatchOption result (IsKeyLength (length key.now) → ⊥) (λ k. (k ≡ key.now) × IsKeyLength (length key.now)) }
     {
         let n = key.len();
-        if n != 16 && n != 24 && n != 32 {
+        if !is_key_length(n) {
             return None;
         }
         let mut keys = [0u8; 240];

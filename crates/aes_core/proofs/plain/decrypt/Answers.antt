@@ -1,19 +1,11 @@
-use Rattle.std.proofs.Common.{◌≡◌, ℕ, suc, List, ◌+◌, ◌-◌, ◌*◌, take, drop, refl, ap, ap₂, ◌∙◌, arith}
+use Rattle.std.proofs.Common.{◌≡◌, ℕ, suc, List, ◌+◌, ◌-◌, ap, ap₂, ◌∙◌, arith}
 use Rattle.aes_core.specs.Cipher.{before_rounds, round_key, inv_mix_columns, inv_shift_rows, inv_sub_bytes, xored}
 use Rattle.aes_core.proofs.plain.decrypt.Goals as goal
-
-key_at : (w : List ℕ) (r : ℕ) → take (16 * r + 16 - 16 * r) (drop (16 * r) w) ≡ round_key w r
-key_at w r =
-    let e : 16 * r + 16 - 16 * r ≡ 16 = omega arith in
-    ap (λ (n : ℕ). take n (drop (16 * r) w)) e
-
-step : (w s : List ℕ) (m n k : ℕ) → k ≡ suc n → inv_mix_columns (xored (inv_sub_bytes (inv_shift_rows (before_rounds w m s n))) (round_key w (m - k))) ≡ before_rounds w m s k
-unfolding before_rounds
-step w s m n k e = rw e refl
+use Rattle.aes_core.proofs.RoundSteps.{plain_key_at, before_more}
 
 pub loop-n-init : goal.loop-n-init
 unfolding before_rounds
-loop-n-init c = c.xor_with.ensures ∙ ap (xored c.args.s.now) (key_at c.args.keys.now c.args.rounds)
+loop-n-init c = c.xor_with.ensures ∙ ap (xored c.args.s.now) (plain_key_at c.args.keys.now c.args.rounds)
 
 pub loop-n-preserved : goal.loop-n-preserved
 loop-n-preserved c =
@@ -22,8 +14,8 @@ loop-n-preserved c =
     let e : n ≡ suc (n - 1) = omega arith in
     let f : n ≡ n + 1 - 1 = omega arith in
     c.inv_round.ensures
-    ∙ ap₂ (λ (s k : List ℕ). inv_mix_columns (xored (inv_sub_bytes (inv_shift_rows s)) k)) c.loop-n.invariant (key_at w (c.args.rounds - n))
-    ∙ step w c.args.s.now c.args.rounds (n - 1) n e ∙ ap (before_rounds w c.args.rounds c.args.s.now) f
+    ∙ ap₂ (λ (s k : List ℕ). inv_mix_columns (xored (inv_sub_bytes (inv_shift_rows s)) k)) c.loop-n.invariant (plain_key_at w (c.args.rounds - n))
+    ∙ before_more w c.args.s.now c.args.rounds (n - 1) n e ∙ ap (before_rounds w c.args.rounds c.args.s.now) f
 
 pub returns : goal.returns
 returns c =

@@ -1,15 +1,7 @@
-use Rattle.std.proofs.Common.{◌≡◌, ℕ, suc, List, ◌+◌, ◌-◌, ◌*◌, take, drop, refl, ap, ap₂, ◌∙◌, arith}
-use Rattle.aes_core.specs.Cipher.{after_rounds, mix_columns, round_key, shift_rows, sub_bytes, xored}
+use Rattle.std.proofs.Common.{◌≡◌, ℕ, suc, List, ◌+◌, ◌-◌, ap, ap₂, ◌∙◌, arith}
+use Rattle.aes_core.specs.Cipher.{after_rounds, mix_columns, shift_rows, sub_bytes, xored}
 use Rattle.aes_core.proofs.plain.encrypt.Goals as goal
-
-key_at : (w : List ℕ) (r : ℕ) → take (16 * r + 16 - 16 * r) (drop (16 * r) w) ≡ round_key w r
-key_at w r =
-    let e : 16 * r + 16 - 16 * r ≡ 16 = omega arith in
-    ap (λ (n : ℕ). take n (drop (16 * r) w)) e
-
-step : (w s : List ℕ) (n r : ℕ) → r ≡ suc n → xored (mix_columns (shift_rows (sub_bytes (after_rounds w s n)))) (round_key w r) ≡ after_rounds w s r
-unfolding after_rounds
-step w s n r e = rw e refl
+use Rattle.aes_core.proofs.RoundSteps.{plain_key_at, after_more}
 
 pub loop-r-init : goal.loop-r-init
 unfolding after_rounds
@@ -22,8 +14,8 @@ loop-r-preserved c =
     let e : r ≡ suc (r - 1) = omega arith in
     let f : r ≡ r + 1 - 1 = omega arith in
     c.round.ensures
-    ∙ ap₂ (λ (s k : List ℕ). xored (mix_columns (shift_rows (sub_bytes s))) k) c.loop-r.invariant (key_at w r)
-    ∙ step w c.args.s.now (r - 1) r e ∙ ap (after_rounds w c.args.s.now) f
+    ∙ ap₂ (λ (s k : List ℕ). xored (mix_columns (shift_rows (sub_bytes s))) k) c.loop-r.invariant (plain_key_at w r)
+    ∙ after_more w c.args.s.now (r - 1) r e ∙ ap (after_rounds w c.args.s.now) f
 
 pub returns : goal.returns
 returns c =
@@ -32,4 +24,4 @@ returns c =
     c.xor_with-2.ensures
     ∙ ap₂ (λ (s k : List ℕ). xored s k)
     (c.shift_rows.ensures ∙ ap shift_rows (c.sub_bytes.ensures ∙ ap sub_bytes (c.loop-r.invariant ∙ ap (after_rounds w c.args.s.now) e)))
-    (key_at w c.args.rounds)
+    (plain_key_at w c.args.rounds)

@@ -1,16 +1,10 @@
-use Rattle.std.proofs.Common.{◌≡◌, ℕ, List, ◌<◌, length, set, get_or, ap, ap₂, ◌∙◌, arith}
+use Rattle.std.proofs.Common.{◌∙◌, arith}
 use Rattle.aes_core.specs.Field.{sub_byte}
-use Rattle.aes_core.proofs.Loops.{mapped_all, mapped_at, mapped_more}
+use Rattle.aes_core.proofs.Loops.{mapped_all, mapped_step}
 use Rattle.aes_core.proofs.plain.sub_bytes.Goals as goal
 
 pub loop-b-preserved : goal.loop-b-preserved
-loop-b-preserved c =
-    let xs : List ℕ = c.args.s.now in
-    let i : ℕ = c.loop-b.b-index in
-    let lt : i < length xs = omega arith in
-    let value : c.sub_byte.result ≡ sub_byte (get_or xs i 0) =
-    c.sub_byte.ensures ∙ ap (λ (l : List ℕ). sub_byte (get_or l i 0)) c.loop-b.invariant ∙ ap sub_byte (mapped_at sub_byte xs i lt) in
-    ap₂ (λ (l : List ℕ) (v : ℕ). set l i v) c.loop-b.invariant value ∙ mapped_more sub_byte xs i lt
+loop-b-preserved c = mapped_step sub_byte c.args.s.now _ c.loop-b.b-index c.sub_byte.result (omega arith) c.loop-b.invariant c.sub_byte.ensures
 
 pub returns : goal.returns
 returns c = c.loop-b.invariant ∙ mapped_all sub_byte c.args.s.now c.loop-b.b-index (omega arith)

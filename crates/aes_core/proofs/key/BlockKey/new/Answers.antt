@@ -1,11 +1,10 @@
-use Rattle.std.proofs.Common.{◌≡◌, ℕ, List, length, ◌+◌, ◌*◌, ◌/◌, take, refl, sym, ap, ◌∙◌, inl, inr, arith}
+use Rattle.std.proofs.Common.{◌≡◌, ℕ, List, length, ◌+◌, ◌*◌, ◌/◌, take, refl, sym, ap, ◌∙◌, arith}
 use Rattle.aes_core.specs.Cipher.{AreBytes, IsKeyLength, IsWordSchedule, bytes_of, round_key, schedule, inv_mix_columns}
 use Rattle.aes_core.specs.Modes.{joined}
 use Rattle.aes_core.proofs.BlockLoop.{AreBlocks}
 use Rattle.aes_core.proofs.Schedule.{begins, key_from, ready}
 use Rattle.aes_core.proofs.WordKeys.{turned_at}
 use Rattle.aes_core.proofs.key.BlockKey.new.Goals as goal
-use Rattle.aes_core.proofs.key.BlockKey.new.Goals.{else-n-ne16-via-then-n-ne16+then-n-ne24+else-n-ne32, else-n-ne16-via-then-n-ne16+else-n-ne24, else-n-ne16-via-else-n-ne16}
 
 ready_words : (keys key words back : List ℕ) → IsKeyLength (length key) → AreBytes key → take (16 * (length key / 4 + 7)) keys ≡ schedule key
     → bytes_of words ≡ keys → AreBlocks (λ j. inv_mix_columns (round_key keys j)) 15 → bytes_of back ≡ joined (λ j. inv_mix_columns (round_key keys j)) 15 → length words ≡ 60 → length back ≡ 60 → IsWordSchedule words back (length key)
@@ -20,20 +19,12 @@ pub invariant_of-result : goal.invariant_of-result
 invariant_of-result c =
     let key : List ℕ = c.args.key.now in
     let bytes : AreBytes key = λ i. omega (arith, c.type_inv.key i) in
-    let h : IsKeyLength (length key) = elim c.else-n-ne16.branch [
-      | else-n-ne16-via-then-n-ne16+then-n-ne24+else-n-ne32 w ↦ inr (inr (omega arith))
-      | else-n-ne16-via-then-n-ne16+else-n-ne24 w ↦ inr (inl (omega arith))
-      | else-n-ne16-via-else-n-ne16 w ↦ inl (omega arith)
-    ] in
+    let h : IsKeyLength (length key) = c.is_key_length.ensures.yes c.if-not-is_key_length.false in
     ready_words c.expand.new.keys key c.words_of-words.result c.back_of-back.result h bytes c.expand.ensures c.words_of-words.ensures (record { long = λ j lt. refl }) c.back_of-back.ensures (omega arith) (omega arith)
 
 pub returns : goal.returns
 returns c =
     let key : List ℕ = c.args.key.now in
     let bytes : AreBytes key = λ i. omega (arith, c.type_inv.key i) in
-    let h : IsKeyLength (length key) = elim c.else-n-ne16.branch [
-      | else-n-ne16-via-then-n-ne16+then-n-ne24+else-n-ne32 w ↦ inr (inr (omega arith))
-      | else-n-ne16-via-then-n-ne16+else-n-ne24 w ↦ inr (inl (omega arith))
-      | else-n-ne16-via-else-n-ne16 w ↦ inl (omega arith)
-    ] in
+    let h : IsKeyLength (length key) = c.is_key_length.ensures.yes c.if-not-is_key_length.false in
     (ap (take (length key)) c.words_of-words.ensures ∙ begins c.expand.new.keys key (key_from key h bytes) c.expand.ensures, h)
