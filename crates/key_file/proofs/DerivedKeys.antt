@@ -1,12 +1,11 @@
 -- What a password gives is a key of AES-256 and an IV of one block.
-use Rattle.std.proofs.Common.{◌≡◌, ℕ, ◌≤◌, List, ◌++◌, length, take, drop, refl, arith, length-append, length-drop, length-take-le}
+use Rattle.std.proofs.Common.{◌≡◌, ℕ, ◌≤◌, List, ◌++◌, length, drop, arith, length-append, length-drop, length-take-le}
 use Rattle.aes_core.specs.Cipher.{AreBytes, IsCipherBlock, IsKey}
 use Rattle.byte_list.proofs.ByteLaws.{bytes_append, bytes_drop, bytes_take}
 use Rattle.key_file.specs.declared.derivation.KeyDigest.{KeyDigest}
 use Rattle.key_file.specs.declared.derivation.KeyDigest.TheVariants.{Sha1, Sha256}
 use Rattle.key_file.specs.Derivation.{chained, derived, hash_of, derived_iv, derived_key}
-use Rattle.key_file.proofs.DigestSha1.{sha1_bytes, sha1_long}
-use Rattle.key_file.proofs.DigestSha256.{sha256_bytes, sha256_long}
+use Rattle.key_file.proofs.DigestBytes.{sha1_bytes, sha1_long, sha256_bytes, sha256_long}
 
 -- the bytes of a digest are bytes, 20 at least
 hash_bytes : (d : KeyDigest) (m : List ℕ) → AreBytes (hash_of d m)

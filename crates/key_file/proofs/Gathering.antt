@@ -1,12 +1,9 @@
 -- The keys that are gathered, line by line, against the definition of a plain key file.
-use Rattle.std.proofs.Common.{◌≡◌, ℕ, ◌+◌, ◌<◌, false, eqb, List, [], ◌∷◌, length, map, drop, get_or, Option, Some, None, Result, Ok, Err, refl, sym, ap, ◌∙◌, arith, inl, inr}
+use Rattle.std.proofs.Common.{◌≡◌, ℕ, ◌+◌, ◌<◌, List, [], ◌∷◌, length, map, drop, get_or, Option, Some, None, Result, Ok, Err, refl, sym, ap, ◌∙◌, arith}
 use Rattle.std.specs.Prelude.{IsOk}
-use Rattle.std.specs.Ordering.{is_eq, nat_cmp}
-use Rattle.std.specs.declared.cmp.Ordering.TheVariants.{Less, Equal, Greater}
-use Rattle.std.specs.Cmp.{nat_cmp_is}
+use Rattle.std.specs.Ordering.{nat_cmp}
 use Rattle.std.specs.BTreeMap.{BTreeMap, IsOrdered, get, is_at}
 use Rattle.std.specs.Map.{keys_of, lookup}
-use Rattle.std.proofs.lemmas.Bool.{eq-eqb, cases_lt}
 use Rattle.std.proofs.lemmas.List.{drop_more, get_or-map, length-map}
 use Rattle.std.proofs.lemmas.Map.Keys.{below_from_sorted}
 use Rattle.key_file.specs.declared.fault.KeyFault.{KeyFault}
@@ -14,23 +11,9 @@ use Rattle.key_file.specs.declared.keys.KeyItem.{KeyItem}
 use Rattle.key_file.specs.Line.{line_says}
 use Rattle.key_file.specs.Plain.{IsAscending, fault_or, first_fault, first_some, key_for, key_in, last_key}
 use Rattle.key_file.specs.Gathered.{TakesLine, items_of}
+use Rattle.key_ring.proofs.Keys.{is_eq-nat_cmp}
 
 -- ---- a map by numbers
-
-eqb_below : (a b : ℕ) → a < b → eqb b a ≡ false
-eqb_below a b h = grind arith
-
-eqb_above : (a b : ℕ) → b < a → eqb b a ≡ false
-eqb_above a b h = grind arith
-
-pub is_eq-nat_cmp : (a b : ℕ) → is_eq (nat_cmp a b) ≡ eqb b a
-is_eq-nat_cmp a b = elim (cases_lt a b) [
-  | inl below ↦ rw (← nat_cmp_is a b Less below) (sym (eqb_below a b below))
-  | inr from ↦ elim (cases_lt b a) [
-    | inl above ↦ rw (← nat_cmp_is a b Greater above) (sym (eqb_above a b above))
-    | inr to ↦ let same : a ≡ b = omega arith in rw (← nat_cmp_is a b Equal same) (sym (eq-eqb b a (sym same)))
-  ]
-]
 
 -- ---- the list of the keys
 
@@ -57,7 +40,7 @@ ascending_items m ordered i j d below within =
 
 -- ---- line by line
 
-first_some-none : (o : Option (List ℕ)) → first_some o None ≡ o
+pub first_some-none : (o : Option (List ℕ)) → first_some o None ≡ o
 first_some-none (Some x) = refl
 first_some-none None = refl
 

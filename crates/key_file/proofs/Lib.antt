@@ -8,8 +8,7 @@ pub mod RingKeys
 pub mod Loads
 pub mod Unique
 pub mod Versions
-pub mod DigestSha1
-pub mod DigestSha256
+mod DigestBytes
 pub mod DerivedKeys
 pub mod OneText
 pub mod OneAnswer

@@ -8,9 +8,9 @@ use Rattle.key_file.specs.declared.derivation.KeyDigest.{KeyDigest}
 use Rattle.key_file.specs.declared.fault.KeyFault.{KeyFault}
 use Rattle.key_file.specs.declared.fault.KeyFault.TheVariants as key
 use Rattle.key_file.specs.declared.load_fault.LoadFault.{LoadFault}
-use Rattle.key_file.specs.declared.load_fault.LoadFault.TheVariants.{Missing, FileFault, KeyFile, OutOfMemory}
+use Rattle.key_file.specs.declared.load_fault.LoadFault.TheVariants.{KeyFile}
 use Rattle.key_file.specs.declared.keys.KeyItem.{KeyItem}
-use Rattle.key_file.specs.Plain.{ReadsPlain, key_in}
+use Rattle.key_file.specs.Plain.{key_in}
 use Rattle.key_file.specs.Load.{Deciphered, IsOutside, KeysIn, KeysOf, KeysOfText, Opened, TextOf, contents, is_salted, secret_of}
 use Rattle.key_file.specs.Loaded.{HasKeysOfVersion, IsSameAnswer, IsTheAnswer, LoadsFrom}
 use Rattle.key_file.proofs.OneText.{Deciphers-unique}

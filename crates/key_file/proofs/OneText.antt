@@ -1,12 +1,11 @@
 -- An enciphered file has at most one text under a password and a digest, and one answer but for want of
 -- memory.
-use Rattle.std.proofs.Common.{◌≡◌, ℕ, ◌%◌, ◌<◌, ◌≤◌, List, length, Result, Ok, Err, refl, sym, ap, ◌∙◌, ◌⊎◌, inl, inr, arith}
+use Rattle.std.proofs.Common.{◌≡◌, ℕ, List, length, Result, Ok, Err, refl, sym, ap, ◌∙◌, inl, inr, arith}
 use Rattle.aes_core.specs.Cipher.{AreBytes}
 use Rattle.aes_core.proofs.Padding.{ends_padded, long_padded, padded_more, padded_whole, room, taken_is}
 use Rattle.key_file.specs.declared.derivation.KeyDigest.{KeyDigest}
 use Rattle.key_file.specs.declared.fault.KeyFault.{KeyFault}
 use Rattle.key_file.specs.declared.fault.KeyFault.TheVariants.{ShortSalted, CipherLength, Padding, OutOfMemory}
-use Rattle.key_file.specs.Derivation.{derived_iv, derived_key}
 use Rattle.key_file.specs.Salted.{Deciphers, IsSaltedText, IsWholeBlocks, cipher_text, salt_of}
 use Rattle.key_file.proofs.DerivedKeys.{iv_is_block, key_is_key}
 

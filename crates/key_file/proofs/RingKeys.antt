@@ -1,15 +1,13 @@
 -- A ring that takes in the keys of a file, one by one.
-use Rattle.std.proofs.Common.{◌≡◌, ◌≢◌, ℕ, suc, zero, ◌+◌, ◌<◌, ◌≤◌, Bool, true, false, ◌&&◌, eqb, List, [], ◌∷◌, length, drop, get_or, Option, Some, None, IsNone, slice_get, refl, sym, ap, subst, ◌∙◌, inl, inr, arith}
+use Rattle.std.proofs.Common.{◌≡◌, ◌≢◌, ℕ, suc, zero, ◌+◌, ◌<◌, ◌≤◌, false, eqb, List, [], ◌∷◌, length, drop, get_or, Option, Some, None, IsNone, slice_get, refl, sym, ap, subst, ◌∙◌, inl, inr, arith}
 use Rattle.std.specs.Option.{is_some}
-use Rattle.std.proofs.lemmas.Bool.{eq-eqb, cases_eq}
+use Rattle.std.proofs.lemmas.Bool.{eq-eqb, cases_eq, and_right, ne_eqb}
 use Rattle.std.proofs.lemmas.List.{drop_more, get_or-drop, get_or_default, length-drop}
 use Rattle.key_ring.specs.Ring.{RingEntry, HasAdded, ring_key}
 use Rattle.key_file.specs.declared.keys.KeyItem.{KeyItem}
 use Rattle.key_file.specs.Plain.{IsAscending, first_some, key_in}
 use Rattle.key_file.specs.Loaded.{HasKeysOfVersion}
-
-pub ne-eqb : (a b : ℕ) → (a ≡ b → ⊥) → eqb a b ≡ false
-ne-eqb a b h = grind arith
+use Rattle.key_file.proofs.Gathering.{first_some-none}
 
 is_none : (o : Option (List ℕ)) → IsNone o → o ≡ None
 is_none (Some x) h = cc
@@ -20,7 +18,7 @@ pub key_in_below : (keys : List KeyItem) (id : ℕ) → ((j : ℕ) (d : KeyItem)
 key_in_below [] id h = refl
 key_in_below (k ∷ ks) id h =
     let first : id < k.id = h 0 k (omega arith) in
-    rw (ne-eqb k.id id (λ e. omega arith)) (key_in_below ks id (λ j d l. h (suc j) d (omega arith)))
+    rw (ne_eqb k.id id (λ e. omega arith)) (key_in_below ks id (λ j d l. h (suc j) d (omega arith)))
 
 -- the keys after the i-th have larger ids
 later_keys : (keys : List KeyItem) (i : ℕ) (d : KeyItem) → IsAscending keys → i < length keys → key_in (drop (i + 1) keys) (get_or keys i d).id ≡ None
@@ -29,14 +27,6 @@ later_keys keys i d up h = key_in_below (drop (i + 1) keys) (get_or keys i d).id
     let same : get_or keys i d ≡ get_or keys i e = get_or_default keys i d e h in
     let after : (get_or keys i e).id < (get_or keys (i + 1 + j) e).id = up i (i + 1 + j) e (omega arith) within in
     rw (get_or-drop (i + 1) keys j e, same) after)
-
-and-false : (b : Bool) → (b && false) ≡ false
-and-false true = refl
-and-false false = refl
-
-first_some-none : (o : Option (List ℕ)) → first_some o None ≡ o
-first_some-none (Some x) = refl
-first_some-none None = refl
 
 no_items : (keys : List KeyItem) → length keys ≡ 0 → keys ≡ []
 no_items [] h = refl
@@ -62,7 +52,7 @@ module _ (first : List RingEntry) (keys : List KeyItem) (version : ℕ) where
       record {
         keys_are = λ id v. elim (cases_eq v version) [
           | inl same ↦ rw (eq-eqb v version same) (ap (ring_key ring id) same ∙ sym (h.found id ∙ ap (λ (ks : List KeyItem). first_some (key_in ks id) (ring_key ring id version)) over))
-          | inr other ↦ rw (ne-eqb v version other) (h.others id v other)
+          | inr other ↦ rw (ne_eqb v version other) (h.others id v other)
         ];
       }
 
@@ -75,7 +65,7 @@ module _ (first : List RingEntry) (keys : List KeyItem) (version : ℕ) where
     here id = h.found id ∙ ap (λ (ks : List KeyItem). first_some (key_in ks id) (ring_key ring id version)) (drop_more keys i d within)
 
     other_id : (id : ℕ) → (id ≡ (get_or keys i d).id → ⊥) → ring_key next id version ≡ ring_key ring id version
-    other_id id ne = added.keys id version ∙ rw (ne-eqb id (get_or keys i d).id ne) refl
+    other_id id ne = added.keys id version ∙ rw (ne_eqb id (get_or keys i d).id ne) refl
 
     found_next : (id : ℕ) → key_in keys id ≡ first_some (key_in (drop (i + 1) keys) id) (ring_key next id version)
     found_next id = elim (cases_eq id (get_or keys i d).id) [
@@ -85,14 +75,14 @@ module _ (first : List RingEntry) (keys : List KeyItem) (version : ℕ) where
           let none : key_in (drop (i + 1) keys) id ≡ None = ap (key_in (drop (i + 1) keys)) same ∙ later_keys keys i d up within in
           rw (none, new) is
       | inr other ↦
-          let is : key_in keys id ≡ first_some (key_in (drop (i + 1) keys) id) (ring_key ring id version) = here id ∙ rw (ne-eqb (get_or keys i d).id id (λ e. other (sym e))) refl in
+          let is : key_in keys id ≡ first_some (key_in (drop (i + 1) keys) id) (ring_key ring id version) = here id ∙ rw (ne_eqb (get_or keys i d).id id (λ e. other (sym e))) refl in
           rw (other_id id other) is
     ]
 
     pub first_more : HasFirst first keys version (i + 1) next
     first_more = record {
       found = found_next;
-      others = λ id v ne. added.keys id v ∙ rw (ne-eqb v version ne, and-false (eqb id (get_or keys i d).id)) (h.others id v ne);
+      others = λ id v ne. added.keys id v ∙ rw (ne_eqb v version ne, and_right (eqb id (get_or keys i d).id) false refl) (h.others id v ne);
       absent = λ j e from inside id above.
           let same : get_or keys i d ≡ get_or keys i e = get_or_default keys i d e within in
           let below : (get_or keys i e).id < (get_or keys j e).id = up i j e (omega arith) inside in
@@ -107,4 +97,4 @@ item_at (k ∷ ks) (suc i) item h = item_at ks i item h
 
 -- there is no key of a version after that of the file
 pub later_version : (old new : List RingEntry) (keys : List KeyItem) (n : ℕ) → HasKeysOfVersion old keys n new → (id v : ℕ) → n < v → IsNone (ring_key old id v) → IsNone (ring_key new id v)
-later_version old new keys n has id v h none = subst IsNone (sym (has.keys_are id v ∙ rw (ne-eqb v n (λ e. omega arith)) refl)) none
+later_version old new keys n has id v h none = subst IsNone (sym (has.keys_are id v ∙ rw (ne_eqb v n (λ e. omega arith)) refl)) none

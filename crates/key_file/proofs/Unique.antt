@@ -1,10 +1,10 @@
 -- The bytes of a plain key file have one answer: what the definition relates to them is unique.
 use Rattle.std.proofs.Common.{◌≡◌, ℕ, suc, zero, ◌<◌, List, [], ◌∷◌, length, get_or, Some, None, Result, Ok, Err, refl, sym, ap, ◌∙◌, inl, inr, arith}
-use Rattle.std.proofs.lemmas.Bool.{eq-eqb, cases_eq, cases_lt}
+use Rattle.std.proofs.lemmas.Bool.{eq-eqb, cases_eq, cases_lt, ne_eqb}
 use Rattle.key_file.specs.declared.fault.KeyFault.{KeyFault}
 use Rattle.key_file.specs.declared.keys.KeyItem.{KeyItem}
 use Rattle.key_file.specs.Plain.{IsAscending, ReadsPlain, key_in}
-use Rattle.key_file.proofs.RingKeys.{key_in_below, ne-eqb}
+use Rattle.key_file.proofs.RingKeys.{key_in_below}
 
 rest_ascending : (k : KeyItem) (ks : List KeyItem) → IsAscending (k ∷ ks) → IsAscending ks
 rest_ascending k ks up i j d below within = up (suc i) (suc j) d (omega arith) (omega arith)
@@ -16,7 +16,7 @@ key_in_first : (k : KeyItem) (ks : List KeyItem) (id : ℕ) → k.id ≡ id → 
 key_in_first k ks id e = rw (eq-eqb k.id id e) refl
 
 key_in_rest : (k : KeyItem) (ks : List KeyItem) (id : ℕ) → (k.id ≡ id → ⊥) → key_in (k ∷ ks) id ≡ key_in ks id
-key_in_rest k ks id ne = rw (ne-eqb k.id id ne) refl
+key_in_rest k ks id ne = rw (ne_eqb k.id id ne) refl
 
 -- the first id of an ascending list is not above one that it has
 no_lower : (k : KeyItem) (ks : List KeyItem) (id : ℕ) (key : List ℕ) → IsAscending (k ∷ ks) → id < k.id → key_in (k ∷ ks) id ≡ Some key → ⊥

@@ -1,6 +1,6 @@
 -- What a ring that loaded has: the keys of file k as version k, counted from 1.
 use Rattle.std.proofs.Common.{◌≡◌, ℕ, zero, suc, ◌+◌, ◌<◌, ◌≤◌, List, [], ◌∷◌, length, get_or, Option, Ok, refl, ap, subst, ◌∙◌, arith}
-use Rattle.std.proofs.lemmas.Bool.{eq-eqb}
+use Rattle.std.proofs.lemmas.Bool.{eq-eqb, ne_eqb}
 use Rattle.io_core.specs.Files.{Files}
 use Rattle.key_ring.specs.Ring.{RingEntry, ring_key}
 use Rattle.key_file.specs.declared.derivation.KeyDigest.{KeyDigest}
@@ -8,7 +8,6 @@ use Rattle.key_file.specs.declared.keys.KeyItem.{KeyItem}
 use Rattle.key_file.specs.Plain.{key_in}
 use Rattle.key_file.specs.Load.{KeysOf}
 use Rattle.key_file.specs.Loaded.{LoadsFrom}
-use Rattle.key_file.proofs.RingKeys.{ne-eqb}
 
 module _ (files : Files) (filekey : Option (List ℕ)) (digest : KeyDigest) where
   -- later files leave the earlier versions as they are
@@ -17,7 +16,7 @@ module _ (files : Files) (filekey : Option (List ℕ)) (digest : KeyDigest) wher
   kept n [] ring last h id v le = let same : last ≡ ring = cc in ap (λ (r : List RingEntry). ring_key r id v) same
   kept n (name ∷ names) ring last h id v le =
       kept (n + 1) names h.2.ring last h.2.rest_loads id v (omega arith)
-      ∙ h.2.added.keys_are id v ∙ rw (ne-eqb v (n + 1) (λ e. omega arith)) refl
+      ∙ h.2.added.keys_are id v ∙ rw (ne_eqb v (n + 1) (λ e. omega arith)) refl
 
   -- each file reads, and its keys are those of its version
   pub version_of_file : (n : ℕ) (names : List (List ℕ)) (ring last : List RingEntry) → LoadsFrom files filekey digest n names ring (Ok last)

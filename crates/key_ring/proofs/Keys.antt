@@ -18,7 +18,8 @@ eqb_below a b h = grind arith
 eqb_above : (a b : ℕ) → b < a → eqb b a ≡ false
 eqb_above a b h = grind arith
 
-is_eq-nat_cmp : (a b : ℕ) → is_eq (nat_cmp a b) ≡ eqb b a
+-- two numbers are compared as equal where they are
+pub is_eq-nat_cmp : (a b : ℕ) → is_eq (nat_cmp a b) ≡ eqb b a
 is_eq-nat_cmp a b = elim (cases_lt a b) [
   | inl below ↦ rw (← nat_cmp_is a b Less below) (sym (eqb_below a b below))
   | inr from ↦ elim (cases_lt b a) [
