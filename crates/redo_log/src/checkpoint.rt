@@ -106,6 +106,7 @@ impl Log {
         requires high { from ≤ durable self.now }
         requires places { At (HasPlaces LogFile (file_layout self.now.blocks)) (D.past disk.old) }
         ensures does { (keys : Keys) (r : RingState) → FitsRing r self.now → At (RingReady self.now.blocks (redo_form keys) r) (D.past disk.old) → Does (Ringed self.now.blocks (redo_form keys) (checking r from)) (IsCheckEvent (self.now.sequence + 1) from) (RingReady self.now.blocks (redo_form keys) (checked r from)) (D.past disk.old) (D.past disk.new) result }
+        ensures open { IsOpen self.now }
         ensures places { At (HasPlaces LogFile (file_layout self.now.blocks)) (D.past disk.new) }
         ensures nothing { from ≡ self.now.from → (result ≡ Ok tt) × (D.past disk.new ≡ D.past disk.old) × (disk.new ≡ disk.old) }
         ensures exact { self.now.from < from → OnOk result (D.past disk.new ≡ grow (Sync LogFile) (grow (check_event (self.now.sequence + 1) from) (D.past disk.old))) }
@@ -122,6 +123,20 @@ impl Log {
             return Ok(());
         }
         settle_check(disk, self.blocks(), self.sequence() + 1, from)
+    }
+
+    // Goes on from a checkpoint that is durable, where the run begins at another block.
+    fn go_on_from(&mut self, from: u64)
+        requires low { self.old.from ≤ from }
+        requires high { from ≤ durable self.old }
+        ensures moved { self.new ≡ with_checkpoint self.old from }
+        ensures fits { (r : RingState) → FitsRing r self.old → FitsRing (checked r from) self.new }
+        ensures open { IsOpen self.new }
+    {
+        if from != self.from {
+            self.from = from;
+            self.sequence += 1;
+        }
     }
 
     /// Writes the next checkpoint, from which the run begins at this block, and syncs the log. The
@@ -154,11 +169,12 @@ impl Log {
         ensures no_fault_at_want { IsErrOf result DiskError.NoMemory → D.faults disk.new ≡ D.faults disk.old }
         ensures no_refusal { OnOk result (D.memory_refusals disk.new ≡ D.memory_refusals disk.old) }
     {
-        self.move_from(disk, from)?;
-        if from != self.from {
-            self.from = from;
-            self.sequence += 1;
+        match self.move_from(disk, from) {
+            Ok(()) => {
+                self.go_on_from(from);
+                Ok(())
+            }
+            Err(error) => Err(error),
         }
-        Ok(())
     }
 }

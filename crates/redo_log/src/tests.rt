@@ -61,17 +61,29 @@ fn spent(alloc: Global) -> Result<Option<(u64, LogFault)>, AllocError> {
     }
 }
 
+// A mini-transaction is appended and taken back: the log is as it was.
+fn try_append(alloc: Global, log: &mut Log, mtr: &Mtr) -> Result<(), LogFault>
+    requires some { 0 < length mtr.now }
+    requires many { length mtr.now ≤ 65536 }
+    requires allowed { AreAllowed mtr.now }
+    requires few { block_count (text_of mtr.now) ≤ 16 }
+    ensures { log.new ≡ log.old }
+{
+    let lsn = log.append(alloc, mtr, &key())?;
+    log.take_back(lsn);
+    Ok(())
+}
+
 // How many mini-transactions of one block a log of 32 blocks takes, and the refusal behind them. One
-// is taken back on the way.
+// is taken back first.
 fn filled(alloc: Global) -> Result<Option<(usize, LogFault)>, AllocError> {
     let Ok(mut log) = Log::new(alloc, 32, 2, 1) else {
         return Ok(None);
     };
     let mtr = put_of(alloc, 1)?;
-    let Ok(first) = log.append(alloc, &mtr, &key()) else {
+    let Ok(()) = try_append(alloc, &mut log, &mtr) else {
         return Ok(None);
     };
-    log.take_back(first);
     for i in 0..40 {
         let Err(fault) = log.append(alloc, &mtr, &key()) else {
             continue;
