@@ -12,10 +12,12 @@
 
 mod crashing;
 mod reading;
+mod rows;
 mod session;
 
-pub use crashing::{CrashTally, ScanCount, count_scan, drill_log};
+pub use crashing::{ScanCount, count_scan, drill_log};
 pub use reading::{RunHeld, newest_checkpoint, read_run};
+pub use rows::CrashTally;
 pub use session::{DrillHalt, RING_BLOCKS, make_log};
 
 #[cfg(test)]

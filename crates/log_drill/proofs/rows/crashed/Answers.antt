@@ -2,7 +2,7 @@ use Rattle.disk_model.specs.Contents.{events}
 use Rattle.disk_model.specs.declared.names.FileName.TheVariants.{Log as LogFile}
 use Rattle.redo_log.specs.Blocks.{file_layout}
 use Rattle.log_drill.proofs.LogFiles.{places_crashed}
-use Rattle.log_drill.proofs.crashing.crashed.Goals as goal
+use Rattle.log_drill.proofs.rows.crashed.Goals as goal
 
 pub returns : goal.returns
 returns c = places_crashed LogFile (file_layout 32) _ (events c.args.disk.now.contents) (events c.in-Ok.after.contents) c.requires c.in-Ok.ensures.crash
