@@ -1,8 +1,13 @@
 -- The log in memory after its calls.
-use Rattle.std.proofs.Common.{◌≡◌, ◌≢◌, ℕ, ◌+◌, ◌^◌, ◌<◌, ◌≤◌, Bool, true, false, true≢false, nat_eq, if◌then◌else◌, refl, sym, ap, subst, ◌∙◌, arith}
+use Rattle.std.proofs.Common.{[], ◌≡◌, ◌≢◌, ℕ, ◌+◌, ◌^◌, ◌<◌, ◌≤◌, Bool, true, false, true≢false, nat_eq, if◌then◌else◌, refl, sym, ap, subst, ◌∙◌, arith, None, List}
 use Rattle.std.proofs.lemmas.Bool.Decides.{nat_tests}
-use Rattle.ring_log.specs.Ring.{RingState}
-use Rattle.ring_log.specs.Batches.{settle}
+use Rattle.ring_log.specs.Ring.{RingState, IsBound, IsRingJournal}
+use Rattle.ring_log.proofs.Journals.{journal_settled, journal_moved}
+use Rattle.store_image.specs.View.{Logged}
+use Rattle.redo_text.specs.declared.change.Change.{Change}
+use Rattle.ring_log.proofs.RingSteps.{none_some}
+use Rattle.redo_log.specs.Blocks.{Keys, redo_form}
+use Rattle.ring_log.specs.Batches.{settle, checkpointed}
 use Rattle.redo_log.specs.State.{LogState}
 use Rattle.redo_log.specs.Log.{IsOpen, durable, pending_count, empty_log, written_out, with_checkpoint, checked, FitsRing}
 use Rattle.redo_log.proofs.CheckSteps.{checked_same, checked_other}
@@ -20,6 +25,19 @@ empty_open blocks from sequence least most low high some below = record {
   room = omega arith;
   whole = refl;
   valid = λ j lt. absurd (omega (arith, lt));
+}
+
+-- it fits a ring with nothing behind its run, whose journal begins there
+pub empty_fits : (blocks from sequence : ℕ) (r : RingState) → r.sequence ≡ sequence → r.from ≡ from → r.written ≡ from → FitsRing r (empty_log blocks from sequence)
+empty_fits blocks from sequence r same begins written = record { sequence = same; from = begins; written = written ∙ omega arith; blocks = λ j lt. absurd (omega (arith, lt)) }
+
+pub empty_journal : (blocks from : ℕ) (keys : Keys) (r : RingState) → r.from ≡ from → r.settled ≡ from → r.written ≡ from → r.newer ≡ None → IsRingJournal blocks (redo_form keys) r from [] from
+empty_journal blocks from keys r begins settled written none = record {
+  entries = refl;
+  written = omega (arith, written);
+  from = record { before = []; behind = []; parts = refl; left = sym begins };
+  newer = λ f is. absurd (none_some f (sym none ∙ is));
+  settled = record { before = []; behind = []; parts = refl; left = sym settled };
 }
 
 -- the pending blocks are given up
@@ -95,3 +113,26 @@ with_checkpoint_other log f other = sym (if_false (nat_eq f log.from) log (next_
   where
     eq_false : (a b : ℕ) → a ≢ b → nat_eq a b ≡ false
     eq_false a b is = grind (arith, nat_tests)
+
+-- the journal of a ring after a write out and after a checkpoint
+pub settled_journal : (old : LogState) → IsOpen old → (keys : Keys) (r : RingState) (start : ℕ) (journal : List (Logged (List Change))) → FitsRing r old → r.written ≡ r.settled → IsRingJournal old.blocks (redo_form keys) r start journal old.next
+    → IsRingJournal old.blocks (redo_form keys) (settle r (pending_count old)) start journal old.next
+settled_journal old is keys r start journal fits all j =
+    let order = is.order in
+    let written = fits.written in
+    journal_settled old.blocks (redo_form keys) r (pending_count old) start old.next journal all (omega (arith, order, written)) j
+
+pub moved_journal : (old : LogState) (f : ℕ) (keys : Keys) (r : RingState) (start : ℕ) (journal : List (Logged (List Change))) → IsBound old.blocks (redo_form keys) r.block start journal f → IsRingJournal old.blocks (redo_form keys) r start journal old.next
+    → IsRingJournal old.blocks (redo_form keys) (checked r f) start journal old.next
+moved_journal old f keys r start journal bound j = by (nat_eq f r.from)
+  where
+    by : (b : Bool) → IsRingJournal old.blocks (redo_form keys) (if b then r else checkpointed r f) start journal old.next
+    by true = j
+    by false = journal_moved old.blocks (redo_form keys) r f start old.next journal bound j
+
+pub same_next : (log : LogState) (f : ℕ) → log.next ≡ (with_checkpoint log f).next
+same_next log f = by (nat_eq f log.from)
+  where
+    by : (b : Bool) → log.next ≡ (if b then log else next_check log f).next
+    by true = refl
+    by false = refl

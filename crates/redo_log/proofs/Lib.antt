@@ -11,3 +11,4 @@ pub mod AppendSteps
 pub mod TakeBackSteps
 pub mod FreshLog
 pub mod RunSteps
+pub mod OpeningSteps

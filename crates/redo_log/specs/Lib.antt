@@ -6,3 +6,4 @@ pub mod Events
 pub mod Append
 pub mod Fresh
 pub mod Runs
+pub mod Opening

@@ -8,6 +8,8 @@ ghost use Rattle.places.specs.Batches.{From};
 ghost use Rattle.places.specs.Places.{HasPlaces};
 ghost use Rattle.ring_log.specs.Batches.{checking};
 ghost use Rattle.ring_log.specs.Ring.{RingState, Ringed, RingReady, IsBound, IsRingJournal, AllRingStand};
+ghost use Rattle.ring_log.specs.Opening.{IsFound};
+ghost use Rattle.store_image.specs.Places.{LogView};
 ghost use Rattle.store_image.specs.View.{Logged};
 ghost use Rattle.redo_text.specs.declared.change.Change.{Change};
 ghost use Rattle.redo_log.specs.Blocks.{Keys, redo_form, file_layout};
@@ -15,6 +17,7 @@ ghost use Rattle.redo_log.specs.Check.{check_bytes};
 ghost use Rattle.places.specs.Writes.{IsPart};
 ghost use Rattle.redo_log.specs.Events.{side_batch, CheckWriting, CheckWrote, CheckSettled, IsCheckEvent, check_event};
 ghost use Rattle.redo_log.specs.Fresh.{fresh_ring, IsFresh};
+ghost use Rattle.redo_log.specs.Opening.{IsOpening, IsOpened};
 ghost use Rattle.redo_log.specs.Log.{IsOpen, durable, checked, with_checkpoint, FitsRing};
 
 use crate::Log;
@@ -99,6 +102,39 @@ pub fn write_first_checkpoint<D: Disk>(disk: &mut D, blocks: u64) -> Result<(), 
     settle_check(disk, blocks, 1, 2)
 }
 
+/// Writes the checkpoint of an opening, which is the next one behind the newest, of this sequence: the
+/// run that was found ends before this number, and the next one begins a ring's length behind it, so
+/// that no block of the ring has a number from there on. The log is synced. It takes no memory.
+///
+/// # Errors
+/// As the disk gives them. The log then says what was found, or what is behind it.
+pub fn write_opening_checkpoint<D: Disk>(
+    disk: &mut D,
+    blocks: u64,
+    sequence: u64,
+    end: u64,
+) -> Result<(), DiskError>
+    requires least { 32 ≤ blocks }
+    requires most { blocks ≤ 4096 }
+    requires order { sequence < end }
+    requires high { end + blocks ≤ 2 ^ 50 }
+    requires places { At (HasPlaces LogFile (file_layout blocks)) (D.past disk.old) }
+    // Each lucky image of each moment has the log that was found or the one behind it, and at Ok a session may begin there.
+    ensures opens { (keys : Keys) (found : LogView (List Change)) → found.end ≡ end → At (IsFound blocks (redo_form keys) sequence found) (D.past disk.old) → Does (IsOpening blocks (redo_form keys) found) (IsCheckEvent (sequence + 1) (end + blocks)) (IsOpened blocks (redo_form keys) sequence found) (D.past disk.old) (D.past disk.new) result }
+    ensures exact { OnOk result (D.past disk.new ≡ grow (Sync LogFile) (grow (check_event (sequence + 1) (end + blocks)) (D.past disk.old))) }
+    ensures part { OnErr result (IsPart LogFile 4096 (side_batch (sequence + 1) (end + blocks)) 1 (D.past disk.old) (D.past disk.new)) }
+    ensures places { At (HasPlaces LogFile (file_layout blocks)) (D.past disk.new) }
+    ensures later { D.is_later disk.old disk.new }
+    ensures calls { D.clock disk.new ≤ D.clock disk.old + 2 }
+    ensures cause { HasDiskCause (D.faults disk.old) (D.faults disk.new) result }
+    ensures memory { HasDiskMemoryCause (D.memory_refusals disk.old) (D.memory_refusals disk.new) result }
+    ensures no_fault { OnOk result (D.faults disk.new ≡ D.faults disk.old) }
+    ensures no_fault_at_want { IsErrOf result DiskError.NoMemory → D.faults disk.new ≡ D.faults disk.old }
+    ensures no_refusal { OnOk result (D.memory_refusals disk.new ≡ D.memory_refusals disk.old) }
+{
+    settle_check(disk, blocks, sequence + 1, end + blocks)
+}
+
 impl Log {
     // Writes the next checkpoint, where the run begins at another block than at the old one.
     fn move_from<D: Disk>(&self, disk: &mut D, from: u64) -> Result<(), DiskError>
@@ -154,6 +190,7 @@ impl Log {
         ensures stands { (keys : Keys) (r : RingState) (start : ℕ) (journal : List (Logged (List Change))) → FitsRing r self.old → At (RingReady self.old.blocks (redo_form keys) r) (D.past disk.old) → IsRingJournal self.old.blocks (redo_form keys) r start journal self.old.next → IsBound self.old.blocks (redo_form keys) r.block start journal from → Throughout (AllRingStand self.old.blocks (redo_form keys) (checking r from) start journal self.old.next) (D.past disk.old) (D.past disk.new) }
         ensures does { (keys : Keys) (r : RingState) → FitsRing r self.old → At (RingReady self.old.blocks (redo_form keys) r) (D.past disk.old) → Does (Ringed self.old.blocks (redo_form keys) (checking r from)) (IsCheckEvent (self.old.sequence + 1) from) (RingReady self.old.blocks (redo_form keys) (checked r from)) (D.past disk.old) (D.past disk.new) result }
         ensures fits { OnOk result ((r : RingState) → FitsRing r self.old → FitsRing (checked r from) self.new) }
+        ensures journal { OnOk result ((keys : Keys) (r : RingState) (start : ℕ) (journal : List (Logged (List Change))) → IsBound self.old.blocks (redo_form keys) r.block start journal from → IsRingJournal self.old.blocks (redo_form keys) r start journal self.old.next → IsRingJournal self.old.blocks (redo_form keys) (checked r from) start journal self.new.next) }
         ensures nothing { from ≡ self.old.from → (result ≡ Ok tt) × (D.past disk.new ≡ D.past disk.old) × (disk.new ≡ disk.old) }
         ensures exact { self.old.from < from → OnOk result (D.past disk.new ≡ grow (Sync LogFile) (grow (check_event (self.old.sequence + 1) from) (D.past disk.old))) }
         ensures part { OnErr result (IsPart LogFile 4096 (side_batch (self.old.sequence + 1) from) 1 (D.past disk.old) (D.past disk.new)) }

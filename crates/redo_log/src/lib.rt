@@ -14,6 +14,8 @@
 //!    [`Log::take_back`] gives back what it added.
 //! 4. [`scan`] gives the longest run of whole mini-transactions, and the key versions that its blocks
 //!    name. It reads each block once, and adds no event.
+//! 5. While [`write_opening_checkpoint`] writes the checkpoint of an opening each lucky image has the
+//!    log that was found or the empty one behind it, and then a session may begin there.
 #![tactic(auto)]
 
 mod append;
@@ -24,7 +26,7 @@ mod reading;
 mod run;
 mod write_out;
 
-pub use checkpoint::write_first_checkpoint;
+pub use checkpoint::{write_first_checkpoint, write_opening_checkpoint};
 pub use log::{Log, LogFault};
 pub use reading::{Checkpoint, read_checkpoint};
 pub use run::{Run, Versions, scan};

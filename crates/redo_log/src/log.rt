@@ -1,7 +1,9 @@
 // The log in memory: which blocks of its ring are used, and the blocks that are pending.
-ghost use Rattle.std.specs.Prelude.{◌≡◌, ◌+◌, ◌*◌, ◌<◌, ◌≤◌, ◌^◌, Ok};
+ghost use Rattle.std.specs.Prelude.{◌≡◌, ◌+◌, ◌*◌, ◌<◌, ◌≤◌, ◌^◌, Ok, None, []};
 ghost use Rattle.places.specs.Places.{place};
-ghost use Rattle.redo_log.specs.Log.{IsOpen, durable, empty_log, free_of, pending_at, pending_count};
+ghost use Rattle.ring_log.specs.Ring.{RingState, IsRingJournal};
+ghost use Rattle.redo_log.specs.Blocks.{Keys, redo_form};
+ghost use Rattle.redo_log.specs.Log.{IsOpen, durable, empty_log, free_of, pending_at, pending_count, FitsRing};
 
 use cause_core::OutOfMemory;
 use std::alloc::Global;
@@ -62,6 +64,9 @@ impl Log {
         requires below { sequence < from }
         ensures log { result ≡ Ok (empty_log blocks from sequence) }
         ensures open { IsOpen (empty_log blocks from sequence) }
+        // A ring with these numbers is one that it fits, and its journal begins there.
+        ensures fits { (r : RingState) → r.sequence ≡ sequence → r.from ≡ from → r.written ≡ from → FitsRing r (empty_log blocks from sequence) }
+        ensures journal { (keys : Keys) (r : RingState) → r.from ≡ from → r.settled ≡ from → r.written ≡ from → r.newer ≡ None → IsRingJournal blocks (redo_form keys) r from [] from }
     {
         Ok(Log {
             blocks,

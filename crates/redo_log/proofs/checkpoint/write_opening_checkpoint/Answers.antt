@@ -1,0 +1,16 @@
+use Rattle.std.proofs.Common.{◌+◌}
+use Rattle.places.proofs.Batches.{lift_from}
+use Rattle.redo_log.specs.Events.{side_batch}
+use Rattle.redo_log.proofs.BlockSteps.{places_after}
+use Rattle.redo_log.proofs.OpeningSteps.{to_opening, to_opened}
+use Rattle.redo_log.proofs.checkpoint.write_opening_checkpoint.Goals as goal
+
+pub returns-clause-opens : goal.returns-clause-opens
+returns-clause-opens g c = λ keys found is at.
+    let n = c.args.blocks in
+    let s = c.args.sequence in
+    lift_from at (λ es m u since w. to_opening keys n s c.args.end found is c.requires.least c.requires.order c.requires.high es m u w) (λ es m u since t. to_opened keys n s c.args.end found is c.requires.least c.requires.order c.requires.high es m u t) (λ e k. k)
+    c.settle_check.ensures.does
+
+pub returns-clause-places : goal.returns-clause-places
+returns-clause-places g c = places_after {b = side_batch (c.args.sequence + 1) (c.args.end + c.args.blocks)} {k = 1} c.args.blocks c.requires.places c.settle_check.ensures.does
