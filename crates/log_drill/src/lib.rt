@@ -7,14 +7,17 @@
 //! last synced block, or up to the last mini-transaction whose blocks were all written where writes
 //! are kept.
 //!
-//! That no call of the log is made where its contract does not allow it is proved, call by call.
+//! That no call of the log is made where its contract does not allow it is proved, call by call, and of
+//! one session more: [`commit`] carries the journal of a ring on.
 #![tactic(auto)]
 
+mod committing;
 mod crashing;
 mod reading;
 mod rows;
 mod session;
 
+pub use committing::commit;
 pub use crashing::{ScanCount, count_scan, drill_log};
 pub use reading::{RunHeld, newest_checkpoint, read_run};
 pub use rows::CrashTally;
