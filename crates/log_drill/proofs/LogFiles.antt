@@ -1,5 +1,5 @@
 -- A log's file that was made, and one that a crash left.
-use Rattle.std.proofs.Common.{◌≡◌, ◌∷◌, List, length, Some, None, refl, sym, ap, subst, ◌∙◌}
+use Rattle.std.proofs.Common.{◌≡◌, ◌∷◌, List, length, Some, None, sym, ap, subst, ◌∙◌}
 use Rattle.disk_model.specs.Crash.{IsCrash, crash_image}
 use Rattle.disk_model.specs.Event.{Event, Make}
 use Rattle.disk_model.specs.Past.{Past, At, grow}

@@ -1,4 +1,4 @@
-use Rattle.std.proofs.Common.{◌≡◌, ℕ, List, [], ◌∷◌, ◌++◌, OnOk, sym, ap, subst}
+use Rattle.std.proofs.Common.{◌≡◌, ℕ, List, [], ◌∷◌, ◌++◌, sym, ap, subst}
 use Rattle.disk_model.specs.Past.{At}
 use Rattle.ring_log.specs.Batches.{settle}
 use Rattle.ring_log.specs.Ring.{RingState, RingReady, IsRingJournal}
