@@ -21,7 +21,7 @@ use Rattle.keyd_words.specs.declared.value.OptionValue.TheVariants as value
 use Rattle.keyd_words.specs.declared.setting.OptionSetting.{OptionSetting}
 use Rattle.keyd_words.specs.Table.{row_of, takes}
 use Rattle.keyd_words.specs.Values.{IsSetTo, IsValueOf, IsNewSpace, pages_allowed}
-use Rattle.keyd_words.specs.Settings.{names_of, times_set, space_in_value, spaces_of, pages_in, pages_asked, IsTakenBy, AreOptionsOf, HasNeeded, AreAllOptionsOf, MayStand, IsFree, Joins, MayFollow}
+use Rattle.keyd_words.specs.Settings.{names_of, times_set, space_in_value, spaces_of, pages_of_spaces, pages_asked, IsTakenBy, AreOptionsOf, HasNeeded, AreAllOptionsOf, MayStand, IsFree, Joins, MayFollow}
 use Rattle.keyd_words.proofs.FreshLemmas.{Avoids, fresh}
 use Rattle.keyd_words.proofs.TableLemmas.{same_word, either_way, word-injective, each_small, most_from, only_space, only_needed, needed_taken, IsSmall}
 use Rattle.keyd_words.proofs.ValueLemmas.{set_space}
@@ -30,7 +30,7 @@ use Rattle.std.specs.Str.{bytes_eq}
 use Rattle.std.proofs.lemmas.Slice.Eq.{bytes_eq-Decides}
 
 -- what is asked of a value that may stand behind others is asked of a tablespace alone
-pub joins_by : (before : List NewSpace) (v : Option OptionValue) → ((x : NewSpace) → space_in_value v ≡ Some x → IsFree x.space before × (pages_in before + x.pages ≤ pages_allowed)) → Joins before v
+pub joins_by : (before : List NewSpace) (v : Option OptionValue) → ((x : NewSpace) → space_in_value v ≡ Some x → IsFree x.space before × (pages_of_spaces before + x.pages ≤ pages_allowed)) → Joins before v
 unfolding Joins space_in_value
 joins_by before (Some (value.Space x)) asked = asked x refl
 joins_by before None asked = tt
@@ -42,10 +42,10 @@ joins_by before (Some (value.Algorithm a)) asked = tt
 joins_by before (Some (value.FirstChoices cs)) asked = tt
 joins_by before (Some (value.SecondChoices cs)) asked = tt
 
-pub joins_space : (before : List NewSpace) (v : Option OptionValue) (x : NewSpace) → Joins before v → space_in_value v ≡ Some x → IsFree x.space before × (pages_in before + x.pages ≤ pages_allowed)
+pub joins_space : (before : List NewSpace) (v : Option OptionValue) (x : NewSpace) → Joins before v → space_in_value v ≡ Some x → IsFree x.space before × (pages_of_spaces before + x.pages ≤ pages_allowed)
 unfolding Joins space_in_value
 joins_space before (Some (value.Space y)) x joins e =
-    let same : y ≡ x = cc e in subst (λ (z : NewSpace). IsFree z.space before × (pages_in before + z.pages ≤ pages_allowed)) same joins
+    let same : y ≡ x = cc e in subst (λ (z : NewSpace). IsFree z.space before × (pages_of_spaces before + z.pages ≤ pages_allowed)) same joins
 joins_space before None x joins e = cc e
 joins_space before (Some (value.FileName t)) x joins e = cc e
 joins_space before (Some (value.FileKey t)) x joins e = cc e

@@ -12,7 +12,7 @@ use Rattle.keyd_words.specs.declared.setting.OptionSetting.{OptionSetting}
 use Rattle.keyd_words.specs.Table.{Argument, row_of}
 use Rattle.keyd_words.specs.Values.{IsSetTo, IsValueOf}
 use Rattle.keyd_words.specs.Settings.{times_set, space_in_value, spaces_of, IsTakenBy, AreOptionsOf}
-use Rattle.keyd_words.specs.Plans.{file_name_in, file_names}
+use Rattle.keyd_words.specs.Plans.{file_name_in_value, file_names}
 use Rattle.keyd_words.proofs.ValueLemmas.{set_space}
 use Rattle.keyd_words.proofs.SettingLemmas.{times-cons, times_same, times_other, some_or_none, head_of, tail_of, taken_space}
 
@@ -53,8 +53,8 @@ only_file Reopen e = cc
 only_file Stop2 e = cc
 only_file Choice2 e = cc
 
-file_set : (f : Option ValueForm) (v : Option OptionValue) (t : Argument) → IsSetTo f v → file_name_in v ≡ Some t → f ≡ Some form.FileName
-unfolding IsSetTo IsValueOf file_name_in
+file_set : (f : Option ValueForm) (v : Option OptionValue) (t : Argument) → IsSetTo f v → file_name_in_value v ≡ Some t → f ≡ Some form.FileName
+unfolding IsSetTo IsValueOf file_name_in_value
 file_set (Some form.FileName) (Some (value.FileName y)) t p e = refl
 file_set (Some form.FileKey) (Some (value.FileName y)) t p e = absurd p
 file_set (Some (form.Number low high)) (Some (value.FileName y)) t p e = absurd p
@@ -73,8 +73,8 @@ file_set f (Some (value.Space x)) t p e = cc e
 file_set f (Some (value.FirstChoices x)) t p e = cc e
 file_set f (Some (value.SecondChoices x)) t p e = cc e
 
-set_file : (v : Option OptionValue) → IsSetTo (Some form.FileName) v → (t : Argument) × (file_name_in v ≡ Some t)
-unfolding IsSetTo IsValueOf file_name_in
+set_file : (v : Option OptionValue) → IsSetTo (Some form.FileName) v → (t : Argument) × (file_name_in_value v ≡ Some t)
+unfolding IsSetTo IsValueOf file_name_in_value
 set_file (Some (value.FileName t)) p = (t, refl)
 set_file None p = absurd p
 set_file (Some (value.FileKey x)) p = absurd p
@@ -98,7 +98,7 @@ space_form = refl
 
 pub file_count : (c : Command) (ss : List OptionSetting) → All (IsTakenBy c) ss → length (file_names ss) ≡ times_set KeyFile ss
 file_count c ss all =
-    counted c KeyFile file_name_in (λ s taken same. set_file s.value (form_at c KeyFile (Some form.FileName) file_form s taken same))
+    counted c KeyFile file_name_in_value (λ s taken same. set_file s.value (form_at c KeyFile (Some form.FileName) file_form s taken same))
     (λ s taken t found. only_file s.name (file_set (row_of s.name).form s.value t taken.set found)) ss all
 
 pub space_count : (c : Command) (ss : List OptionSetting) → All (IsTakenBy c) ss → length (spaces_of ss) ≡ times_set Space ss

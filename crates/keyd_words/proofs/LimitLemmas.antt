@@ -18,9 +18,9 @@ use Rattle.keyd_words.specs.declared.plan.Plan.TheVariants.{Create, Step, Run, D
 use Rattle.keyd_words.specs.Table.{Argument, row_of, needs, is_needed, use_by}
 use Rattle.keyd_words.specs.Values.{IsSetTo, IsValueOf, IsNewSpace, AreChoices}
 use Rattle.keyd_words.specs.Settings.{space_in_value, spaces_of, IsTakenBy, AreAllOptionsOf}
-use Rattle.keyd_words.specs.Plans.{or_else, last_found, number_for, number_set, first_choices_in, first_choices_set, second_choices_in, second_choices_set, file_names, key_plan, create_plan, step_plan, run_plan, crash_plan, second_plan, drill_plan}
+use Rattle.keyd_words.specs.Plans.{first_of_two, last_found, number_for, number_set, first_choices_in_value, first_choices_set, second_choices_in_value, second_choices_set, file_names, key_plan, create_plan, step_plan, run_plan, crash_plan, second_plan, drill_plan}
 use Rattle.keyd_words.specs.Words.{Says}
-use Rattle.keyd_words.specs.Limits.{IsFrom, IsFromIfSome, AreKeys, IsStore, IsStep, IsRun, IsCrash, IsDrill, IsWithinLimits}
+use Rattle.keyd_words.specs.Limits.{IsFrom, IsFromIfSome, IsKeyPlan, IsStorePlan, IsStepPlan, IsRunPlan, IsCrashPlan, IsDrillPlan, IsWithinLimits}
 use Rattle.keyd_words.proofs.TableLemmas.{word-injective, either_way}
 use Rattle.keyd_words.proofs.SettingLemmas.{some_or_none, head_of, tail_of, all_none, taken_space}
 use Rattle.keyd_words.proofs.CountLemmas.{file_count, space_count, few_files, few_spaces}
@@ -33,7 +33,7 @@ all_cons P x xs p all (suc k) d low = all k d (omega (arith, low))
 abbrev pub IfThere : {Y : Type 0} → (Y → Type 0) → Option Y → Type 0
 IfThere P o = MatchOption o (Unit {0}) P
 
-either_there : {Y : Type 0} (P : Y → Type 0) (a b : Option Y) → IfThere P a → IfThere P b → IfThere P (or_else a b)
+either_there : {Y : Type 0} (P : Y → Type 0) (a b : Option Y) → IfThere P a → IfThere P b → IfThere P (first_of_two a b)
 either_there P (Some x) b p q = p
 either_there P None b p q = q
 
@@ -69,8 +69,8 @@ number_bounded low high f g (Some (value.SecondChoices x)) is set = tt
 number_within : (c : Command) (ss : List OptionSetting) (f : OptionName) (low high : ℕ) → (row_of f).form ≡ Some (form.Number low high) → All (IsTakenBy c) ss → IsFromIfSome low high (number_set f ss)
 number_within c ss f low high is all = last_has (IsTakenBy c) (IsFrom low high) (λ (s : OptionSetting). number_for f s.name s.value) (λ s taken. number_bounded low high f s.name s.value is taken.set) ss all
 
-first_bounded : (f : Option ValueForm) (v : Option OptionValue) → IsSetTo f v → IfThere AreChoices (first_choices_in v)
-unfolding IsSetTo IsValueOf first_choices_in
+first_bounded : (f : Option ValueForm) (v : Option OptionValue) → IsSetTo f v → IfThere AreChoices (first_choices_in_value v)
+unfolding IsSetTo IsValueOf first_choices_in_value
 first_bounded (Some form.FirstChoices) (Some (value.FirstChoices cs)) set = set
 first_bounded (Some form.FileName) (Some (value.FirstChoices cs)) set = absurd set
 first_bounded (Some form.FileKey) (Some (value.FirstChoices cs)) set = absurd set
@@ -89,8 +89,8 @@ first_bounded f (Some (value.Algorithm x)) set = tt
 first_bounded f (Some (value.Space x)) set = tt
 first_bounded f (Some (value.SecondChoices x)) set = tt
 
-second_bounded : (f : Option ValueForm) (v : Option OptionValue) → IsSetTo f v → IfThere AreChoices (second_choices_in v)
-unfolding IsSetTo IsValueOf second_choices_in
+second_bounded : (f : Option ValueForm) (v : Option OptionValue) → IsSetTo f v → IfThere AreChoices (second_choices_in_value v)
+unfolding IsSetTo IsValueOf second_choices_in_value
 second_bounded (Some form.SecondChoices) (Some (value.SecondChoices cs)) set = set
 second_bounded (Some form.FileName) (Some (value.SecondChoices cs)) set = absurd set
 second_bounded (Some form.FileKey) (Some (value.SecondChoices cs)) set = absurd set
@@ -114,12 +114,12 @@ or_within : (low high n : ℕ) (o : Option ℕ) → IsFromIfSome low high o → 
 or_within low high n (Some k) is there = is
 or_within low high n None is there = there
 
-crash_within : (stop : Option ℕ) (choices : Option (List Choice)) → IsFromIfSome 1 1000000 stop → IfThere AreChoices choices → IsCrash (crash_plan stop choices)
+crash_within : (stop : Option ℕ) (choices : Option (List Choice)) → IsFromIfSome 1 1000000 stop → IfThere AreChoices choices → IsCrashPlan (crash_plan stop choices)
 unfolding crash_plan
 crash_within stop (Some cs) s c = record { stop = s; choices = c }
 crash_within stop None s c = record { stop = s; choices = (omega arith, omega arith) }
 
-second_within : (stop : Option ℕ) (choices : Option (List Choice)) → IsFromIfSome 1 1000000 stop → IfThere AreChoices choices → IfThere IsCrash (second_plan stop choices)
+second_within : (stop : Option ℕ) (choices : Option (List Choice)) → IsFromIfSome 1 1000000 stop → IfThere AreChoices choices → IfThere IsCrashPlan (second_plan stop choices)
 unfolding second_plan
 second_within None None s c = tt
 second_within (Some n) None s c = crash_within (Some n) None s c
@@ -138,13 +138,13 @@ spaces_within c (s ∷ ss) all =
 
 -- The plans of whole lists
 
-keys_within : (c : Command) (ss : List OptionSetting) → needs name.KeyFile c ≡ true → AreAllOptionsOf c ss → AreKeys (key_plan ss)
+keys_within : (c : Command) (ss : List OptionSetting) → needs name.KeyFile c ≡ true → AreAllOptionsOf c ss → IsKeyPlan (key_plan ss)
 unfolding row_of
 keys_within c ss needed are =
     let files : IsFrom 1 64 (length (file_names ss)) = (omega (arith, file_count c ss are.allowed.taken, are.needed name.KeyFile needed), few_files c ss are.allowed) in
     record { files = files; active = or_within 1 4294967295 (length (file_names ss)) (number_set name.Active ss) (number_within c ss name.Active 1 4294967295 refl are.allowed.taken) (files.0, omega (arith, files.1)) }
 
-store_within : (c : Command) (ss : List OptionSetting) → needs name.KeyFile c ≡ true → needs name.Space c ≡ true → AreAllOptionsOf c ss → IsStore (create_plan ss)
+store_within : (c : Command) (ss : List OptionSetting) → needs name.KeyFile c ≡ true → needs name.Space c ≡ true → AreAllOptionsOf c ss → IsStorePlan (create_plan ss)
 unfolding row_of
 store_within c ss keyed spaced are = record {
   keys = keys_within c ss keyed are;
@@ -159,10 +159,10 @@ age_within : (c : Command) (ss : List OptionSetting) → AreAllOptionsOf c ss �
 unfolding row_of
 age_within c ss are = (or_within 0 2147483648 1 (number_set name.Age ss) (number_within c ss name.Age 0 2147483648 refl are.allowed.taken) (omega arith, omega arith)).1
 
-step_within : (c : Command) (ss : List OptionSetting) → needs name.KeyFile c ≡ true → AreAllOptionsOf c ss → IsStep (step_plan ss)
+step_within : (c : Command) (ss : List OptionSetting) → needs name.KeyFile c ≡ true → AreAllOptionsOf c ss → IsStepPlan (step_plan ss)
 step_within c ss keyed are = record { keys = keys_within c ss keyed are; age = age_within c ss are }
 
-run_within : (c : Command) (ss : List OptionSetting) → needs name.KeyFile c ≡ true → AreAllOptionsOf c ss → IsRun (run_plan ss)
+run_within : (c : Command) (ss : List OptionSetting) → needs name.KeyFile c ≡ true → AreAllOptionsOf c ss → IsRunPlan (run_plan ss)
 unfolding row_of
 run_within c ss keyed are = record {
   step = step_within c ss keyed are;
@@ -170,12 +170,12 @@ run_within c ss keyed are = record {
   rotators = or_within 1 4 1 (number_set name.Rotators ss) (number_within c ss name.Rotators 1 4 refl are.allowed.taken) (omega arith, omega arith);
 }
 
-drill_within : (c : Command) (ss : List OptionSetting) → needs name.KeyFile c ≡ true → needs name.Space c ≡ true → AreAllOptionsOf c ss → IsDrill (drill_plan ss)
+drill_within : (c : Command) (ss : List OptionSetting) → needs name.KeyFile c ≡ true → needs name.Space c ≡ true → AreAllOptionsOf c ss → IsDrillPlan (drill_plan ss)
 unfolding row_of
 drill_within c ss keyed spaced are =
     let taken = are.allowed.taken in
-    let first : IfThere AreChoices (first_choices_set ss) = last_has (IsTakenBy c) AreChoices (λ (s : OptionSetting). first_choices_in s.value) (λ s is. first_bounded (row_of s.name).form s.value is.set) ss taken in
-    let second : IfThere AreChoices (second_choices_set ss) = last_has (IsTakenBy c) AreChoices (λ (s : OptionSetting). second_choices_in s.value) (λ s is. second_bounded (row_of s.name).form s.value is.set) ss taken in
+    let first : IfThere AreChoices (first_choices_set ss) = last_has (IsTakenBy c) AreChoices (λ (s : OptionSetting). first_choices_in_value s.value) (λ s is. first_bounded (row_of s.name).form s.value is.set) ss taken in
+    let second : IfThere AreChoices (second_choices_set ss) = last_has (IsTakenBy c) AreChoices (λ (s : OptionSetting). second_choices_in_value s.value) (λ s is. second_bounded (row_of s.name).form s.value is.set) ss taken in
     record {
       store = store_within c ss keyed spaced are;
       age = age_within c ss are;
@@ -187,10 +187,10 @@ drill_within c ss keyed spaced are =
 -- what words say is within the limits
 pub said_within : (built : List Command) (words : List Argument) (plan : Plan) → Says built words plan → IsWithinLimits plan
 unfolding Says IsWithinLimits row_of is_needed use_by
-said_within built words (Create p) says = subst IsStore (sym says.are) (store_within command.Create says.settings refl refl says.list.whole)
-said_within built words (Step p) says = subst IsStep (sym says.are) (step_within command.Step says.settings refl says.list.whole)
-said_within built words (Run p) says = subst IsRun (sym says.are) (run_within command.Run says.settings refl says.list.whole)
-said_within built words (Drill p) says = subst IsDrill (sym says.are) (drill_within command.Drill says.settings refl refl says.list.whole)
-said_within built words (Recover p) says = subst AreKeys (sym says.are) (keys_within command.Recover says.settings refl says.list.whole)
-said_within built words (Report p) says = subst AreKeys (sym says.are) (keys_within command.Report says.settings refl says.list.whole)
+said_within built words (Create p) says = subst IsStorePlan (sym says.are) (store_within command.Create says.settings refl refl says.list.whole)
+said_within built words (Step p) says = subst IsStepPlan (sym says.are) (step_within command.Step says.settings refl says.list.whole)
+said_within built words (Run p) says = subst IsRunPlan (sym says.are) (run_within command.Run says.settings refl says.list.whole)
+said_within built words (Drill p) says = subst IsDrillPlan (sym says.are) (drill_within command.Drill says.settings refl refl says.list.whole)
+said_within built words (Recover p) says = subst IsKeyPlan (sym says.are) (keys_within command.Recover says.settings refl says.list.whole)
+said_within built words (Report p) says = subst IsKeyPlan (sym says.are) (keys_within command.Report says.settings refl says.list.whole)
 said_within built words (Make p) says = record { number = says.1.number_to; count = (says.1.count_from, says.1.count_to) }

@@ -11,25 +11,25 @@ use Rattle.keyd_words.specs.declared.value.OptionValue.{OptionValue}
 use Rattle.keyd_words.specs.declared.value.OptionValue.TheVariants as value
 use Rattle.keyd_words.specs.declared.setting.OptionSetting.{OptionSetting}
 use Rattle.keyd_words.specs.Settings.{space_in_value}
-use Rattle.keyd_words.specs.Plans.{or_else, last_found, file_name_in, file_key_in, digest_in, algorithm_in, first_choices_in, second_choices_in, number_for, key_plan, create_plan, step_plan, run_plan, drill_plan}
-use Rattle.keyd_words.specs.Drafts.{number_under, number_among, number_named, Tells, keys_of, store_of, step_of, run_of, drill_of}
+use Rattle.keyd_words.specs.Plans.{first_of_two, last_found, file_name_in_value, file_key_in_value, digest_in_value, algorithm_in_value, first_choices_in_value, second_choices_in_value, number_for, key_plan, create_plan, step_plan, run_plan, drill_plan}
+use Rattle.keyd_words.specs.Drafts.{number_under, number_among, number_named, TellsOptions, keys_drafted, store_drafted, step_drafted, run_drafted, drill_drafted}
 
-or_else-assoc : {X : Type 0} (a b c : Option X) → or_else (or_else a b) c ≡ or_else a (or_else b c)
-or_else-assoc (Some x) b c = refl
-or_else-assoc None b c = refl
+first_of_two-assoc : {X : Type 0} (a b c : Option X) → first_of_two (first_of_two a b) c ≡ first_of_two a (first_of_two b c)
+first_of_two-assoc (Some x) b c = refl
+first_of_two-assoc None b c = refl
 
-or_else-none : {X : Type 0} (a : Option X) → or_else a None ≡ a
-or_else-none (Some x) = refl
-or_else-none None = refl
+first_of_two-none : {X : Type 0} (a : Option X) → first_of_two a None ≡ a
+first_of_two-none (Some x) = refl
+first_of_two-none None = refl
 
 -- the last answer, with one element more
-pub last-push : {X Y : Type 0} (f : X → Option Y) (xs : List X) (x : X) → last_found f (xs ++ (x ∷ [])) ≡ or_else (f x) (last_found f xs)
+pub last-push : {X Y : Type 0} (f : X → Option Y) (xs : List X) (x : X) → last_found f (xs ++ (x ∷ [])) ≡ first_of_two (f x) (last_found f xs)
 unfolding last_found
-last-push f [] x = sym (or_else-none (f x))
-last-push f (y ∷ ys) x = ap (λ o. or_else o (f y)) (last-push f ys x) ∙ or_else-assoc (f x) (last_found f ys) (f y)
+last-push f [] x = sym (first_of_two-none (f x))
+last-push f (y ∷ ys) x = ap (λ o. first_of_two o (f y)) (last-push f ys x) ∙ first_of_two-assoc (f x) (last_found f ys) (f y)
 
 -- an option's number, added to the numbers with their options' names
-named_more : (f g : OptionName) (v : Option OptionValue) (ns : List NamedNumber) → number_among f (ns ++ cons_option (number_named g v) []) ≡ or_else (number_for f g v) (number_among f ns)
+named_more : (f g : OptionName) (v : Option OptionValue) (ns : List NamedNumber) → number_among f (ns ++ cons_option (number_named g v) []) ≡ first_of_two (number_for f g v) (number_among f ns)
 unfolding number_named number_for
 named_more f g (Some (value.Number n)) ns = last-push (number_under f) ns (record { name = g; number = n })
 named_more f g None ns = ap (number_among f) (append-nil ns)
@@ -42,44 +42,44 @@ named_more f g (Some (value.FirstChoices x)) ns = ap (number_among f) (append-ni
 named_more f g (Some (value.SecondChoices x)) ns = ap (number_among f) (append-nil ns)
 
 -- one option more
-pub told_more : (d n : Draft) (ss : List OptionSetting) (s : OptionSetting) → Tells d ss
+pub told_more : (d n : Draft) (ss : List OptionSetting) (s : OptionSetting) → TellsOptions d ss
     → n.names.items ≡ d.names.items ++ (s.name ∷ [])
-    → n.key_files ≡ d.key_files ++ cons_option (file_name_in s.value) []
-    → n.filekey ≡ or_else (file_key_in s.value) d.filekey
-    → n.digest ≡ or_else (digest_in s.value) d.digest
-    → n.algorithm ≡ or_else (algorithm_in s.value) d.algorithm
+    → n.key_files ≡ d.key_files ++ cons_option (file_name_in_value s.value) []
+    → n.filekey ≡ first_of_two (file_key_in_value s.value) d.filekey
+    → n.digest ≡ first_of_two (digest_in_value s.value) d.digest
+    → n.algorithm ≡ first_of_two (algorithm_in_value s.value) d.algorithm
     → n.spaces ≡ d.spaces ++ cons_option (space_in_value s.value) []
-    → n.first ≡ or_else (first_choices_in s.value) d.first
-    → n.second ≡ or_else (second_choices_in s.value) d.second
+    → n.first ≡ first_of_two (first_choices_in_value s.value) d.first
+    → n.second ≡ first_of_two (second_choices_in_value s.value) d.second
     → n.numbers.items ≡ d.numbers.items ++ cons_option (number_named s.name s.value) []
-    → Tells n (ss ++ (s ∷ []))
+    → TellsOptions n (ss ++ (s ∷ []))
 told_more d n ss s t names files filekey digest algorithm spaces first second numbers =
     let more = s ∷ [] in
     record {
       names = names ∙ ap (λ xs. xs ++ (s.name ∷ [])) t.names ∙ sym (map-append (λ (x : OptionSetting). x.name) ss more);
-      key_files = files ∙ ap (λ xs. xs ++ cons_option (file_name_in s.value) []) t.key_files ∙ sym (filter_map-append (λ (x : OptionSetting). file_name_in x.value) ss more);
-      filekey = filekey ∙ ap (or_else (file_key_in s.value)) t.filekey ∙ sym (last-push (λ (x : OptionSetting). file_key_in x.value) ss s);
-      digest = digest ∙ ap (or_else (digest_in s.value)) t.digest ∙ sym (last-push (λ (x : OptionSetting). digest_in x.value) ss s);
-      algorithm = algorithm ∙ ap (or_else (algorithm_in s.value)) t.algorithm ∙ sym (last-push (λ (x : OptionSetting). algorithm_in x.value) ss s);
+      key_files = files ∙ ap (λ xs. xs ++ cons_option (file_name_in_value s.value) []) t.key_files ∙ sym (filter_map-append (λ (x : OptionSetting). file_name_in_value x.value) ss more);
+      filekey = filekey ∙ ap (first_of_two (file_key_in_value s.value)) t.filekey ∙ sym (last-push (λ (x : OptionSetting). file_key_in_value x.value) ss s);
+      digest = digest ∙ ap (first_of_two (digest_in_value s.value)) t.digest ∙ sym (last-push (λ (x : OptionSetting). digest_in_value x.value) ss s);
+      algorithm = algorithm ∙ ap (first_of_two (algorithm_in_value s.value)) t.algorithm ∙ sym (last-push (λ (x : OptionSetting). algorithm_in_value x.value) ss s);
       spaces = spaces ∙ ap (λ xs. xs ++ cons_option (space_in_value s.value) []) t.spaces ∙ sym (filter_map-append (λ (x : OptionSetting). space_in_value x.value) ss more);
-      first = first ∙ ap (or_else (first_choices_in s.value)) t.first ∙ sym (last-push (λ (x : OptionSetting). first_choices_in x.value) ss s);
-      second = second ∙ ap (or_else (second_choices_in s.value)) t.second ∙ sym (last-push (λ (x : OptionSetting). second_choices_in x.value) ss s);
-      numbers = λ f. ap (number_among f) numbers ∙ named_more f s.name s.value d.numbers.items ∙ ap (or_else (number_for f s.name s.value)) (t.numbers f) ∙ sym (last-push (λ (x : OptionSetting). number_for f x.name x.value) ss s);
+      first = first ∙ ap (first_of_two (first_choices_in_value s.value)) t.first ∙ sym (last-push (λ (x : OptionSetting). first_choices_in_value x.value) ss s);
+      second = second ∙ ap (first_of_two (second_choices_in_value s.value)) t.second ∙ sym (last-push (λ (x : OptionSetting). second_choices_in_value x.value) ss s);
+      numbers = λ f. ap (number_among f) numbers ∙ named_more f s.name s.value d.numbers.items ∙ ap (first_of_two (number_for f s.name s.value)) (t.numbers f) ∙ sym (last-push (λ (x : OptionSetting). number_for f x.name x.value) ss s);
     }
 
 -- What a draft asks for is what its options ask for
 
-pub told_keys : (d : Draft) (ss : List OptionSetting) → Tells d ss → keys_of d ≡ key_plan ss
+pub told_keys : (d : Draft) (ss : List OptionSetting) → TellsOptions d ss → keys_drafted d ≡ key_plan ss
 told_keys d ss t = rw (t.key_files, t.filekey, t.digest, t.numbers name.Active) refl
 
-pub told_store : (d : Draft) (ss : List OptionSetting) → Tells d ss → store_of d ≡ create_plan ss
+pub told_store : (d : Draft) (ss : List OptionSetting) → TellsOptions d ss → store_drafted d ≡ create_plan ss
 told_store d ss t = rw (told_keys d ss t, t.spaces, t.algorithm, t.numbers name.Log) refl
 
-pub told_step : (d : Draft) (ss : List OptionSetting) → Tells d ss → step_of d ≡ step_plan ss
+pub told_step : (d : Draft) (ss : List OptionSetting) → TellsOptions d ss → step_drafted d ≡ step_plan ss
 told_step d ss t = rw (told_keys d ss t, t.names, t.numbers name.Age) refl
 
-pub told_run : (d : Draft) (ss : List OptionSetting) → Tells d ss → run_of d ≡ run_plan ss
+pub told_run : (d : Draft) (ss : List OptionSetting) → TellsOptions d ss → run_drafted d ≡ run_plan ss
 told_run d ss t = rw (told_step d ss t, t.numbers name.Flushers, t.numbers name.Rotators) refl
 
-pub told_drill : (d : Draft) (ss : List OptionSetting) → Tells d ss → drill_of d ≡ drill_plan ss
+pub told_drill : (d : Draft) (ss : List OptionSetting) → TellsOptions d ss → drill_drafted d ≡ drill_plan ss
 told_drill d ss t = rw (told_store d ss t, t.first, t.second, t.numbers name.Age, t.numbers name.Stop, t.numbers name.Reopen, t.numbers name.Stop2) refl

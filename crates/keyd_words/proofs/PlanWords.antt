@@ -10,7 +10,7 @@ use Rattle.keyd_words.specs.declared.setting.OptionSetting.{OptionSetting}
 use Rattle.keyd_words.specs.declared.command.Command.{Command}
 use Rattle.keyd_words.specs.declared.command.Command.TheVariants as command
 use Rattle.keyd_words.specs.declared.draft.Draft.{Draft}
-use Rattle.keyd_words.specs.Drafts.{Tells, IsDraftOf}
+use Rattle.keyd_words.specs.Drafts.{TellsOptions, IsDraftOf}
 use Rattle.keyd_words.specs.Plans.{key_plan, create_plan, step_plan, run_plan, drill_plan}
 use Rattle.keyd_words.specs.Settings.{settings_words}
 use Rattle.keyd_words.specs.Values.{value_words}
@@ -164,7 +164,7 @@ words_fault built c words (fault.Usage i) known starts is = usage_of built c wor
 words_fault built c words fault.OutOfMemory known starts is = tt
 
 -- what a draft asks for
-pub asked : {P : Type 0} (built : List Command) (c d : Command) (words : List Argument) (draft : Draft) (plan : List OptionSetting → P) (p : P) → c ≡ d → Contains built c → IsDraftOf c words draft → ((ss : List OptionSetting) → Tells draft ss → p ≡ plan ss) → Asks built words d (λ ss. p ≡ plan ss)
+pub asked : {P : Type 0} (built : List Command) (c d : Command) (words : List Argument) (draft : Draft) (plan : List OptionSetting → P) (p : P) → c ≡ d → Contains built c → IsDraftOf c words draft → ((ss : List OptionSetting) → TellsOptions draft ss → p ≡ plan ss) → Asks built words d (λ ss. p ≡ plan ss)
 asked built c d words draft plan p same known is told = record {
   known = subst (Contains built) same known;
   settings = is.settings;

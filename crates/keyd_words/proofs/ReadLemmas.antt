@@ -9,10 +9,10 @@ use Rattle.keyd_words.specs.declared.value.OptionValue.{OptionValue}
 use Rattle.keyd_words.specs.declared.setting.OptionSetting.{OptionSetting}
 use Rattle.keyd_words.specs.Table.{Argument, command_word, row_of}
 use Rattle.keyd_words.specs.Values.{pages_allowed, value_words, AreWordsOf}
-use Rattle.keyd_words.specs.Settings.{settings_words, names_of, spaces_of, pages_in, AreOptionsOf, HasNeeded, MayStand, IsBadValue}
+use Rattle.keyd_words.specs.Settings.{settings_words, names_of, spaces_of, pages_of_spaces, AreOptionsOf, HasNeeded, MayStand, IsBadValue}
 use Rattle.keyd_words.specs.declared.draft.Draft.{Draft}
 use Rattle.keyd_words.specs.declared.text.NewSpace.{NewSpace}
-use Rattle.keyd_words.specs.Drafts.{Tells, IsDraftOf}
+use Rattle.keyd_words.specs.Drafts.{TellsOptions, IsDraftOf}
 use Rattle.keyd_words.proofs.CountLemmas.{few_files}
 use Rattle.keyd_words.proofs.AllowedLemmas.{none_allowed}
 use Rattle.keyd_words.specs.Words.{IsListFor, BeginsList, IsUsageAt, StartsWith}
@@ -93,7 +93,7 @@ step_setting c ws at len n ss word next s written size low is then_is named are 
 -- the words up to a place are the command's, and then the options that the draft has
 pub record ReadsTo (c : Command) (ws : List Argument) (at : ℕ) (draft : Draft) : Type 0 where
   pub settings : List OptionSetting
-  pub tells : Tells draft settings
+  pub tells : TellsOptions draft settings
   pub written : take at ws ≡ command_word c ∷ settings_words settings
   pub allowed : AreOptionsOf c settings
 
@@ -101,14 +101,14 @@ pub record ReadsTo (c : Command) (ws : List Argument) (at : ℕ) (draft : Draft)
 pub at_both : (P : List OptionName → List NewSpace → Type 0) (names names' : List OptionName) (spaces spaces' : List NewSpace) → names ≡ names' → spaces ≡ spaces' → P names spaces → P names' spaces'
 at_both P names names' spaces spaces' a b p = subst (λ xs. P names' xs) b (subst (λ xs. P xs spaces) a p)
 
-pub fit_draft : (c : Command) (ss : List OptionSetting) (draft : Draft) → Tells draft ss → AreOptionsOf c ss → pages_in draft.spaces ≤ pages_allowed
-fit_draft c ss draft tells are = subst (λ xs. pages_in xs ≤ pages_allowed) (sym tells.spaces) are.fit
+pub fit_draft : (c : Command) (ss : List OptionSetting) (draft : Draft) → TellsOptions draft ss → AreOptionsOf c ss → pages_of_spaces draft.spaces ≤ pages_allowed
+fit_draft c ss draft tells are = subst (λ xs. pages_of_spaces xs ≤ pages_allowed) (sym tells.spaces) are.fit
 
-pub few_draft : (c : Command) (ss : List OptionSetting) (draft : Draft) → Tells draft ss → AreOptionsOf c ss → length draft.key_files ≤ 64
+pub few_draft : (c : Command) (ss : List OptionSetting) (draft : Draft) → TellsOptions draft ss → AreOptionsOf c ss → length draft.key_files ≤ 64
 few_draft c ss draft tells are = subst (λ (xs : List Argument). length xs ≤ 64) (sym tells.key_files) (few_files c ss are)
 
 -- no option has been read
-pub reads_none : (c : Command) (ws : List Argument) (draft : Draft) → Tells draft [] → StartsWith c ws → ReadsTo c ws 1 draft
+pub reads_none : (c : Command) (ws : List Argument) (draft : Draft) → TellsOptions draft [] → StartsWith c ws → ReadsTo c ws 1 draft
 reads_none c ws draft tells starts = record { settings = []; tells = tells; written = ap (λ xs. take 1 xs) starts.1; allowed = none_allowed c }
 
 -- all words are read

@@ -32,7 +32,7 @@ number_named f (Some (value.Number n)) = Some (record { name = f; number = n })
 number_named _ _ = None
 
 -- the draft has what these options are set to
-pub record Tells (draft : Draft) (settings : List OptionSetting) : Type 0 where
+pub record TellsOptions (draft : Draft) (settings : List OptionSetting) : Type 0 where
   pub names : draft.names.items ≡ names_of settings
   pub key_files : draft.key_files ≡ file_names settings
   pub filekey : draft.filekey ≡ file_key_set settings
@@ -44,28 +44,28 @@ pub record Tells (draft : Draft) (settings : List OptionSetting) : Type 0 where
   pub numbers : (f : OptionName) → number_among f draft.numbers.items ≡ number_set f settings
 
 -- what the draft asks for
-abbrev pub number_of : OptionName → Draft → Option ℕ
-number_of f draft = number_among f draft.numbers.items
+abbrev pub number_drafted : OptionName → Draft → Option ℕ
+number_drafted f draft = number_among f draft.numbers.items
 
-abbrev pub keys_of : Draft → KeyOptions
-keys_of draft = keys_with draft.key_files draft.filekey draft.digest (number_of name.Active draft)
+abbrev pub keys_drafted : Draft → KeyOptions
+keys_drafted draft = keys_with draft.key_files draft.filekey draft.digest (number_drafted name.Active draft)
 
-abbrev pub store_of : Draft → CreateOptions
-store_of draft = store_with (keys_of draft) draft.spaces (number_of name.Log draft) draft.algorithm
+abbrev pub store_drafted : Draft → CreateOptions
+store_drafted draft = store_with (keys_drafted draft) draft.spaces (number_drafted name.Log draft) draft.algorithm
 
-abbrev pub step_of : Draft → StepOptions
-step_of draft = step_with (keys_of draft) (number_of name.Age draft) (times_in name.Binlog draft.names.items)
+abbrev pub step_drafted : Draft → StepOptions
+step_drafted draft = step_with (keys_drafted draft) (number_drafted name.Age draft) (times_in name.Binlog draft.names.items)
 
-abbrev pub run_of : Draft → RunOptions
-run_of draft = run_with (step_of draft) (number_of name.Flushers draft) (number_of name.Rotators draft)
+abbrev pub run_drafted : Draft → RunOptions
+run_drafted draft = run_with (step_drafted draft) (number_drafted name.Flushers draft) (number_drafted name.Rotators draft)
 
-abbrev pub drill_of : Draft → DrillOptions
-drill_of draft =
-    drill_with (store_of draft) (number_of name.Age draft) (crash_plan (number_of name.Stop draft) draft.first) (number_of name.Reopen draft)
-    (second_plan (number_of name.Stop2 draft) draft.second)
+abbrev pub drill_drafted : Draft → DrillOptions
+drill_drafted draft =
+    drill_with (store_drafted draft) (number_drafted name.Age draft) (crash_plan (number_drafted name.Stop draft) draft.first) (number_drafted name.Reopen draft)
+    (second_plan (number_drafted name.Stop2 draft) draft.second)
 
 -- the draft of words that are a command's list
 pub record IsDraftOf (c : Command) (words : List Argument) (draft : Draft) : Type 0 where
   pub settings : List OptionSetting
   pub list : IsListOf c words settings
-  pub tells : Tells draft settings
+  pub tells : TellsOptions draft settings

@@ -24,38 +24,38 @@ use Rattle.keyd_words.specs.Table.{Argument, row_of}
 use Rattle.keyd_words.specs.Settings.{times_set, spaces_of}
 
 -- the first that is there
-abbrev pub or_else : {X : Type 0} → Option X → Option X → Option X
-or_else (Some x) other = Some x
-or_else None other = other
+abbrev pub first_of_two : {X : Type 0} → Option X → Option X → Option X
+first_of_two (Some x) other = Some x
+first_of_two None other = other
 
 -- the last answer that the elements of a list give
 unfoldable pub last_found : {X Y : Type 0} → (X → Option Y) → List X → Option Y
 last_found f [] = None
-last_found f (x ∷ xs) = or_else (last_found f xs) (f x)
+last_found f (x ∷ xs) = first_of_two (last_found f xs) (f x)
 
-unfoldable pub file_name_in : Option OptionValue → Option Argument
-file_name_in (Some (value.FileName text)) = Some text
-file_name_in _ = None
+unfoldable pub file_name_in_value : Option OptionValue → Option Argument
+file_name_in_value (Some (value.FileName text)) = Some text
+file_name_in_value _ = None
 
-unfoldable pub file_key_in : Option OptionValue → Option Argument
-file_key_in (Some (value.FileKey text)) = Some text
-file_key_in _ = None
+unfoldable pub file_key_in_value : Option OptionValue → Option Argument
+file_key_in_value (Some (value.FileKey text)) = Some text
+file_key_in_value _ = None
 
-unfoldable pub digest_in : Option OptionValue → Option KeyDigest
-digest_in (Some (value.Digest d)) = Some d
-digest_in _ = None
+unfoldable pub digest_in_value : Option OptionValue → Option KeyDigest
+digest_in_value (Some (value.Digest d)) = Some d
+digest_in_value _ = None
 
-unfoldable pub algorithm_in : Option OptionValue → Option Algorithm
-algorithm_in (Some (value.Algorithm a)) = Some a
-algorithm_in _ = None
+unfoldable pub algorithm_in_value : Option OptionValue → Option Algorithm
+algorithm_in_value (Some (value.Algorithm a)) = Some a
+algorithm_in_value _ = None
 
-unfoldable pub first_choices_in : Option OptionValue → Option (List Choice)
-first_choices_in (Some (value.FirstChoices choices)) = Some choices
-first_choices_in _ = None
+unfoldable pub first_choices_in_value : Option OptionValue → Option (List Choice)
+first_choices_in_value (Some (value.FirstChoices choices)) = Some choices
+first_choices_in_value _ = None
 
-unfoldable pub second_choices_in : Option OptionValue → Option (List Choice)
-second_choices_in (Some (value.SecondChoices choices)) = Some choices
-second_choices_in _ = None
+unfoldable pub second_choices_in_value : Option OptionValue → Option (List Choice)
+second_choices_in_value (Some (value.SecondChoices choices)) = Some choices
+second_choices_in_value _ = None
 
 -- the number that a named option is set to, where it is the option asked for
 unfoldable pub number_for : OptionName → OptionName → Option OptionValue → Option ℕ
@@ -67,23 +67,23 @@ abbrev pub number_set : OptionName → List OptionSetting → Option ℕ
 number_set f settings = last_found (λ s. number_for f s.name s.value) settings
 
 abbrev pub file_key_set : List OptionSetting → Option Argument
-file_key_set settings = last_found (λ s. file_key_in s.value) settings
+file_key_set settings = last_found (λ s. file_key_in_value s.value) settings
 
 abbrev pub digest_set : List OptionSetting → Option KeyDigest
-digest_set settings = last_found (λ s. digest_in s.value) settings
+digest_set settings = last_found (λ s. digest_in_value s.value) settings
 
 abbrev pub algorithm_set : List OptionSetting → Option Algorithm
-algorithm_set settings = last_found (λ s. algorithm_in s.value) settings
+algorithm_set settings = last_found (λ s. algorithm_in_value s.value) settings
 
 abbrev pub first_choices_set : List OptionSetting → Option (List Choice)
-first_choices_set settings = last_found (λ s. first_choices_in s.value) settings
+first_choices_set settings = last_found (λ s. first_choices_in_value s.value) settings
 
 abbrev pub second_choices_set : List OptionSetting → Option (List Choice)
-second_choices_set settings = last_found (λ s. second_choices_in s.value) settings
+second_choices_set settings = last_found (λ s. second_choices_in_value s.value) settings
 
 -- the names of the key files, in order
 abbrev pub file_names : List OptionSetting → List Argument
-file_names settings = filter_map (λ s. file_name_in s.value) settings
+file_names settings = filter_map (λ s. file_name_in_value s.value) settings
 
 -- SHA-1 by default; the active version is by default the number of key files
 abbrev pub keys_with : List Argument → Option Argument → Option KeyDigest → Option ℕ → KeyOptions

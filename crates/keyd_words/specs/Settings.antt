@@ -42,11 +42,11 @@ abbrev pub spaces_of : List OptionSetting → List NewSpace
 spaces_of settings = filter_map (λ s. space_in_value s.value) settings
 
 -- the pages of tablespaces, together
-abbrev pub pages_in : List NewSpace → ℕ
-pages_in spaces = sum_by (λ space. space.pages) spaces
+abbrev pub pages_of_spaces : List NewSpace → ℕ
+pages_of_spaces spaces = sum_by (λ space. space.pages) spaces
 
 abbrev pub pages_asked : List OptionSetting → ℕ
-pages_asked settings = pages_in (spaces_of settings)
+pages_asked settings = pages_of_spaces (spaces_of settings)
 
 -- the command takes the option, with this value
 pub record IsTakenBy (command : Command) (s : OptionSetting) : Type 0 where
@@ -76,7 +76,7 @@ pub record AreAllOptionsOf (command : Command) (settings : List OptionSetting) :
 pub record MayStand (command : Command) (names : List OptionName) (spaces : List NewSpace) (f : OptionName) : Type 0 where
   pub taken : takes f command ≡ true
   pub more : times_in f names < (row_of f).most
-  pub pages : (row_of f).form ≡ Some form.Space → pages_in spaces + 2 ≤ pages_allowed
+  pub pages : (row_of f).form ≡ Some form.Space → pages_of_spaces spaces + 2 ≤ pages_allowed
 
 -- no tablespace among these has the id
 abbrev pub IsFree : ℕ → List NewSpace → Type 0
@@ -84,7 +84,7 @@ IsFree id spaces = All (λ space. space.space ≢ id) spaces
 
 -- a value of the right form that may stand behind these tablespaces
 unfoldable pub Joins : List NewSpace → Option OptionValue → Type 0
-Joins spaces (Some (value.Space space)) = IsFree space.space spaces × (pages_in spaces + space.pages ≤ pages_allowed)
+Joins spaces (Some (value.Space space)) = IsFree space.space spaces × (pages_of_spaces spaces + space.pages ≤ pages_allowed)
 Joins spaces _ = Unit {0}
 
 -- the option may stand behind options of these names and tablespaces

@@ -41,13 +41,13 @@ impl Draft {
     ghost use Rattle.std.specs.Prelude.{◌≡◌, [], ◌∷◌, ◌++◌, ◌≤◌, OnOk, IfOk, length};
     ghost use Rattle.std.specs.List.{cons_option};
     ghost use Rattle.keyd_words.specs.Settings.{space_in_value};
-    ghost use Rattle.keyd_words.specs.Plans.{or_else, file_name_in, file_key_in, digest_in, algorithm_in, first_choices_in, second_choices_in};
-    ghost use Rattle.keyd_words.specs.Drafts.{number_among, number_named, Tells, keys_of, store_of, step_of, run_of, drill_of};
+    ghost use Rattle.keyd_words.specs.Plans.{first_of_two, file_name_in_value, file_key_in_value, digest_in_value, algorithm_in_value, first_choices_in_value, second_choices_in_value};
+    ghost use Rattle.keyd_words.specs.Drafts.{number_among, number_named, TellsOptions, keys_drafted, store_drafted, step_drafted, run_drafted, drill_drafted};
 
     // No option has stood.
     #[tactic(auto, unfolding(crate::specs::Plans::last_found))]
     pub(crate) fn empty(alloc: Global) -> Draft
-        ensures { Tells result [] }
+        ensures { TellsOptions result [] }
     {
         Draft {
             names: Vec::new(alloc),
@@ -63,16 +63,16 @@ impl Draft {
     }
 
     // One option more.
-    #[tactic(auto, unfolding(crate::specs::Plans::file_name_in, crate::specs::Plans::file_key_in, crate::specs::Plans::digest_in, crate::specs::Plans::algorithm_in, crate::specs::Plans::first_choices_in, crate::specs::Plans::second_choices_in, crate::specs::Drafts::number_named, crate::specs::Settings::space_in_value))]
+    #[tactic(auto, unfolding(crate::specs::Plans::file_name_in_value, crate::specs::Plans::file_key_in_value, crate::specs::Plans::digest_in_value, crate::specs::Plans::algorithm_in_value, crate::specs::Plans::first_choices_in_value, crate::specs::Plans::second_choices_in_value, crate::specs::Drafts::number_named, crate::specs::Settings::space_in_value))]
     pub(crate) fn note(&mut self, setting: OptionSetting) -> Result<(), OutOfMemory>
         ensures names { OnOk result (self.new.names.items ≡ self.old.names.items ++ setting.name ∷ []) }
-        ensures key_files { OnOk result (self.new.key_files ≡ self.old.key_files ++ cons_option (file_name_in setting.value) []) }
-        ensures filekey { OnOk result (self.new.filekey ≡ or_else (file_key_in setting.value) self.old.filekey) }
-        ensures digest { OnOk result (self.new.digest ≡ or_else (digest_in setting.value) self.old.digest) }
-        ensures algorithm { OnOk result (self.new.algorithm ≡ or_else (algorithm_in setting.value) self.old.algorithm) }
+        ensures key_files { OnOk result (self.new.key_files ≡ self.old.key_files ++ cons_option (file_name_in_value setting.value) []) }
+        ensures filekey { OnOk result (self.new.filekey ≡ first_of_two (file_key_in_value setting.value) self.old.filekey) }
+        ensures digest { OnOk result (self.new.digest ≡ first_of_two (digest_in_value setting.value) self.old.digest) }
+        ensures algorithm { OnOk result (self.new.algorithm ≡ first_of_two (algorithm_in_value setting.value) self.old.algorithm) }
         ensures spaces { OnOk result (self.new.spaces ≡ self.old.spaces ++ cons_option (space_in_value setting.value) []) }
-        ensures first { OnOk result (self.new.first ≡ or_else (first_choices_in setting.value) self.old.first) }
-        ensures second { OnOk result (self.new.second ≡ or_else (second_choices_in setting.value) self.old.second) }
+        ensures first { OnOk result (self.new.first ≡ first_of_two (first_choices_in_value setting.value) self.old.first) }
+        ensures second { OnOk result (self.new.second ≡ first_of_two (second_choices_in_value setting.value) self.old.second) }
         ensures numbers { OnOk result (self.new.numbers.items ≡ self.old.numbers.items ++ cons_option (number_named setting.name setting.value) []) }
     {
         self.names.push(setting.name)?;
@@ -109,7 +109,7 @@ impl Draft {
     // The keys that the options name.
     pub(crate) fn keys(self) -> KeyOptions
         requires { length self.key_files ≤ 64 }
-        ensures { result ≡ keys_of self }
+        ensures { result ≡ keys_drafted self }
     {
         let active = self.number_of(OptionName::Active);
         key_options(self.key_files, self.filekey, self.digest, active)
@@ -118,7 +118,7 @@ impl Draft {
     // The store that they describe.
     pub(crate) fn store(self) -> CreateOptions
         requires { length self.key_files ≤ 64 }
-        ensures { result ≡ store_of self }
+        ensures { result ≡ store_drafted self }
     {
         let active = self.number_of(OptionName::Active);
         let log = self.number_of(OptionName::Log).unwrap_or(LOG_BLOCKS);
@@ -133,7 +133,7 @@ impl Draft {
     // The session that they describe.
     pub(crate) fn step(self) -> StepOptions
         requires { length self.key_files ≤ 64 }
-        ensures { result ≡ step_of self }
+        ensures { result ≡ step_drafted self }
     {
         let age = self.number_of(OptionName::Age).unwrap_or(1);
         let binlog = times_of(&self.names, OptionName::Binlog) > 0;
@@ -144,7 +144,7 @@ impl Draft {
     // The session of threads that they describe.
     pub(crate) fn run(self) -> RunOptions
         requires { length self.key_files ≤ 64 }
-        ensures { result ≡ run_of self }
+        ensures { result ≡ run_drafted self }
     {
         let flushers = self.number_of(OptionName::Flushers).unwrap_or(1);
         let rotators = self.number_of(OptionName::Rotators).unwrap_or(1);
@@ -158,7 +158,7 @@ impl Draft {
     // The drill that they describe.
     pub(crate) fn drill(mut self, alloc: Global) -> Result<DrillOptions, OutOfMemory>
         requires { length self.key_files ≤ 64 }
-        ensures { IfOk result (λ plan. plan ≡ drill_of self) }
+        ensures { IfOk result (λ plan. plan ≡ drill_drafted self) }
     {
         let age = self.number_of(OptionName::Age).unwrap_or(1);
         let reopen = self.number_of(OptionName::Reopen);

@@ -1,7 +1,7 @@
 // Options with their values, and which may stand behind others.
 ghost use Rattle.std.specs.Prelude.{◌≡◌, ◌≤◌, IsTrue, ◌↔◌, MatchOption, IfOk, IfErr, Some};
 ghost use Rattle.keyd_words.specs.Values.{AreWordsOf, pages_allowed};
-ghost use Rattle.keyd_words.specs.Settings.{times_in, space_in_value, pages_in, IsFree, HasNeeded, MayStand, Joins, MayFollow, IsSettingFault};
+ghost use Rattle.keyd_words.specs.Settings.{times_in, space_in_value, pages_of_spaces, IsFree, HasNeeded, MayStand, Joins, MayFollow, IsSettingFault};
 ghost use Rattle.keyd_words.specs.Table.{row_of};
 
 use crate::command::Command;
@@ -60,8 +60,8 @@ pub(crate) fn times_of(names: &[OptionName], name: OptionName) -> usize
 
 // The pages of tablespaces, together.
 fn pages_of(spaces: &[NewSpace]) -> u32
-    requires { pages_in spaces.now ≤ pages_allowed }
-    ensures { result ≡ pages_in spaces.now }
+    requires { pages_of_spaces spaces.now ≤ pages_allowed }
+    ensures { result ≡ pages_of_spaces spaces.now }
 {
     let mut pages = 0;
     for space in spaces {
@@ -84,7 +84,7 @@ fn is_free(spaces: &[NewSpace], id: u32) -> bool
 
 // Whether the option may stand once more behind options of these names and tablespaces.
 fn has_room(command: Command, names: &[OptionName], spaces: &[NewSpace], name: OptionName) -> bool
-    requires { pages_in spaces.now ≤ pages_allowed }
+    requires { pages_of_spaces spaces.now ≤ pages_allowed }
     ensures { IsTrue result ↔ MayStand command names.now spaces.now name }
 {
     let row = name.row();
@@ -104,7 +104,7 @@ fn option_at(
     spaces: &[NewSpace],
     word: &str,
 ) -> Option<OptionName>
-    requires { pages_in spaces.now ≤ pages_allowed }
+    requires { pages_of_spaces spaces.now ≤ pages_allowed }
     ensures { MatchOption result ((f : _) → word.now ≡ (row_of f).word → MayStand command names.now spaces.now f → ⊥) (λ f. (word.now ≡ (row_of f).word) × MayStand command names.now spaces.now f) }
 {
     let name = OptionName::named(word)?;
@@ -116,7 +116,7 @@ fn option_at(
 
 // Whether a value that its form allows may stand behind these tablespaces.
 fn joins(spaces: &[NewSpace], value: &Option<OptionValue>) -> bool
-    requires { pages_in spaces.now ≤ pages_allowed }
+    requires { pages_of_spaces spaces.now ≤ pages_allowed }
     ensures { IsTrue result ↔ Joins spaces.now value.now }
 {
     let Some(space) = space_in(value) else {
@@ -135,7 +135,7 @@ pub(crate) fn read_setting(
     word: &str,
     next: Option<&str>,
 ) -> Result<OptionSetting, SettingFault>
-    requires { pages_in spaces.now ≤ pages_allowed }
+    requires { pages_of_spaces spaces.now ≤ pages_allowed }
     ensures ok { IfOk result (λ s. (word.now ≡ (row_of s.name).word) × AreWordsOf next.entry s.value × MayFollow command names.now spaces.now s) }
     ensures err { IfErr result (IsSettingFault command names.now spaces.now word.now next.entry) }
 {

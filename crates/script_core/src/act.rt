@@ -51,7 +51,7 @@ impl Model for ScriptChanges {
 }
 
 impl ScriptChanges {
-    ghost use Rattle.std.specs.Prelude.{◌≡◌, ◌<◌, ◌≤◌, length, slice_index_or, IfOk};
+    ghost use Rattle.std.specs.Prelude.{◌≡◌, ◌≤◌, length, IfOk};
 
     // These changes, 64 at most. Takes no memory.
     pub(crate) fn of(items: Vec<ScriptChange>) -> ScriptChanges
@@ -59,21 +59,6 @@ impl ScriptChanges {
         ensures { result ≡ items.items }
     {
         ScriptChanges { changes: items }
-    }
-
-    /// How many changes there are.
-    pub fn len(&self) -> usize
-        ensures { result ≡ length self.now }
-    {
-        self.changes.len()
-    }
-
-    /// The change at this place, from 0.
-    pub fn get(&self, i: usize) -> &ScriptChange
-        requires { i < length self.now }
-        ensures { result.now ≡ slice_index_or self.now i result.now }
-    {
-        &self.changes[i]
     }
 
     /// All changes.

@@ -27,7 +27,7 @@ impl Model for Script {
 }
 
 impl Script {
-    ghost use Rattle.std.specs.Prelude.{◌≡◌, ◌≤◌, ◌<◌, ◌-◌, length, slice_index_or, take, drop, IfOk};
+    ghost use Rattle.std.specs.Prelude.{◌≡◌, ◌≤◌, ◌-◌, length, take, drop, IfOk};
 
     pub(crate) fn of(statements: Vec<Statement>) -> Script
         ensures { result ≡ statements.items }
@@ -40,14 +40,6 @@ impl Script {
         ensures { result ≡ length self.now }
     {
         self.statements.len()
-    }
-
-    /// The statement at this place, from 0.
-    pub fn get(&self, i: usize) -> &Statement
-        requires { i < length self.now }
-        ensures { result.now ≡ slice_index_or self.now i result.now }
-    {
-        &self.statements[i]
     }
 
     /// All statements.

@@ -321,7 +321,7 @@ fn a_script_is_cut_at_its_statements(rt: HostRuntime) -> Result<(), Fail> {
     let Act::Mtr { session, changes } = &mtr.act else {
         return Err(Fail::from("another statement"));
     };
-    assert!(rt; *session == 1 && changes.len() == 3);
+    assert!(rt; *session == 1 && changes.changes().len() == 3);
     let [
         ScriptChange::Put { bytes, .. },
         ScriptChange::Fill {

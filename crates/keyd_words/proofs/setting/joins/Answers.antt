@@ -1,7 +1,7 @@
 use Rattle.std.proofs.Common.{rules, ◌≡◌, ◌≤◌, ◌∙◌, sym, arith, Some, None, subst, ◌+◌, ◌-◌}
 use Rattle.std.proofs.lemmas.Bool.Decides.{nat_tests}
 use Rattle.keyd_words.specs.declared.text.NewSpace.{NewSpace}
-use Rattle.keyd_words.specs.Settings.{space_in_value, pages_in, IsFree}
+use Rattle.keyd_words.specs.Settings.{space_in_value, pages_of_spaces, IsFree}
 use Rattle.keyd_words.specs.Values.{pages_allowed}
 use Rattle.keyd_words.proofs.AllowedLemmas.{joins_by, joins_space}
 use Rattle.keyd_words.proofs.setting.joins.Goals as goal
@@ -21,7 +21,7 @@ returns-then-is_free c =
       (λ small. let low : space.pages ≤ 16384 - c.pages_of.result = grind (arith, nat_tests, small) in
           joins_by spaces c.args.value.now
           (λ x is. let same : space ≡ x = let both : Some space ≡ Some x = sym found ∙ is in cc both in
-          subst (λ (y : NewSpace). IsFree y.space spaces × (pages_in spaces + y.pages ≤ pages_allowed)) same (free, omega (arith, low, c.pages_of.ensures, c.requires)))),
+          subst (λ (y : NewSpace). IsFree y.space spaces × (pages_of_spaces spaces + y.pages ≤ pages_allowed)) same (free, omega (arith, low, c.pages_of.ensures, c.requires)))),
       (λ joins. let fit = (joins_space spaces c.args.value.now space joins found).1 in
           let low : space.pages ≤ 16384 - c.pages_of.result = omega (arith, fit, c.pages_of.ensures) in grind (arith, nat_tests, low)),
     )

@@ -2,7 +2,7 @@ use Rattle.std.proofs.Common.{rules, ◌≡◌, ◌≢◌, ◌+◌, take, get_or
 use Rattle.std.proofs.lemmas.List.{take_more, take_all}
 use Rattle.keyd_words.specs.declared.draft.NamedNumber.{NamedNumber}
 use Rattle.keyd_words.specs.declared.table.OptionName.TheVariants.{KeyFile}
-use Rattle.keyd_words.specs.Plans.{last_found, or_else}
+use Rattle.keyd_words.specs.Plans.{last_found, first_of_two}
 use Rattle.keyd_words.specs.Drafts.{number_under, number_among}
 use Rattle.keyd_words.proofs.TableLemmas.{same_word, other_word}
 use Rattle.keyd_words.proofs.PlanLemmas.{last-push}
@@ -20,7 +20,7 @@ loop-set-preserved c =
     let f = c.args.name in
     let item : NamedNumber = get_or items i (record { name = KeyFile; number = 0 }) in
     let so_far = number_among f (take i items) in
-    let Found : Option ℕ → Option ℕ = λ o. or_else o so_far in
+    let Found : Option ℕ → Option ℕ = λ o. first_of_two o so_far in
     let step : number_among f (take (i + 1) items) ≡ Found (number_under f item) =
     ap (number_among f) (take_more items i (record { name = KeyFile; number = 0 }) c.loop-set-test.true) ∙ last-push (number_under f) (take i items) item in
     elim c.if-is.branch [
