@@ -1,5 +1,5 @@
 -- The changes of a text, one after another.
-use Rattle.std.proofs.Common.{◌≡◌, ◌≢◌, ℕ, ◌+◌, List, [], ◌∷◌, ◌++◌, refl, sym, ap, length, arith, subst, ◌∙◌, append_assoc}
+use Rattle.std.proofs.Common.{◌≡◌, ◌≢◌, ℕ, ◌+◌, List, [], ◌∷◌, ◌++◌, refl, sym, ap, length, arith, subst, ◌∙◌, append_assoc, length-append}
 use Rattle.std.proofs.lemmas.List.{append-nil}
 use Rattle.redo_text.specs.declared.change.Change.{Change}
 use Rattle.redo_text.specs.Changes.{Begins, BeginsWithNone}
@@ -7,6 +7,7 @@ use Rattle.redo_text.specs.Text.{change_text, text_of, IsAllowed, AreAllowed}
 use Rattle.redo_text.specs.declared.change.Change.TheVariants.{Put, Kind, Touch, Floor, Encrypt}
 use Rattle.redo_text.proofs.ChangeLaws.{one_rest}
 use Rattle.store_files.specs.RingBlock.{IsMtrText}
+use Rattle.image_log.specs.Logs.{HasNoChangeAt}
 
 text_some : (c : Change) (rest : List ℕ) → change_text c ++ rest ≡ [] → ⊥
 text_some (Put space page at bytes) rest e = absurd (omega (arith, ap length e))
@@ -52,5 +53,21 @@ stuck : (rest : List ℕ) (ds : List Change) → rest ≢ [] → BeginsWithNone 
 stuck rest [] some none is = some is.is
 stuck rest (d ∷ ds) some none is = none d (text_of ds) (record { allowed = is.allowed.0; is = is.is })
 
-pub reads_stuck : (text : List ℕ) (changes : List Change) (rest : List ℕ) → ReadsUpTo text changes rest → rest ≢ [] → BeginsWithNone rest → (cs : List Change) → IsMtrText text cs → ⊥
-reads_stuck text changes rest reads some none cs is = let r = reads.back cs is in stuck rest r.0 some none r.1
+-- ---- a place where no change begins
+
+pub reads_stuck : (text : List ℕ) (changes : List Change) (rest : List ℕ) (at : ℕ) → ReadsUpTo text changes rest → at ≡ length (text_of changes) → rest ≢ [] → BeginsWithNone rest → HasNoChangeAt text at
+reads_stuck text changes rest at reads place some none = record { before = changes; rest = rest; is = reads.is; allowed = reads.allowed; at_is = place; some = some; none = none }
+
+pub length_joined : (cs : List Change) (c : Change) → length (text_of (cs ++ c ∷ [])) ≡ length (text_of cs) + length (change_text c)
+length_joined cs c = ap length (texts_joined cs c) ∙ length-append (text_of cs) (change_text c)
+
+-- such a text is that of no changes
+pub no_changes_of : (text : List ℕ) (at : ℕ) → HasNoChangeAt text at → (cs : List Change) → IsMtrText text cs → ⊥
+no_changes_of text at has cs is = walk has.before cs text has.is has.allowed is
+  where
+    walk : (bs cs : List Change) (text : List ℕ) → text ≡ text_of bs ++ has.rest → AreAllowed bs → IsMtrText text cs → ⊥
+    walk [] cs text same allowed is = stuck has.rest cs has.some has.none (subst (λ (t : List ℕ). IsMtrText t cs) same is)
+    walk (b ∷ bs) cs text same (first, allowed) is =
+        let e : text ≡ change_text b ++ (text_of bs ++ has.rest) = same ∙ append_assoc (change_text b) (text_of bs) has.rest in
+        let r = behind text b (text_of bs ++ has.rest) cs (record { allowed = first; is = e }) is in
+        walk bs r.0 (text_of bs ++ has.rest) refl allowed r.1

@@ -1,9 +1,10 @@
 // Ring blocks at their places.
-ghost use Rattle.std.specs.Prelude.{◌≡◌, ℕ, ◌≤◌, ◌<◌, ◌+◌, ◌*◌, ◌^◌, length, true, false};
+ghost use Rattle.std.specs.Prelude.{◌≡◌, ℕ, ◌≤◌, ◌<◌, ◌+◌, ◌*◌, ◌^◌, length, true, false, IfSome, IfNone};
 ghost use Rattle.byte_list.specs.Bytes.{AreBytes};
 ghost use Rattle.places.specs.Places.{place};
 ghost use Rattle.store_files.specs.RingBlock.{is_ring_block, begins_mtr, ends_mtr};
 ghost use Rattle.store_files.specs.Run.{block_at, IsClear};
+ghost use Rattle.image_log.specs.Late.{IsLateBlock};
 
 use byte_list::fields::{be16_at, be64_at};
 use redo_text::read_block;
@@ -66,18 +67,30 @@ pub(crate) fn ends_mtr(block: &[u8]) -> bool
     be16_at(block, 14) / 2 % 2 == 1
 }
 
-/// Whether no place of the ring has a valid block of this number or a later one.
-pub fn is_clear(log: &[u8], blocks: u32, number: u64) -> bool
+/// A valid block of the ring: its place among the ring's blocks, counted from 0, and its number.
+#[derive(Clone, Copy, Debug, PartialEq, Eq)]
+pub struct LateBlock {
+    /// From 0 on; in the file three blocks stand before them.
+    pub place: u32,
+    /// The number that it names, whose place this needn't be.
+    pub number: u64,
+}
+
+/// The first place of the ring that has a valid block of this number or a later one, and that block.
+pub fn late_block(log: &[u8], blocks: u32, number: u64) -> Option<LateBlock>
     requires long { length log.now ≡ (3 + blocks) * 4096 }
-    ensures yes { result ≡ true → IsClear blocks log.now number }
-    ensures no { result ≡ false → IsClear blocks log.now number → ⊥ }
+    ensures some { IfSome result (IsLateBlock blocks log.now number) }
+    ensures none { IfNone result (IsClear blocks log.now number) }
 {
     for i in 0..blocks {
         let block = place(log, 4096, 3 + i as usize);
         let found = be64_at(block, 0);
         if number <= found && is_ring_block(found, block) {
-            return false;
+            return Some(LateBlock {
+                place: i,
+                number: found,
+            });
         }
     }
-    true
+    None
 }

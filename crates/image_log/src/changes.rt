@@ -4,7 +4,7 @@ ghost use Rattle.redo_text.specs.Changes.{change_of};
 ghost use Rattle.image_log.specs.Logs.{AreChangesOf};
 
 use cause_core::OutOfMemory;
-use redo_text::{Change, ChangeView, Changes, Mtr, Piece};
+use redo_text::{BadRecord, Change, ChangeView, Changes, Mtr, Piece};
 use std::alloc::Global;
 
 // A change with its own bytes.
@@ -30,8 +30,8 @@ fn owned(alloc: Global, view: ChangeView) -> Result<Change, OutOfMemory>
     })
 }
 
-// The changes whose text this is, where there are such.
-pub(crate) fn changes_of(alloc: Global, text: &[u8]) -> Result<Option<Mtr>, OutOfMemory>
+// The changes whose text this is, or the first place in it where none begins.
+pub(crate) fn changes_of(alloc: Global, text: &[u8]) -> Result<Result<Mtr, BadRecord>, OutOfMemory>
     ensures { IfOk result (AreChangesOf text.now) }
 {
     let mut changes = Vec::new(alloc);
@@ -39,8 +39,8 @@ pub(crate) fn changes_of(alloc: Global, text: &[u8]) -> Result<Option<Mtr>, OutO
     'reading: loop {
         match reader.next() {
             Ok(Some(view)) => changes.push(owned(alloc, view)?)?,
-            Ok(None) => return Ok(Some(Mtr::of(changes))),
-            Err(_bad) => return Ok(None),
+            Ok(None) => return Ok(Ok(Mtr::of(changes))),
+            Err(bad) => return Ok(Err(bad)),
         }
     }
 }

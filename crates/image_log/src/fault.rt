@@ -9,10 +9,14 @@ pub enum LogTextFault {
     /// Neither block 1 nor block 2 of the file is a valid checkpoint.
     #[error("no valid checkpoint")]
     NoCheckpoint,
-    /// The whole mini-transaction of the run that begins with this block has no text of changes
-    /// under the keys: the key of one of its blocks is missing, or its text is none.
-    #[error("no changes in the mini-transaction of block {first}")]
-    NoChanges { first: u64 },
+    /// The keys have no version of the log's key, id 1, that this block of a whole mini-transaction of
+    /// the run names.
+    #[error("no key of version {version} for block {number} of the log")]
+    NoKey { number: u64, version: u32 },
+    /// The text of the whole mini-transaction of the run that begins with this block isn't one of
+    /// changes: at this byte of it, before its end, no change begins.
+    #[error("no change at byte {at} of the mini-transaction of block {first}")]
+    NoChanges { first: u64, at: usize },
     /// The machine had no memory for the call.
     #[error("out of memory")]
     OutOfMemory,

@@ -7,7 +7,8 @@
 //! 2. [`newest_checkpoint`] answers the one of `IsNewestCheckpoint`.
 //! 3. [`read_log`] answers what `IsLogOf` says of the log: where the run begins and ends, and its
 //!    mini-transactions; or the first cause for which there is none.
-//! 4. [`is_clear`] tells whether a ring block has a number from a given one on (`IsClear`).
+//! 4. [`late_block`] answers the first ring block that has a number from a given one on, or that there
+//!    is none (`IsClear`).
 #![tactic(auto)]
 
 mod blocks;
@@ -19,7 +20,7 @@ mod log;
 mod run;
 mod text;
 
-pub use blocks::{block_at, is_clear, place};
+pub use blocks::{LateBlock, block_at, late_block, place};
 pub use checkpoint::{RunStart, newest_checkpoint};
 pub use fault::LogTextFault;
 pub use header::{StoreHeader, StoreSpace, read_header};

@@ -4,7 +4,7 @@ ghost use Rattle.redo_text.specs.declared.change.Change.{Change};
 ghost use Rattle.store_image.specs.Places.{LogView};
 ghost use Rattle.store_files.specs.Run.{AreLogEntries, IsLogOf, MakeWholeMtr, MakeWholeMtrs};
 ghost use Rattle.image_log.specs.declared.fault.LogTextFault.TheVariants.{OutOfMemory as NoMemory};
-ghost use Rattle.image_log.specs.Logs.{IsEntryIn, IsEntryFault, IsLogTextFault, IsLongest};
+ghost use Rattle.image_log.specs.Logs.{IsEntryIn, IsEntryFault, IsLogTextFault, IsLongest, IsMtrFault};
 
 use crate::changes::changes_of;
 use crate::checkpoint::newest_checkpoint;
@@ -12,7 +12,6 @@ use crate::fault::LogTextFault;
 use crate::header::StoreHeader;
 use crate::run::{RunSizes, run_from};
 use crate::text::text_of;
-use cause_core::OutOfMemory;
 use key_ring::Ring;
 use redo_text::Mtr;
 use std::alloc::Global;
@@ -106,7 +105,7 @@ impl LogText {
     }
 }
 
-// The mini-transaction in so many blocks from this number on, where they have the text of one.
+// The mini-transaction in so many blocks from this number on.
 fn entry_of(
     alloc: Global,
     header: &StoreHeader,
@@ -114,23 +113,25 @@ fn entry_of(
     log: &[u8],
     number: u64,
     count: u64,
-) -> Result<Option<LogEntry>, OutOfMemory>
+) -> Result<LogEntry, LogTextFault>
     requires long { length log.now ≡ (3 + header.now.blocks) * 4096 }
     requires some { 0 < header.now.blocks }
     requires small { number + count ≤ 2 ^ 51 }
-    ensures { IfOk result (IsEntryIn header.now keys.now log.now number count) }
+    ensures ok { IfOk result (λ entry. IsEntryIn header.now keys.now log.now number count entry) }
+    ensures fault { IfErr result (IsMtrFault header.now keys.now log.now number count) }
 {
-    let Some(text) = text_of(alloc, header, keys, log, number, count)? else {
-        return Ok(None);
-    };
-    let Some(mtr) = changes_of(alloc, text.bytes())? else {
-        return Ok(None);
-    };
-    Ok(Some(LogEntry {
-        first: number,
-        lsn: (number + count) * 4096,
-        mtr,
-    }))
+    let text = text_of(alloc, header, keys, log, number, count)?;
+    match changes_of(alloc, text.bytes())? {
+        Ok(mtr) => Ok(LogEntry {
+            first: number,
+            lsn: (number + count) * 4096,
+            mtr,
+        }),
+        Err(bad) => Err(LogTextFault::NoChanges {
+            first: number,
+            at: bad.at,
+        }),
+    }
 }
 
 // The mini-transactions of a run, of these sizes.
@@ -152,10 +153,7 @@ fn entries_of(
     let mut entries = Vec::new(alloc);
     let mut first = from;
     for size in &run.sizes {
-        let Some(entry) = entry_of(alloc, header, keys, log, first, *size)? else {
-            return Err(LogTextFault::NoChanges { first });
-        };
-        entries.push(entry)?;
+        entries.push(entry_of(alloc, header, keys, log, first, *size)?)?;
         first += *size;
     }
     Ok(entries)
@@ -164,9 +162,9 @@ fn entries_of(
 /// What the log of a store with this header says under these keys.
 ///
 /// # Errors
-/// [`LogTextFault::NoCheckpoint`] where no checkpoint is valid; else [`LogTextFault::NoChanges`] with the
-/// first mini-transaction of the run that has no changes; `OutOfMemory` where the machine has no
-/// memory.
+/// [`LogTextFault::NoCheckpoint`] where no checkpoint is valid; else, for the first mini-transaction of
+/// the run that has no changes, [`LogTextFault::NoKey`] with the first of its blocks whose key is
+/// missing, or [`LogTextFault::NoChanges`]; `OutOfMemory` where the machine has no memory.
 pub fn read_log(
     alloc: Global,
     header: &StoreHeader,

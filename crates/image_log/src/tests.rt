@@ -1,6 +1,9 @@
 // What a log says: a row each, in both modes. The log's file is built by hand from the words of the formats, with 32 ring blocks.
 
-use crate::{LogText, LogTextFault, StoreHeader, block_at, is_clear, read_header, read_log};
+use crate::{
+    LateBlock, LogText, LogTextFault, StoreHeader, block_at, late_block, place, read_header,
+    read_log,
+};
 use aes_core::{Algorithm, BlockKey};
 use byte_list::fields::put;
 use byte_list::zero_bytes;
@@ -54,8 +57,12 @@ fn write_header(rt: &impl Abort, log: &mut [u8], code: u32) {
 }
 
 fn write_checkpoint(rt: &impl Abort, log: &mut [u8], sequence: u64, from: u64) {
+    write_checkpoint_of(rt, log, b"KEYCHK01", sequence, from);
+}
+
+fn write_checkpoint_of(rt: &impl Abort, log: &mut [u8], magic: &[u8; 8], sequence: u64, from: u64) {
     let mut block = [0; 4096];
-    write_at(rt, &mut block, 0, b"KEYCHK01");
+    write_at(rt, &mut block, 0, magic);
     write_at(rt, &mut block, 8, &sequence.to_be_bytes());
     write_at(rt, &mut block, 16, &from.to_be_bytes());
     write_summed(rt, log, 1 + (sequence % 2) as usize, &mut block);
@@ -74,7 +81,7 @@ fn encipher(rt: &impl Abort, algorithm: Algorithm, iv: &[u8; 16], bytes: &mut [u
     }
 }
 
-// The ring block of this number, whose text is the first bytes of its body.
+// The ring block of this number under key version 1, whose text is the first bytes of its body.
 fn write_block(
     rt: &impl Abort,
     log: &mut [u8],
@@ -83,10 +90,23 @@ fn write_block(
     flags: u16,
     text: &[u8],
 ) {
+    write_block_of(rt, log, algorithm, number, 1, flags, text);
+}
+
+// A block that names this key version, enciphered under the key of version 1.
+fn write_block_of(
+    rt: &impl Abort,
+    log: &mut [u8],
+    algorithm: Algorithm,
+    number: u64,
+    version: u32,
+    flags: u16,
+    text: &[u8],
+) {
     assert!(rt; text.len() <= 4076);
     let mut block = [0; 4096];
     write_at(rt, &mut block, 0, &number.to_be_bytes());
-    write_numbers(rt, &mut block, 8, &[1]);
+    write_numbers(rt, &mut block, 8, &[version]);
     write_at(rt, &mut block, 12, &(text.len() as u16).to_be_bytes());
     write_at(rt, &mut block, 14, &flags.to_be_bytes());
     write_at(rt, &mut block, 16, text);
@@ -164,9 +184,32 @@ fn a_torn_checkpoint_is_passed_over(rt: HostRuntime) -> Result<(), Fail> {
         let last = log.as_slice().get(8191).copied().unwrap_or(0);
         write_at(&rt, &mut log, 8191, &[!last]);
         assert!(rt; said(&rt, rt.alloc(), &log)? == Ok((3, 1)));
-        // And the first checkpoint's magic.
-        write_at(&rt, &mut log, 8192, b"KEYCHK02");
+    }
+    Ok(())
+}
+
+#[test]
+fn a_checkpoint_of_another_magic_is_none(rt: HostRuntime) -> Result<(), Fail> {
+    for algorithm in MODES {
+        let mut log = one_put(&rt, rt.alloc(), algorithm)?;
+        write_checkpoint_of(&rt, &mut log, b"KEYCHK02", 1, 2);
         assert!(rt; said(&rt, rt.alloc(), &log)? == Err(LogTextFault::NoCheckpoint));
+    }
+    Ok(())
+}
+
+#[test]
+fn the_first_block_whose_key_is_missing_is_named(rt: HostRuntime) -> Result<(), Fail> {
+    let missing = Err(LogTextFault::NoKey {
+        number: 4,
+        version: 2,
+    });
+    for algorithm in MODES {
+        let mut log = one_put(&rt, rt.alloc(), algorithm)?;
+        // A mini-transaction of the blocks 3 and 4, of which the second names version 2.
+        write_block(&rt, &mut log, algorithm, 3, 1, &[3; 4076]);
+        write_block_of(&rt, &mut log, algorithm, 4, 2, 2, &PUT);
+        assert!(rt; said(&rt, rt.alloc(), &log)? == missing);
     }
     Ok(())
 }
@@ -175,19 +218,41 @@ fn a_torn_checkpoint_is_passed_over(rt: HostRuntime) -> Result<(), Fail> {
 fn a_text_that_is_none_of_changes_is_named(rt: HostRuntime) -> Result<(), Fail> {
     for algorithm in MODES {
         let mut log = one_put(&rt, rt.alloc(), algorithm)?;
-        write_block(&rt, &mut log, algorithm, 3, 3, &[9, 0, 0]);
-        assert!(rt; said(&rt, rt.alloc(), &log)? == Err(LogTextFault::NoChanges { first: 3 }));
+        // A touch of page 1 of space 1, and behind its nine bytes a record of no type.
+        write_block(
+            &rt,
+            &mut log,
+            algorithm,
+            3,
+            3,
+            &[3, 0, 0, 0, 1, 0, 0, 0, 1, 9],
+        );
+        let fault = LogTextFault::NoChanges { first: 3, at: 9 };
+        assert!(rt; said(&rt, rt.alloc(), &log)? == Err(fault));
     }
     Ok(())
 }
 
 #[test]
-fn late_blocks_are_found(rt: HostRuntime) -> Result<(), Fail> {
+fn a_late_block_is_found_at_its_place_and_at_another(rt: HostRuntime) -> Result<(), Fail> {
     for algorithm in MODES {
         let mut log = one_put(&rt, rt.alloc(), algorithm)?;
         write_block(&rt, &mut log, algorithm, 36, 3, &PUT);
         assert!(rt; log.as_slice().len() == 143_360);
-        assert!(rt; is_clear(&log, 32, 37) && !is_clear(&log, 32, 36));
+        let own = LateBlock {
+            place: 4,
+            number: 36,
+        };
+        assert!(rt; late_block(&log, 32, 37).is_none() && late_block(&log, 32, 36) == Some(own));
+        // The same block at the place of number 33.
+        let block = place(&log, 4096, 7).to_vec(rt.alloc())?;
+        write_at(&rt, &mut log, 4 * 4096, &block);
+        let other = LateBlock {
+            place: 1,
+            number: 36,
+        };
+        assert!(rt; log.as_slice().len() == 143_360);
+        assert!(rt; late_block(&log, 32, 36) == Some(other));
     }
     Ok(())
 }

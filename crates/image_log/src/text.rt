@@ -1,14 +1,15 @@
 // The text of a mini-transaction, in its blocks.
-ghost use Rattle.std.specs.Prelude.{◌≡◌, ℕ, List, ◌≤◌, ◌<◌, ◌+◌, ◌*◌, ◌^◌, length, take, MatchOption, IfOk, IfSome, IfNone, None, Some};
+ghost use Rattle.std.specs.Prelude.{◌≡◌, ℕ, List, ◌≤◌, ◌<◌, ◌+◌, ◌*◌, ◌^◌, length, take, MatchOption, IfOk, IfErr, IfSome, IfNone, None, Some};
 ghost use Rattle.aes_core.specs.Algorithm.{deciphered};
 ghost use Rattle.key_ring.specs.Local.{local_key};
 ghost use Rattle.redo_text.specs.Block.{log_iv};
 ghost use Rattle.redo_text.specs.Reading.{block_version};
 ghost use Rattle.store_files.specs.RingBlock.{block_text};
 ghost use Rattle.store_files.specs.Run.{HasText, block_at};
-ghost use Rattle.image_log.specs.Logs.{IsBlockText, IsTextIn};
+ghost use Rattle.image_log.specs.Logs.{IsBlockText, IsKeyFault};
 
 use crate::blocks::block_at;
+use crate::fault::LogTextFault;
 use crate::header::StoreHeader;
 use aes_core::{Algorithm, BlockKey};
 use byte_list::fields::{be16_at, be32_at, be64_at};
@@ -58,7 +59,7 @@ fn block_text(
     Ok(Some(Piece::of(body)))
 }
 
-// The text in so many blocks from this number on, where the keys of all are there.
+// The text in so many blocks from this number on; a fault is the first of them whose key is missing.
 pub(crate) fn text_of(
     alloc: Global,
     header: &StoreHeader,
@@ -66,19 +67,23 @@ pub(crate) fn text_of(
     log: &[u8],
     number: u64,
     count: u64,
-) -> Result<Option<Piece>, OutOfMemory>
+) -> Result<Piece, LogTextFault>
     requires long { length log.now ≡ (3 + header.now.blocks) * 4096 }
     requires some { 0 < header.now.blocks }
     requires small { number + count < 2 ^ 64 }
-    ensures { IfOk result (IsTextIn header.now keys.now log.now number count) }
+    ensures ok { IfOk result (λ text. HasText header.now keys.now log.now number count text) }
+    ensures fault { IfErr result (IsKeyFault header.now keys.now log.now number count) }
 {
     let mut text = Vec::new(alloc);
     for i in 0..count {
         let block = block_at(log, header.blocks(), number + i);
         let Some(part) = block_text(alloc, header, keys, block)? else {
-            return Ok(None);
+            return Err(LogTextFault::NoKey {
+                number: number + i,
+                version: be32_at(block, 8),
+            });
         };
         text.extend_from_slice(part.bytes())?;
     }
-    Ok(Some(Piece::of(text)))
+    Ok(Piece::of(text))
 }

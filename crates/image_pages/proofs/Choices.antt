@@ -120,6 +120,7 @@ module _ (home double : List ℕ) (s p : ℕ) where
     Copy c.index best.text (no_home none) (record { within = best.below; is = best.is })
         (λ j u copy. let m = best.most j u copy.within copy.is in let l = best.lsn in omega (arith, m, l))
         (λ j u copy same. best.first j u copy.within copy.is (same ∙ best.lsn)) refl,
+    λ j u copy same. best.first j u copy.within copy.is (same ∙ best.lsn),
   )
 
   pub unused_choice : is_page_text p home ≡ false → are_zero home ≡ true → Best double s p 64 None → IsTextChoice home double s p answer.Unused

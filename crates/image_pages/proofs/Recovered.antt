@@ -1,8 +1,10 @@
 -- What a page's chosen text, and a live slot, give.
 use Rattle.std.proofs.Common.{◌≡◌, ◌≢◌, ℕ, ◌*◌, ◌<◌, ◌≤◌, Bool, nat_le, if◌then◌else◌, List, [], ◌∷◌, Option, Some, None, refl, sym, ap, subst, ◌∙◌, arith}
-use Rattle.std.specs.Prelude.{Result, Ok, Err, IfErr, IsErrAnd}
+use Rattle.std.specs.Prelude.{Result, Ok, Err, IfErr, IsErrAnd, IsSome, option_map}
 use Rattle.std.specs.Borrow.{Bor}
+use Rattle.key_ring.specs.Local.{local_key}
 use Rattle.key_ring.specs.Ring.{RingEntry}
+use Rattle.page_text.specs.declared.key.PageKey.{PageKey}
 use Rattle.byte_list.specs.Fields.{be32_at, be64_at}
 use Rattle.redo_text.specs.declared.change.Change.{Change}
 use Rattle.page_places.specs.Texts.{text_in}
@@ -13,14 +15,16 @@ use Rattle.store_image.specs.View.{Text, Logged, View, IsChosen, IsLive}
 use Rattle.store_image.proofs.ChosenTexts.{chosen_one}
 use Rattle.space_head.specs.declared.space.SpaceInfo.{SpaceInfo}
 use Rattle.store_files.specs.Header.{HeldHeader}
-use Rattle.store_files.specs.Pages.{Page, Head, Unused, Used, MeansPage, mtr_acts}
+use Rattle.store_files.specs.Pages.{Page, Head, Unused, Used, MeansPage, key_at, key_id_of, mtr_acts}
 use Rattle.crash_image.specs.StoreTheory.{store_theory}
 use Rattle.image_pages.specs.Acting.{IsNamedAt, later_page}
 use Rattle.image_pages.specs.Choosing.{page_view}
 use Rattle.image_pages.specs.Meaning.{IsHeadOf}
-use Rattle.image_pages.specs.Recovering.{run_view, TextGives, IsChosenIn, IsUnrecovered}
+use Rattle.image_pages.specs.Recovering.{run_view, TextGives, IsChosenIn, IsMeaningFault, IsPageFault, IsReadFrom, IsTextFault, text_key}
 use Rattle.image_pages.specs.declared.fault.PageFault.{PageFault}
-use Rattle.image_pages.specs.declared.fault.PageFault.TheVariants.{Text as BadText, OutOfMemory}
+use Rattle.image_pages.specs.declared.fault.PageFault.TheVariants.{NotChosen, Text as BadText, OutOfMemory}
+use Rattle.image_pages.specs.declared.fault.TextFault.{TextFault}
+use Rattle.image_pages.specs.declared.fault.TextFault.TheVariants.{BehindTheRun, NoKey, NotItsText, UnusedHead}
 use Rattle.image_pages.proofs.Views.{chosen_over, live_over}
 
 pub lsn_in : (text : List ℕ) → (text_in text).lsn ≡ be64_at text 16
@@ -61,17 +65,39 @@ module _ (header : HeldHeader) (keys : List RingEntry) (log : LogView (List Chan
     pub chosen_gives : (c : ℕ → ℕ → Page) (chosen : Option Text) → IsChosen (page_view home double) s p chosen → PageRecovers (store_theory header keys salts) v c s p → Gives (store_theory header keys salts) v c s p chosen
     chosen_gives c chosen is r = subst (λ (o : Option Text). Gives (store_theory header keys salts) v c s p o) (chosen_one v s p r.chosen chosen r.is (chosen_run chosen is)) r.gives
 
-    pub no_chosen : (c : ℕ → ℕ → Page) → ((chosen : Option Text) → IsChosen (page_view home double) s p chosen → ⊥) → PageRecovers (store_theory header keys salts) v c s p → ⊥
-    no_chosen c none r = none r.chosen (chosen_over v (page_view home double) s p refl (λ i. refl) r.chosen r.is)
+    -- ---- why it recovers to nothing
 
-    pub no_meaning : (c : ℕ → ℕ → Page) (t : Text) → IsChosen (page_view home double) s p (Some t) → ((x : Page) → MeansPage header keys salts s p t x → ⊥) → PageRecovers (store_theory header keys salts) v c s p → ⊥
-    no_meaning c t is none r = let g = chosen_gives c (Some t) is r in none g.0 g.1
+    pub no_chosen : ((chosen : Option Text) → IsChosen (page_view home double) s p chosen → ⊥) → IsPageFault header keys salts v s p NotChosen
+    no_chosen none chosen is = none chosen (chosen_over v (page_view home double) s p refl (λ i. refl) chosen is)
 
-    pub late_text : (c : ℕ → ℕ → Page) (text : List ℕ) → IsChosen (page_view home double) s p (Some (text_in text)) → log.end * 4096 < be64_at text 16 → PageRecovers (store_theory header keys salts) v c s p → ⊥
-    late_text c text is late r = let g = chosen_gives c (Some (text_in text)) is r in let within = g.2 in let e = lsn_in text in omega (arith, late, within, e)
+    pub late_text : (text : List ℕ) → IsChosen (page_view home double) s p (Some (text_in text)) → log.end * 4096 < be64_at text 16 → IsPageFault header keys salts v s p (BadText BehindTheRun)
+    late_text text is late = (text_in text, chosen_run (Some (text_in text)) is, let e = lsn_in text in omega (arith, late, e))
 
-    pub no_head : (c : ℕ → ℕ → Page) → p ≡ 0 → IsChosen (page_view home double) s p None → PageRecovers (store_theory header keys salts) v c s p → ⊥
-    no_head c zero is r = let g = chosen_gives c None is r in g.0 zero
+    pub no_head : p ≡ 0 → IsChosen (page_view home double) s p None → IsPageFault header keys salts v s p (BadText UnusedHead)
+    no_head zero is = (zero, chosen_run None is)
+
+    read_from : (text : List ℕ) → IsChosen (page_view home double) s p (Some (text_in text)) → be64_at text 16 ≤ log.end * 4096 → IsReadFrom header keys salts v s p (text_in text)
+    read_from text is within = record { is = chosen_run (Some (text_in text)) is; within = let e = lsn_in text in omega (arith, e, within) }
+
+    pub no_head_meaning : (text : List ℕ) → p ≡ 0 → IsChosen (page_view home double) s p (Some (text_in text)) → be64_at text 16 ≤ log.end * 4096 → ((x : Page) → MeansPage header keys salts s p (text_in text) x → ⊥) → IsPageFault header keys salts v s p (BadText NotItsText)
+    no_head_meaning text zero is within none = (text_in text, read_from text is within, (λ some. absurd (some zero)), none)
+
+    -- of a page from page 1 on
+    pub no_meaning : (text : List ℕ) (key_id : ℕ) (salt : List ℕ) (fault : TextFault) → p ≢ 0 → key_id ≡ key_id_of header.spaces s → salts s ≡ salt → IsChosen (page_view home double) s p (Some (text_in text)) → be64_at text 16 ≤ log.end * 4096
+        → ((x : Page) → MeansPage header keys salts s p (text_in text) x → ⊥) → IsMeaningFault (local_key keys key_id (be32_at text 0) salt) (be32_at text 0) fault → IsPageFault header keys salts v s p (BadText fault)
+    no_meaning text key_id salt fault some id same is within none why = by fault why
+      where
+        version_is : (text_in text).version ≡ be32_at text 0
+        version_is = ap (λ (t : Text). t.version) (text_in-is text)
+
+        key_is : text_key header keys salts v s p (text_in text) ≡ local_key keys key_id (be32_at text 0) salt
+        key_is = λ i. local_key keys (sym id i) (version_is i) (same i)
+
+        by : (fault : TextFault) → IsMeaningFault (local_key keys key_id (be32_at text 0) salt) (be32_at text 0) fault → IsPageFault header keys salts v s p (BadText fault)
+        by (NoKey version) (named, clear, missing) = (text_in text, read_from text is within, some, named ∙ sym version_is, (λ z. clear (sym version_is ∙ z)), key_is ∙ missing)
+        by NotItsText keyed = (text_in text, read_from text is within, (λ _ clear missing. keyed (λ z. clear (version_is ∙ z)) (sym key_is ∙ missing)), none)
+        by BehindTheRun why = absurd why
+        by UnusedHead why = absurd why
 
     -- a live slot
     pub slot_recovers : (i : ℕ) (text : List ℕ) (y : Page) → TextGives header keys log s p salts text y → SlotRecovers (store_theory header keys salts) v (λ z q. y) s p (text_in text)
@@ -103,19 +129,41 @@ no_head_means header keys salts s text none (Head info) (z, space, typed, is) = 
 no_head_means header keys salts s text none Unused m = m
 no_head_means header keys salts s text none (Used page) m = m.0 refl
 
--- ---- a page whose chosen text is none
-
-module _ (header : HeldHeader) (keys : List RingEntry) (log : LogView (List Change)) (home double : List ℕ) (s p : ℕ) where
-  pub none_chosen : (fault : PageFault) → IsChosenIn home double s p (Err fault) → fault ≡ BadText → (salt : List ℕ) → IsUnrecovered header keys log home double s p salt
-  none_chosen BadText none e salt = λ salts same c r. no_chosen header keys log home double s p salts c none r
-  none_chosen OutOfMemory none e salt = absurd none
-
 pub if_err : {A : Type 0} {E : Type 0} (r : Result A E) (P : E → Type 0) (e : E) → IsErrAnd r (λ x. x ≡ e) → P e → IfErr r P
 if_err (Ok x) P e is p = tt
 if_err (Err x) P e is p = subst P (sym is) p
 
-pub chosen_some : (home double : List ℕ) (s p : ℕ) (o : Option (Bor (List ℕ))) (text : Bor (List ℕ)) → IsChosenIn home double s p (Ok o) → o ≡ Some text → IsChosen (page_view home double) s p (Some (text_in text.now))
-chosen_some home double s p o text is some = (subst (λ (q : Option (Bor (List ℕ))). IsChosenIn home double s p (Ok q)) some is).1
+pub chosen_some : (home double : List ℕ) (s p : ℕ) (found : Option (Option (Bor (List ℕ)))) (o : Option (Bor (List ℕ))) (text : Bor (List ℕ)) → IsChosenIn home double s p found → found ≡ Some o → o ≡ Some text → IsChosen (page_view home double) s p (Some (text_in text.now))
+chosen_some home double s p found o text is there some = (subst (λ (q : Option (Option (Bor (List ℕ)))). IsChosenIn home double s p q) (there ∙ ap Some some) is).1
 
-pub chosen_none : (home double : List ℕ) (s p : ℕ) (o : Option (Bor (List ℕ))) → IsChosenIn home double s p (Ok o) → o ≡ None → IsChosen (page_view home double) s p None
-chosen_none home double s p o is none = subst (λ (q : Option (Bor (List ℕ))). IsChosenIn home double s p (Ok q)) none is
+pub chosen_none : (home double : List ℕ) (s p : ℕ) (found : Option (Option (Bor (List ℕ)))) (o : Option (Bor (List ℕ))) → IsChosenIn home double s p found → found ≡ Some o → o ≡ None → IsChosen (page_view home double) s p None
+chosen_none home double s p found o is there none = subst (λ (q : Option (Option (Bor (List ℕ)))). IsChosenIn home double s p q) (there ∙ ap Some none) is
+
+no_key : (key : Option PageKey) → key ≡ None → IsSome key → ⊥
+no_key None is some = absurd (cc)
+no_key (Some key) is some = absurd (cc)
+
+-- ---- a page with such a fault recovers to nothing
+
+module _ (header : HeldHeader) (keys : List RingEntry) (salts : ℕ → List ℕ) (v : View (List Change)) (s p : ℕ) (c : ℕ → ℕ → Page) (r : PageRecovers (store_theory header keys salts) v c s p) where
+  gives : (chosen : Option Text) → IsChosen v s p chosen → Gives (store_theory header keys salts) v c s p chosen
+  gives chosen is = subst (λ (o : Option Text). Gives (store_theory header keys salts) v c s p o) (chosen_one v s p r.chosen chosen r.is is) r.gives
+
+  no_text : (fault : TextFault) → IsTextFault header keys salts v s p fault → ⊥
+  no_text BehindTheRun (t, is, late) = let g = gives (Some t) is in let within = g.2 in omega (arith, late, within)
+  no_text (NoKey version) (t, is, some, named, clear, missing) = let g = gives (Some t) is.is in unkeyed g.0 g.1
+    where
+      keyless : key_at header keys salts s t.version ≡ None
+      keyless = ap (λ o. option_map (λ local. record { local = local; algorithm = header.algorithm }) o) missing
+
+      unkeyed : (x : Page) → MeansPage header keys salts s p t x → ⊥
+      unkeyed (Head info) m = some m.0
+      unkeyed Unused m = m
+      unkeyed (Used page) m = no_key (key_at header keys salts s t.version) keyless (m.2.keyed clear)
+  no_text NotItsText (t, is, keyed, none) = let g = gives (Some t) is.is in none g.0 g.1
+  no_text UnusedHead (zero, is) = let g = gives None is in g.0 zero
+
+  pub fault_refuses : (fault : PageFault) → IsPageFault header keys salts v s p fault → fault ≢ OutOfMemory → ⊥
+  fault_refuses NotChosen none some = none r.chosen r.is
+  fault_refuses (BadText fault) is some = no_text fault is
+  fault_refuses OutOfMemory is some = some refl

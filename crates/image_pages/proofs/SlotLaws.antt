@@ -43,9 +43,11 @@ module _ (header : HeldHeader) (keys : List RingEntry) (log : LogView (List Chan
 
 module _ (header : HeldHeader) (keys : List RingEntry) (log : LogView (List Change)) (home double : List ℕ) (s p : ℕ) (salt : List ℕ) (x : Page) (i : ℕ) where
   pub differs : (text : List ℕ) → IsLive (page_view home double) s p i (text_in text) → GivesPage header keys log s p salt text x false → SlotDiffers header keys log home double s p salt x i
-  differs text live none salts same c e agree =
-      let g = slot_gives header keys log home double s p salts c text (agree (text_in text) (live_run header keys log home double s p i (text_in text) live)) in
-      none salts same (subst (λ (y : Page). TextGives header keys log s p salts text y) e g)
+  differs text live none = (
+    text_in text,
+    live_run header keys log home double s p i (text_in text) live,
+    λ salts same c e r. none salts same (subst (λ (y : Page). TextGives header keys log s p salts text y) e (slot_gives header keys log home double s p salts c text r)),
+  )
 
   one_copy : (t u : Text) → slot_in double i ≡ copy_of s p t → slot_in double i ≡ copy_of s p u → t ≡ u
   one_copy t u a b = ap (λ (y : Slot). y.text) (same_slot _ _ (sym a ∙ b))

@@ -3,7 +3,7 @@ use Rattle.std.specs.Prelude.{◌≡◌, ◌≢◌, ℕ, ◌<◌, ◌≤◌, nat
 use Rattle.places.specs.Places.{place}
 use Rattle.page_places.specs.Texts.{held, slot_held, text_in}
 use Rattle.store_image.specs.Groups.{copy_of}
-use Rattle.store_image.specs.View.{Text, Holds, Slot, View, IsChosen}
+use Rattle.store_image.specs.View.{Text, Holds, Slot, View, IsCopy, IsChosen}
 use Rattle.image_pages.specs.declared.choosing.Chosen.{Chosen}
 use Rattle.image_pages.specs.declared.choosing.Chosen.TheVariants.{Home, Copy, Unused, Nothing}
 use Rattle.image_pages.specs.declared.copies.Newest.{Newest}
@@ -41,9 +41,9 @@ abbrev pub Best : List ℕ → ℕ → ℕ → ℕ → Option Newest → Type 0
 Best double s p n None = (j : ℕ) (u : Text) → j < n → slot_in double j ≢ copy_of s p u
 Best double s p n (Some c) = IsBest double s p n c
 
--- The page is read from its home, from this copy, from nothing as it is unused, or it can't be read.
+-- The page is read from its home, from this copy, of those of its LSN the one of least index, from nothing as it is unused, or it can't be read.
 abbrev pub IsTextChoice : List ℕ → List ℕ → ℕ → ℕ → Chosen → Type 0
 IsTextChoice home double s p Home = (held p home ≡ Holds (text_in home)) × IsChosen (page_view home double) s p (Some (text_in home))
-IsTextChoice home double s p (Copy i) = (t : Text) × (slot_in double i ≡ copy_of s p t) × (i < 64) × IsChosen (page_view home double) s p (Some t)
+IsTextChoice home double s p (Copy i) = (t : Text) × (slot_in double i ≡ copy_of s p t) × (i < 64) × IsChosen (page_view home double) s p (Some t) × ((j : ℕ) (u : Text) → IsCopy (page_view home double) s p j u → u.lsn ≡ t.lsn → i ≤ j)
 IsTextChoice home double s p Unused = IsChosen (page_view home double) s p None
 IsTextChoice home double s p Nothing = (chosen : Option Text) → IsChosen (page_view home double) s p chosen → ⊥

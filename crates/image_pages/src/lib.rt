@@ -6,7 +6,7 @@
 //!    least index; else that the page is unused; or that it can't be read.
 //! 2. [`live_text`] answers the text of a slot exactly where `IsLive` says that it can be read from.
 //! 3. [`recover_page`] and [`recover_head`] answer what the chosen text gives with the later changes
-//!    of the run (`PageRecovers`), or that it gives nothing.
+//!    of the run (`PageRecovers`), or the one [`PageFault`] for which it gives nothing.
 //! 4. [`other_slot`] and [`other_head_slot`] find the first live slot that doesn't give the same page
 //!    (`SlotRecovers`).
 #![tactic(auto)]
@@ -23,7 +23,7 @@ mod texts;
 
 pub use choosing::{Chosen, chosen_text, is_placed};
 pub use copies::{Newest, newest_copy};
-pub use fault::PageFault;
+pub use fault::{PageFault, TextFault};
 pub use pages::{recover_head, recover_page};
 pub use slots::{live_text, other_head_slot, other_slot};
 

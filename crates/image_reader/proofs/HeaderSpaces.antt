@@ -3,13 +3,12 @@ use Rattle.std.proofs.Common.{◌≡◌, ℕ, zero, suc, ◌+◌, ◌*◌, ◌<�
 use Rattle.std.proofs.lemmas.Bool.Decides.{nat_tests}
 use Rattle.page_places.proofs.Sums.{and_left, and_right}
 use Rattle.places.specs.Places.{place}
-use Rattle.page_places.specs.Placed.{IsPlaced}
 use Rattle.store_model.specs.declared.contents.SpaceContents.{SpaceContents}
 use Rattle.store_files.specs.Header.{HeldSpace, are_in_order}
 use Rattle.store_files.specs.Pages.{page_in, pages_of, salts_of, has_page}
-use Rattle.crash_image.specs.Recovers.{SpacesLong}
-use Rattle.image_reader.specs.Files.{ImageFiles, image_of, space_bytes}
-use Rattle.image_reader.specs.Refusals.{IsSpaceAt, ArePlaced}
+use Rattle.image_reader.specs.Files.{ImageFiles, space_bytes}
+use Rattle.image_reader.specs.HeaderSpaces.{IsSpaceAt}
+use Rattle.image_reader.specs.Homes.{AreHomesRight, IsHomeRight}
 
 pub record Ordered (id : ℕ) (h : HeldSpace) (hs : List HeldSpace) : Type 0 where
   pub lower : id < h.space
@@ -77,23 +76,17 @@ some_named id [] i h rest order at = absurd (none_head h rest (sym (drop_nil i) 
 some_named id (g ∷ gs) zero h rest order at = let o = ordered id g gs order in subst (λ (x : HeldSpace). 0 < x.pages) (same_head g h gs rest at) o.some
 some_named id (g ∷ gs) (suc i) h rest order at = let o = ordered id g gs order in some_named g.space gs i h rest o.rest at
 
--- the file of a space that the header names is as long as its pages
-pub long_named : (files : ImageFiles) (hs : List HeldSpace) (i : ℕ) (h : HeldSpace) (rest : List HeldSpace) → SpacesLong (image_of files) hs → drop i hs ≡ h ∷ rest → length (space_bytes files.spaces h.space) ≡ h.pages * 16384
-long_named files [] i h rest long at = absurd (none_head h rest (sym (drop_nil i) ∙ at))
-long_named files (g ∷ gs) zero h rest (first, more) at = subst (λ (x : HeldSpace). length (space_bytes files.spaces x.space) ≡ x.pages * 16384) (same_head g h gs rest at) first
-long_named files (g ∷ gs) (suc i) h rest (first, more) at = long_named files gs i h rest more at
-
 -- ---- a fact of each page of each space
 
-pub placed_all : (files : ImageFiles) (hs : List HeldSpace) → ArePlaced files hs → (s p : ℕ) → has_page hs s p ≡ true → IsPlaced p (place 16384 p (space_bytes files.spaces s))
-placed_all files [] are s p has = absurd (true≢false (sym has))
-placed_all files (h ∷ hs) (first, rest) s p has = by (nat_eq h.space s) refl (placed_all files hs rest s p) has
+pub homes_all : (files : ImageFiles) (hs : List HeldSpace) → AreHomesRight files hs → (s p : ℕ) → has_page hs s p ≡ true → IsHomeRight (place 16384 p (space_bytes files.spaces s)) files.double s p
+homes_all files [] are s p has = absurd (true≢false (sym has))
+homes_all files (h ∷ hs) (first, rest) s p has = by (nat_eq h.space s) refl (homes_all files hs rest s p) has
   where
-    by : (b : Bool) → nat_eq h.space s ≡ b → (has_page hs s p ≡ true → IsPlaced p (place 16384 p (space_bytes files.spaces s))) → (if b then nat_lt p h.pages else has_page hs s p) ≡ true → IsPlaced p (place 16384 p (space_bytes files.spaces s))
+    by : (b : Bool) → nat_eq h.space s ≡ b → (has_page hs s p ≡ true → IsHomeRight (place 16384 p (space_bytes files.spaces s)) files.double s p) → (if b then nat_lt p h.pages else has_page hs s p) ≡ true → IsHomeRight (place 16384 p (space_bytes files.spaces s)) files.double s p
     by true same later lt =
         let e : h.space ≡ s = grind (arith, nat_tests) in
         let below : p < h.pages = grind (arith, nat_tests) in
-        subst (λ (z : ℕ). IsPlaced p (place 16384 p (space_bytes files.spaces z))) e (first p below)
+        subst (λ (z : ℕ). IsHomeRight (place 16384 p (space_bytes files.spaces z)) files.double z p) e (first p below)
     by false same later has = later has
 
 -- ---- contents of the spaces from one on

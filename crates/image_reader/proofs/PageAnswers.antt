@@ -12,13 +12,18 @@ use Rattle.store_image.proofs.RecoversOnce.{page_one}
 use Rattle.store_model.specs.declared.contents.PlainPage.{PlainPage}
 use Rattle.store_model.specs.declared.contents.SpaceContents.{SpaceContents}
 use Rattle.store_files.specs.Header.{HeldHeader, HeldSpace}
-use Rattle.store_files.specs.Pages.{Page, Head, page_held, page_in}
+use Rattle.store_files.specs.Pages.{Page, Head as HeadPage, page_held, page_in}
 use Rattle.crash_image.specs.StoreTheory.{store_theory}
-use Rattle.image_pages.specs.Recovering.{run_view, IsRecovered, IsUnrecovered, AgreeBelow, SlotDiffers}
-use Rattle.image_reader.specs.Refusals.{IsOfPage}
-use Rattle.image_reader.specs.Spaces.{IsHeaderInfo, PageGives, PageHolds, PageRefused, HeadHolds, HeadRefused, PagesHold, PagesRefused, SpaceGives, SpaceHolds, SpaceRefused}
+use Rattle.image_pages.specs.Recovering.{run_view, IsRecovered, IsPageFaultUnder, AgreeBelow, SlotDiffers}
+use Rattle.image_pages.specs.declared.fault.PageFault.{PageFault}
+use Rattle.image_pages.specs.declared.fault.PageFault.TheVariants as fault
+use Rattle.image_pages.proofs.Recovered.{fault_refuses}
+use Rattle.image_reader.specs.HeaderSpaces.{IsHeaderInfo}
+use Rattle.image_reader.specs.PageRefusals.{page_refusal, IsPageRefusal, IsPagesRefusal, IsSpaceRefusal, AtHead, AtInfo, AtPage, NoMemory}
+use Rattle.image_reader.specs.Spaces.{PageGives, PageHolds, HeadHolds, PagesHold, SpaceGives, SpaceHolds}
+use Rattle.image_reader.proofs.Recovery.{SpaceHoldsNone}
 use Rattle.image_reader.specs.declared.refusal.Refusal.{Refusal}
-use Rattle.image_reader.specs.declared.refusal.Refusal.TheVariants.{OutOfMemory}
+use Rattle.image_reader.specs.declared.refusal.Refusal.TheVariants.{NoHeader, Length, NoCheckpoint, NoKey, NoChanges, OtherPages, Mixed, NotChosen, NoText, Head, Slot, LateBlock, OutOfMemory}
 
 module _ (header : HeldHeader) (keys : List RingEntry) (log : LogView (List Change)) (home double : List ℕ) where
   pub one_page : (salts : ℕ → List ℕ) (s p : ℕ) (x y : Page) → PageGives header keys log home double salts s p x → PageGives header keys log home double salts s p y → x ≡ y
@@ -31,41 +36,45 @@ module _ (header : HeldHeader) (keys : List RingEntry) (log : LogView (List Chan
     pub page_holds : (x : Page) → IsRecovered header keys log home double s p salt x → AgreeBelow header keys log home double s p salt x 64 → PageHolds header keys log home double salt s p x
     page_holds x is agree = record { any = λ salts same. page_gives x salts same is agree }
 
-    pub text_refused : (r : Refusal) → IsOfPage r → (r ≢ OutOfMemory → IsUnrecovered header keys log home double s p salt) → PageRefused header keys log home double salt s p r
-    text_refused r of_page none = record { of_page = of_page; none = λ some. record { none = λ salts same x g. none some salts same (λ z q. x) g.page } }
+    -- a fault of the page, and a live slot that differs, as a refusal
+    pub fault_refusal : (fault : PageFault) → IsPageFaultUnder header keys log home double s p salt fault → IsPageRefusal header keys log home double salt s p (page_refusal s p fault)
+    fault_refusal fault.NotChosen is = (refl, refl, is)
+    fault_refusal (fault.Text text) is = (refl, refl, is)
+    fault_refusal fault.OutOfMemory is = tt
 
-    other_page : (x : Page) (i : ℕ) → IsRecovered header keys log home double s p salt x → SlotDiffers header keys log home double s p salt x i → (salts : ℕ → List ℕ) → salts s ≡ salt → (y : Page) → PageGives header keys log home double salts s p y → ⊥
-    other_page x i is differs salts same y g =
+    pub slot_refusal : (x : Page) (i : ℕ) → IsRecovered header keys log home double s p salt x → AgreeBelow header keys log home double s p salt x i → SlotDiffers header keys log home double s p salt x i → IsPageRefusal header keys log home double salt s p (Slot s p i)
+    slot_refusal x i is agree differs = (refl, refl, x, is, agree, differs)
+
+    -- a page that is refused holds nothing
+    pub refused_page : (r : Refusal) → IsPageRefusal header keys log home double salt s p r → r ≢ OutOfMemory → (salts : ℕ → List ℕ) → salts s ≡ salt → (y : Page) → PageGives header keys log home double salts s p y → ⊥
+    refused_page (NotChosen z q) (zs, qp, is) some salts same y g = fault_refuses header keys salts (run_view log home double) s p (λ z q. y) g.page fault.NotChosen (is salts same) (λ e. cc)
+    refused_page (NoText z q text) (zs, qp, is) some salts same y g = fault_refuses header keys salts (run_view log home double) s p (λ z q. y) g.page (fault.Text text) (is salts same) (λ e. cc)
+    refused_page (Slot z q i) (zs, qp, x, is, agree, other) some salts same y g =
         let e : y ≡ x = page_one (store_theory header keys salts) (run_view log home double) (λ z q. y) (λ z q. x) s p g.page (is salts same) in
-        differs salts same (λ z q. y) e (λ t live. g.slots i t live)
-
-    pub slot_refused : (x : Page) (i : ℕ) (r : Refusal) → IsOfPage r → IsRecovered header keys log home double s p salt x → SlotDiffers header keys log home double s p salt x i → PageRefused header keys log home double salt s p r
-    slot_refused x i r of_page is differs = record { of_page = of_page; none = λ some. record { none = other_page x i is differs } }
+        other.2 salts same (λ z q. y) e (g.slots i other.0 other.1)
+    refused_page OutOfMemory is some salts same y g = some refl
+    refused_page NoHeader is some salts same y g = is
+    refused_page (Length f) is some salts same y g = is
+    refused_page NoCheckpoint is some salts same y g = is
+    refused_page (NoKey n v) is some salts same y g = is
+    refused_page (NoChanges first at) is some salts same y g = is
+    refused_page (OtherPages first) is some salts same y g = is
+    refused_page (Mixed z q) is some salts same y g = is
+    refused_page (Head z) is some salts same y g = is
+    refused_page (LateBlock i n) is some salts same y g = is
 
 -- ---- page 0
 
 module _ (log : LogView (List Change)) (home double : List ℕ) (s : ℕ) where
-  pub head_holds : (info : SpaceInfo) → ((header : HeldHeader) (keys : List RingEntry) (salt : List ℕ) → IsRecovered header keys log home double s 0 salt (Head info))
-      → ((header : HeldHeader) (keys : List RingEntry) (salt : List ℕ) → AgreeBelow header keys log home double s 0 salt (Head info) 64) → HeadHolds log home double s info
-  head_holds info is agree = record { any = λ header keys salts. page_gives header keys log home double s 0 (salts s) (Head info) salts refl (is header keys (salts s)) (agree header keys (salts s)) }
-
-  pub head_text_refused : (r : Refusal) → IsOfPage r → (r ≢ OutOfMemory → (header : HeldHeader) (keys : List RingEntry) (salt : List ℕ) → IsUnrecovered header keys log home double s 0 salt) → HeadRefused log home double s r
-  head_text_refused r of_page none = record { of_page = of_page; none = λ some header keys salts x g. none some header keys (salts s) salts refl (λ z q. x) g.page }
-
-  pub head_slot_refused : (info : SpaceInfo) (i : ℕ) (r : Refusal) → IsOfPage r → ((header : HeldHeader) (keys : List RingEntry) (salt : List ℕ) → IsRecovered header keys log home double s 0 salt (Head info))
-      → ((header : HeldHeader) (keys : List RingEntry) (salt : List ℕ) → SlotDiffers header keys log home double s 0 salt (Head info) i) → HeadRefused log home double s r
-  head_slot_refused info i r of_page is differs = record {
-    of_page = of_page;
-    none = λ some header keys salts x g.
-        let refused = slot_refused header keys log home double s 0 (salts s) (Head info) i r of_page (is header keys (salts s)) (differs header keys (salts s)) in
-        (refused.none some).none salts refl x g;
-  }
+  pub head_holds : (info : SpaceInfo) → ((header : HeldHeader) (keys : List RingEntry) (salt : List ℕ) → IsRecovered header keys log home double s 0 salt (HeadPage info))
+      → ((header : HeldHeader) (keys : List RingEntry) (salt : List ℕ) → AgreeBelow header keys log home double s 0 salt (HeadPage info) 64) → HeadHolds log home double s info
+  head_holds info is agree = record { any = λ header keys salts. page_gives header keys log home double s 0 (salts s) (HeadPage info) salts refl (is header keys (salts s)) (agree header keys (salts s)) }
 
 -- ---- the pages from page 1 on
 
 module _ (header : HeldHeader) (keys : List RingEntry) (log : LogView (List Change)) (bytes double salt : List ℕ) (s : ℕ) where
-  pub pages_memory : (pages page : ℕ) → 0 < page → page < pages → PagesRefused header keys log bytes double salt s pages OutOfMemory
-  pages_memory pages page some within = record { of_page = tt; page = page; some = some; within = within; none = λ mem. absurd (mem refl) }
+  pub pages_memory : (pages page : ℕ) → 0 < page → page < pages → IsPagesRefusal header keys log bytes double salt s pages OutOfMemory
+  pages_memory pages page some within = record { page = page; some = some; within = within; is = tt }
 
   pub pages_more : (pages new : List (Option PlainPage)) (x : Option PlainPage) (n : ℕ) → length pages + 1 ≡ n → PagesHold header keys log bytes double salt s pages
       → PageHolds header keys log (place 16384 n bytes) double salt s n (page_held x) → new ≡ pages ++ x ∷ [] → PagesHold header keys log bytes double salt s new × length new + 1 ≡ n + 1
@@ -87,11 +96,11 @@ module _ (header : HeldHeader) (keys : List RingEntry) (log : LogView (List Chan
 -- ---- a space
 
 module _ (header : HeldHeader) (keys : List RingEntry) (log : LogView (List Change)) (bytes double : List ℕ) (h : HeldSpace) (info : SpaceInfo) (head : HeadHolds log (place 16384 0 bytes) double h.space info) where
-  one_info : (a b : SpaceInfo) → Head a ≡ Head b → a ≡ b
+  one_info : (a b : SpaceInfo) → HeadPage a ≡ HeadPage b → a ≡ b
   one_info a b e = cc
 
   same_info : (x : SpaceContents) (salts : ℕ → List ℕ) → 0 < h.pages → SpaceGives header keys log bytes double salts h x → x.info ≡ info
-  same_info x salts some g = one_info x.info info (one_page header keys log (place 16384 0 bytes) double salts h.space 0 (Head x.info) (Head info) (g.pages 0 some) (head.any header keys salts))
+  same_info x salts some g = one_info x.info info (one_page header keys log (place 16384 0 bytes) double salts h.space 0 (HeadPage x.info) (HeadPage info) (g.pages 0 some) (head.any header keys salts))
 
   pub space_holds : IsHeaderInfo h info → (pages : List (Option PlainPage)) → length pages + 1 ≡ h.pages → PagesHold header keys log bytes double info.salt h.space pages → SpaceHolds header keys log bytes double h (record { info = info; pages = pages })
   space_holds is pages long each = record {
@@ -108,25 +117,23 @@ module _ (header : HeldHeader) (keys : List RingEntry) (log : LogView (List Chan
       gives salts same zero lt = head.any header keys salts
       gives salts same (suc i) lt = subst (λ (n : ℕ). PageGives header keys log (place 16384 n bytes) double salts h.space n (page_held (slice_index_or pages i None))) (add-one i) ((each.each i (omega (arith, lt, long))).any salts same)
 
-  pub head_differs : (r : Refusal) → IsOfPage r → 0 < h.pages → (IsHeaderInfo h info → ⊥) → SpaceRefused header keys log bytes double h r
-  head_differs r of_page some other = record {
-    of_page = of_page;
-    none = λ mem. record {
-      none = λ x salts same g.
-          let e = same_info x salts some g in
-          other (subst (λ (i : SpaceInfo). IsHeaderInfo h i) e (record { space = g.space; size = g.size; key_id = g.key_id }));
-    };
+  other_head : 0 < h.pages → (IsHeaderInfo h info → ⊥) → SpaceHoldsNone header keys log bytes double h
+  other_head some other = record {
+    none = λ x salts same g. let e = same_info x salts some g in other (subst (λ (i : SpaceInfo). IsHeaderInfo h i) e (record { space = g.space; size = g.size; key_id = g.key_id }));
   }
 
-  pub page_none : (r : Refusal) → 0 < h.pages → PagesRefused header keys log bytes double info.salt h.space h.pages r → SpaceRefused header keys log bytes double h r
-  page_none r some refused = record {
-    of_page = refused.of_page;
-    none = λ mem. record {
-      none = λ x salts same g.
-          let e = same_info x salts some g in
-          (refused.none mem).none salts (same ∙ ap (λ (i : SpaceInfo). i.salt) e) (page_in x refused.page) (g.pages refused.page refused.within);
-    };
+  no_page : (r : Refusal) → r ≢ OutOfMemory → 0 < h.pages → IsPagesRefusal header keys log bytes double info.salt h.space h.pages r → SpaceHoldsNone header keys log bytes double h
+  no_page r mem some refused = record {
+    none = λ x salts same g.
+        let e = same_info x salts some g in
+        refused_page header keys log (place 16384 refused.page bytes) double h.space refused.page info.salt r refused.is mem salts (same ∙ ap (λ (i : SpaceInfo). i.salt) e) (page_in x refused.page) (g.pages refused.page refused.within);
   }
 
-pub head_none : (header : HeldHeader) (keys : List RingEntry) (log : LogView (List Change)) (bytes double : List ℕ) (h : HeldSpace) (r : Refusal) → 0 < h.pages → HeadRefused log (place 16384 0 bytes) double h.space r → SpaceRefused header keys log bytes double h r
-head_none header keys log bytes double h r some refused = record { of_page = refused.of_page; none = λ mem. record { none = λ x salts same g. refused.none mem header keys salts (page_in x 0) (g.pages 0 some) } }
+-- a space that is refused holds nothing
+pub refused_space : (header : HeldHeader) (keys : List RingEntry) (log : LogView (List Change)) (bytes double : List ℕ) (h : HeldSpace) (r : Refusal) → r ≢ OutOfMemory → 0 < h.pages → IsSpaceRefusal header keys log bytes double h r → SpaceHoldsNone header keys log bytes double h
+refused_space header keys log bytes double h r mem some (AtHead refused) = record {
+  none = λ x salts same g. refused_page header keys log (place 16384 0 bytes) double h.space 0 (salts h.space) r (refused header keys (salts h.space)) mem salts refl (page_in x 0) (g.pages 0 some);
+}
+refused_space header keys log bytes double h r mem some (AtInfo info head other is) = other_head header keys log bytes double h info head some other
+refused_space header keys log bytes double h r mem some (AtPage info head is refused) = no_page header keys log bytes double h info head r mem some refused
+refused_space header keys log bytes double h r mem some (NoMemory is) = absurd (mem is)

@@ -6,18 +6,24 @@ use Rattle.places.specs.Places.{place}
 use Rattle.page_places.specs.Views.{view}
 use Rattle.store_image.specs.Places.{LogView}
 use Rattle.store_image.specs.Recovers.{Theory, PageRecovers, SlotRecovers, ViewRecovers, Gives}
-use Rattle.store_image.specs.View.{Text, View}
+use Rattle.store_image.specs.View.{Text, View, IsChosen, IsLive}
 use Rattle.redo_text.specs.declared.change.Change.{Change}
 use Rattle.store_model.specs.declared.contents.SpaceContents.{SpaceContents}
 use Rattle.store_files.specs.Header.{HeldHeader, HeldSpace, are_in_order}
 use Rattle.store_files.specs.Pages.{Page, page_in, pages_of, salts_of, has_page, HaveSpaces}
 use Rattle.crash_image.specs.StoreTheory.{store_theory}
-use Rattle.image_pages.specs.Recovering.{run_view}
+use Rattle.image_pages.specs.Recovering.{run_view, IsReadFrom, IsTextFault}
+use Rattle.image_pages.specs.declared.fault.TextFault.{TextFault}
+use Rattle.image_pages.specs.declared.fault.TextFault.TheVariants.{BehindTheRun, NoKey, NotItsText, UnusedHead}
 use Rattle.image_pages.proofs.Views.{chosen_over, live_over}
 use Rattle.image_reader.specs.Files.{ImageFiles, space_bytes, image_of}
-use Rattle.image_reader.specs.Refusals.{IsSpaceAt}
-use Rattle.image_reader.specs.Spaces.{PageGives, SpaceHoldsNone, AllGive}
+use Rattle.image_reader.specs.HeaderSpaces.{IsSpaceAt}
+use Rattle.image_reader.specs.Spaces.{PageGives, SpaceGives, AllGive}
 use Rattle.image_reader.proofs.HeaderSpaces.{IsFound, ordered, found_whole, found_rest, first_has, first_page, first_salt, if_true, if_false}
+
+-- the space holds nothing
+pub record SpaceHoldsNone (header : HeldHeader) (keys : List RingEntry) (log : LogView (List Change)) (bytes double : List ℕ) (h : HeldSpace) : Type 0 where
+  pub none : (x : SpaceContents) (salts : ℕ → List ℕ) → salts h.space ≡ x.info.salt → SpaceGives header keys log bytes double salts h x → ⊥
 
 -- ---- one page, in its own view and in that of the image
 
@@ -30,6 +36,24 @@ module _ (header : HeldHeader) (keys : List RingEntry) (log : LogView (List Chan
 
   abbrev whole : View (List Change)
   whole = view log (image_of files)
+
+  pub chosen_whole : (chosen : Option Text) → IsChosen one s p chosen → IsChosen whole s p chosen
+  chosen_whole chosen is = chosen_over one whole s p refl (λ i. refl) chosen is
+
+  pub live_whole : (i : ℕ) (t : Text) → IsLive one s p i t → IsLive whole s p i t
+  live_whole i t live = live_over one whole s p refl (λ i. refl) i t live
+
+  pub live_one : (i : ℕ) (t : Text) → IsLive whole s p i t → IsLive one s p i t
+  live_one i t live = live_over whole one s p refl (λ i. refl) i t live
+
+  read_whole : (t : Text) → IsReadFrom header keys salts one s p t → IsReadFrom header keys salts whole s p t
+  read_whole t is = record { is = chosen_whole (Some t) is.is; within = is.within }
+
+  pub fault_whole : (fault : TextFault) → IsTextFault header keys salts one s p fault → IsTextFault header keys salts whole s p fault
+  fault_whole BehindTheRun (t, is, late) = (t, chosen_whole (Some t) is, late)
+  fault_whole (NoKey version) (t, is, some, named, clear, missing) = (t, read_whole t is, some, named, clear, missing)
+  fault_whole NotItsText (t, is, keyed, none) = (t, read_whole t is, keyed, none)
+  fault_whole UnusedHead (first, is) = (first, chosen_whole None is)
 
   module _ (c : ℕ → ℕ → Page) (y : Page) (same : c s p ≡ y) where
     gives_whole : (chosen : Option Text) → Gives T one (λ z q. y) s p chosen → Gives T whole c s p chosen

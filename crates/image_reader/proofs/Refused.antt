@@ -1,16 +1,17 @@
 -- A refusal names a condition that fails: files that recover to contents are never refused.
-use Rattle.std.proofs.Common.{◌≡◌, ◌≢◌, ℕ, true, List, Some, refl, sym, subst, ◌∙◌, arith}
+use Rattle.std.proofs.Common.{◌≡◌, ◌≢◌, ℕ, ◌*◌, ◌<◌, ◌≤◌, true, List, [], length, Option, Some, refl, sym, ap, subst, ◌∙◌, arith}
 use Rattle.disk_model.specs.Image.{Image}
 use Rattle.disk_model.specs.declared.names.FileName.TheVariants.{Log, Double, Space}
 use Rattle.key_ring.specs.Ring.{RingEntry}
 use Rattle.places.specs.Places.{place}
-use Rattle.page_places.specs.Placed.{IsPlaced}
 use Rattle.page_places.specs.Views.{view}
+use Rattle.space_head.specs.declared.space.SpaceInfo.{SpaceInfo}
 use Rattle.store_image.specs.Places.{LogView}
+use Rattle.store_image.specs.View.{Text, IsChosen}
 use Rattle.redo_text.specs.declared.change.Change.{Change}
 use Rattle.store_model.specs.declared.contents.SpaceContents.{SpaceContents}
-use Rattle.store_files.specs.Header.{HeldHeader, are_in_order}
-use Rattle.store_files.specs.Pages.{has_page}
+use Rattle.store_files.specs.Header.{HeldHeader, HeldSpace, are_in_order}
+use Rattle.store_files.specs.Pages.{Page, Head as HeadPage, has_page}
 use Rattle.store_files.proofs.ContentsOnce.{header_order}
 use Rattle.store_files.proofs.RunsOnce.{log_one}
 use Rattle.crash_image.specs.Recovers.{HasHeader, RecoversBy, Recovers}
@@ -19,14 +20,21 @@ use Rattle.image_log.specs.declared.fault.LogTextFault.{LogTextFault}
 use Rattle.image_log.specs.declared.fault.LogTextFault.TheVariants as log
 use Rattle.image_log.proofs.Entries.{fault_refuses}
 use Rattle.image_pages.specs.Choosing.{page_view}
+use Rattle.image_pages.specs.Recovering.{run_view}
 use Rattle.image_pages.proofs.Views.{chosen_over}
 use Rattle.image_reader.specs.Files.{ImageFiles, image_of, space_bytes}
-use Rattle.image_reader.specs.Refusals.{HasFiles, HasLog, HasNoContents, HasHomeFault, IsHeaderFault, IsRefusalOf, IsOfPage, LacksLength, log_refusal}
-use Rattle.image_reader.specs.Spaces.{SpacesRefused}
+use Rattle.image_reader.specs.HeaderSpaces.{IsSpaceAt, IsPageAt, IsHeaderInfo}
+use Rattle.image_reader.specs.Homes.{AreHomesRight, HasHomeFault}
+use Rattle.image_reader.specs.Lengths.{IsLengthFault}
+use Rattle.image_reader.specs.PageRefusals.{IsPageRefusal, IsSpaceRefusal, IsSpacesRefusal, AtHead, AtInfo, AtPage, NoMemory}
+use Rattle.image_reader.specs.Refusals.{HasFiles, HasLog, HasRun, HasHomes, HasNoContents, HasHead, IsReadUnder, IsHeaderFault, IsRefusalOf, log_refusal}
+use Rattle.image_reader.specs.Spaces.{HeadHolds}
 use Rattle.image_reader.specs.declared.refusal.Refusal.{Refusal}
-use Rattle.image_reader.specs.declared.refusal.Refusal.TheVariants.{NoHeader, Length, NoCheckpoint, NoChanges, OtherPages, Mixed, NoText, Head, Slot, LateBlock, OutOfMemory}
-use Rattle.image_reader.proofs.HeaderSpaces.{has_named}
-use Rattle.image_reader.proofs.Recovery.{none_recovers}
+use Rattle.image_reader.specs.declared.refusal.Refusal.TheVariants.{NoHeader, Length, NoCheckpoint, NoKey, NoChanges, OtherPages, Mixed, NotChosen, NoText, Head, Slot, LateBlock, OutOfMemory}
+use Rattle.image_reader.proofs.Firsts.{long_named, run_at}
+use Rattle.image_reader.proofs.HeaderSpaces.{has_named, some_named, homes_all}
+use Rattle.image_reader.proofs.PageAnswers.{refused_space}
+use Rattle.image_reader.proofs.Recovery.{none_recovers, page_whole, slot_whole, slot_one_view, fault_whole, live_whole, live_one}
 
 module _ (image : Image) (keys : List RingEntry) (c : List SpaceContents) (last : ℕ) (r : Recovers image keys c last) where
   one_header : (h g : HeldHeader) → Some h ≡ Some g → h ≡ g
@@ -40,22 +48,26 @@ module _ (image : Image) (keys : List RingEntry) (c : List SpaceContents) (last 
       let by = by_header header is.files.is_header in
       subst (λ (l : LogView (List Change)). RecoversBy image keys header l c) (log_one header keys (image.bytes Log) r.log text by.run is.is) by
 
-  other : (log.NoCheckpoint ≢ log.OutOfMemory) × ((first : ℕ) → log.NoChanges first ≢ log.OutOfMemory)
-  other = (λ e. cc, λ first e. cc)
+  by_log : (header : HeldHeader) (fault : LogTextFault) → HasFiles image keys header → IsLogTextFault header keys (image.bytes Log) fault → fault ≢ log.OutOfMemory → ⊥
+  by_log header fault files is some = fault_refuses header keys (image.bytes Log) fault is some r.log (by_header header files.is_header).run
 
   pub never_refused : (refusal : Refusal) → IsRefusalOf image keys refusal → refusal ≢ OutOfMemory → ⊥
   never_refused NoHeader none some = let long = r.by.long.log in none (omega (arith, long)) r.header r.is_header
-  never_refused (Length Log) (header, is, lacks) some = lacks (by_header header is).long.log
-  never_refused (Length Double) (header, is, lacks) some = lacks (by_header header is).long.double
-  never_refused (Length (Space s)) (header, is, lacks) some = lacks (by_header header is).long.spaces
-  never_refused NoCheckpoint (header, files, fault) some = fault_refuses header keys (image.bytes Log) log.NoCheckpoint fault other.0 r.log (by_header header files.is_header).run
-  never_refused (NoChanges first) (header, files, fault) some = fault_refuses header keys (image.bytes Log) (log.NoChanges first) fault (other.1 first) r.log (by_header header files.is_header).run
-  never_refused (OtherPages first) (header, text, is, others) some = others (by_text header text is).of_store
-  never_refused (Mixed s p) (header, text, is, has, placed) some = placed ((by_text header text is).placed s p has)
-  never_refused (NoText s p) (header, text, none) some = none.none c (by_text header text none.log)
-  never_refused (Head s) (header, text, none) some = none.none c (by_text header text none.log)
-  never_refused (Slot s p i) (header, text, none) some = none.none c (by_text header text none.log)
-  never_refused LateBlock (header, text, is, late) some = late (by_text header text is).clear
+  never_refused (Length Log) (header, is, long, lacks) some = lacks (by_header header is).long.log
+  never_refused (Length Double) (header, is, long, lacks) some = lacks.1 (by_header header is).long.double
+  never_refused (Length (Space s)) (header, is, long, lacks) some =
+      let first = lacks.2 in
+      first.other (ap (λ (n : ℕ). length (image.bytes (Space n))) first.id ∙ long_named image header.spaces first.named.index first.space _ (by_header header is).long.spaces first.named.is)
+  never_refused NoCheckpoint (header, files, fault) some = by_log header log.NoCheckpoint files fault (λ e. cc)
+  never_refused (NoKey number version) (header, files, fault) some = by_log header (log.NoKey number version) files fault (λ e. cc)
+  never_refused (NoChanges first at) (header, files, fault) some = by_log header (log.NoChanges first at) files fault (λ e. cc)
+  never_refused (OtherPages first) (header, text, is, f) some = f.other (run_at header.spaces text.run f.index f.entry _ (by_text header text is).of_store f.is)
+  never_refused (Mixed s p) (header, text, is, has, placed) some = placed ((by_text header text is.log).placed s p has)
+  never_refused (NotChosen s p) (header, text, is, has, none) some = let page = (by_text header text is.log).pages.pages s p has in none page.chosen page.is
+  never_refused (NoText s p fault) (header, text, f) some = f.none.none c (by_text header text f.none.homes.run.log)
+  never_refused (Head s) (header, text, f) some = f.none.none c (by_text header text f.none.homes.run.log)
+  never_refused (Slot s p i) (header, text, f) some = f.none.none c (by_text header text f.none.homes.run.log)
+  never_refused (LateBlock i number) (header, text, found, has, late) some = (by_text header text has.homes.run.log).clear i number late.within late.least late.is
   never_refused OutOfMemory u some = some refl
 
 -- ---- the refusal of each step
@@ -65,86 +77,154 @@ module _ (image : Image) (keys : List RingEntry) where
   header_refused NoHeader none = none
   header_refused (Length f) is = absurd is
   header_refused NoCheckpoint is = absurd is
-  header_refused (NoChanges first) is = absurd is
+  header_refused (NoKey number version) is = absurd is
+  header_refused (NoChanges first at) is = absurd is
   header_refused (OtherPages first) is = absurd is
   header_refused (Mixed s p) is = absurd is
-  header_refused (NoText s p) is = absurd is
+  header_refused (NotChosen s p) is = absurd is
+  header_refused (NoText s p fault) is = absurd is
   header_refused (Head s) is = absurd is
   header_refused (Slot s p i) is = absurd is
-  header_refused LateBlock is = absurd is
+  header_refused (LateBlock i number) is = absurd is
   header_refused OutOfMemory is = tt
 
-  pub length_refused : (header : HeldHeader) → HasHeader image header → (refusal : Refusal) → LacksLength image header refusal → IsRefusalOf image keys refusal
-  length_refused header is (Length f) lacks = (header, is, lacks)
-  length_refused header is NoHeader lacks = absurd lacks
-  length_refused header is NoCheckpoint lacks = absurd lacks
-  length_refused header is (NoChanges first) lacks = absurd lacks
-  length_refused header is (OtherPages first) lacks = absurd lacks
-  length_refused header is (Mixed s p) lacks = absurd lacks
-  length_refused header is (NoText s p) lacks = absurd lacks
-  length_refused header is (Head s) lacks = absurd lacks
-  length_refused header is (Slot s p i) lacks = absurd lacks
-  length_refused header is LateBlock lacks = absurd lacks
-  length_refused header is OutOfMemory lacks = absurd lacks
+  pub length_refused : (header : HeldHeader) → HasHeader image header → 12288 ≤ length (image.bytes Log) → (refusal : Refusal) → IsLengthFault image header refusal → IsRefusalOf image keys refusal
+  length_refused header is long (Length f) lacks = (header, is, long, lacks)
+  length_refused header is long NoHeader lacks = absurd lacks
+  length_refused header is long NoCheckpoint lacks = absurd lacks
+  length_refused header is long (NoKey number version) lacks = absurd lacks
+  length_refused header is long (NoChanges first at) lacks = absurd lacks
+  length_refused header is long (OtherPages first) lacks = absurd lacks
+  length_refused header is long (Mixed s p) lacks = absurd lacks
+  length_refused header is long (NotChosen s p) lacks = absurd lacks
+  length_refused header is long (NoText s p fault) lacks = absurd lacks
+  length_refused header is long (Head s) lacks = absurd lacks
+  length_refused header is long (Slot s p i) lacks = absurd lacks
+  length_refused header is long (LateBlock i number) lacks = absurd lacks
+  length_refused header is long OutOfMemory lacks = absurd lacks
 
   pub log_refused : (header : HeldHeader) → HasFiles image keys header → (fault : LogTextFault) → IsLogTextFault header keys (image.bytes Log) fault → IsRefusalOf image keys (log_refusal fault)
   log_refused header is log.NoCheckpoint fault = (header, is, fault)
-  log_refused header is (log.NoChanges first) fault = (header, is, fault)
+  log_refused header is (log.NoKey number version) fault = (header, is, fault)
+  log_refused header is (log.NoChanges first at) fault = (header, is, fault)
   log_refused header is log.OutOfMemory fault = tt
 
-  page_refused : (header : HeldHeader) (text : LogView (List Change)) → (refusal : Refusal) → IsOfPage refusal → (refusal ≢ OutOfMemory → HasNoContents image keys header text) → IsRefusalOf image keys refusal
-  page_refused header text (NoText s p) is none = (header, text, none (λ e. cc))
-  page_refused header text (Head s) is none = (header, text, none (λ e. cc))
-  page_refused header text (Slot s p i) is none = (header, text, none (λ e. cc))
-  page_refused header text OutOfMemory is none = tt
-  page_refused header text NoHeader is none = absurd is
-  page_refused header text (Length f) is none = absurd is
-  page_refused header text NoCheckpoint is none = absurd is
-  page_refused header text (NoChanges first) is none = absurd is
-  page_refused header text (OtherPages first) is none = absurd is
-  page_refused header text (Mixed s p) is none = absurd is
-  page_refused header text LateBlock is none = absurd is
-
-module _ (files : ImageFiles) (keys : List RingEntry) (header : HeldHeader) (text : LogView (List Change)) (is : HasLog (image_of files) keys header text) where
+module _ (files : ImageFiles) (keys : List RingEntry) (header : HeldHeader) (text : LogView (List Change)) (run : HasRun (image_of files) keys header text) where
   order : are_in_order 0 header.spaces ≡ true
-  order = header_order (place 4096 0 files.log) header is.files.is_header
+  order = header_order (place 4096 0 files.log) header run.log.files.is_header
 
-  pub contents_refused : (refusal : Refusal) → SpacesRefused header keys text files header.spaces refusal → IsRefusalOf (image_of files) keys refusal
-  contents_refused refusal refused = page_refused (image_of files) keys header text refusal refused.of_page (λ some. record {
-    log = is;
-    none = λ c by. let one = refused.none some in none_recovers header keys text files c by.pages order by.spaces one.space one.named one.none;
-  })
+  -- a fact of a page is one of the page that a refusal names
+  moved : (P : ℕ → ℕ → Type 0) (s p z q : ℕ) → z ≡ s → q ≡ p → P s p → P z q
+  moved P s p z q zs qp fact = subst (λ (n : ℕ). P n q) (sym zs) (subst (λ (n : ℕ). P s n) (sym qp) fact)
 
   pub home_refused : (refusal : Refusal) → HasHomeFault files header.spaces refusal → IsRefusalOf (image_of files) keys refusal
   home_refused (Mixed z q) f =
       let p = f.fault.0 in
-      let has = has_named header.spaces f.space p order f.named f.fault.1 in
-      let space = f.fault.2.0 in
-      let page = f.fault.2.1 in (
-        header,
-        text,
-        is,
-        (λ i. has_page header.spaces (space i) (page i)) ∙ has,
-        λ placed. f.fault.2.2 (subst (λ (n : ℕ). IsPlaced n (place 16384 n (space_bytes files.spaces f.space.space))) page (subst (λ (n : ℕ). IsPlaced q (place 16384 q (space_bytes files.spaces n))) space placed)),
-      )
-  home_refused (NoText z q) f = (
-    header,
-    text,
-    record {
-      log = is;
-      none = λ c by.
-          let p = f.fault.0 in
-          let has = has_named header.spaces f.space p order f.named f.fault.1 in
-          let r = by.pages.pages f.space.space p has in
-          f.fault.2.2 r.chosen (chosen_over (view text (image_of files)) (page_view (place 16384 p (space_bytes files.spaces f.space.space)) files.double) f.space.space p refl (λ i. refl) r.chosen r.is);
-    },
-  )
+      let s = f.space.space in
+      let fault = f.fault.2 in
+      moved (λ s p. IsRefusalOf (image_of files) keys (Mixed s p)) s p z q fault.0 fault.1 (header, text, run, has_named header.spaces f.space p order f.named f.fault.1, fault.2)
+  home_refused (NotChosen z q) f =
+      let p = f.fault.0 in
+      let s = f.space.space in
+      let fault = f.fault.2 in
+      let none = λ (o : Option Text) (is : IsChosen (view text (image_of files)) s p o). fault.2 o (chosen_over (view text (image_of files)) (page_view (place 16384 p (space_bytes files.spaces s)) files.double) s p refl (λ i. refl) o is) in
+      moved (λ s p. IsRefusalOf (image_of files) keys (NotChosen s p)) s p z q fault.0 fault.1 (header, text, run, has_named header.spaces f.space p order f.named f.fault.1, none)
   home_refused NoHeader f = absurd f.fault.2
   home_refused (Length g) f = absurd f.fault.2
   home_refused NoCheckpoint f = absurd f.fault.2
-  home_refused (NoChanges first) f = absurd f.fault.2
+  home_refused (NoKey number version) f = absurd f.fault.2
+  home_refused (NoChanges first at) f = absurd f.fault.2
   home_refused (OtherPages first) f = absurd f.fault.2
+  home_refused (NoText s p fault) f = absurd f.fault.2
   home_refused (Head s) f = absurd f.fault.2
   home_refused (Slot s p i) f = absurd f.fault.2
-  home_refused LateBlock f = absurd f.fault.2
+  home_refused (LateBlock i number) f = absurd f.fault.2
   home_refused OutOfMemory f = absurd f.fault.2
+
+  pub homes_of : AreHomesRight files header.spaces → HasHomes (image_of files) keys header text
+  homes_of are = record {
+    run = run;
+    placed = λ s p has. (homes_all files header.spaces are s p has).placed;
+    chosen = λ s p has.
+        let home = homes_all files header.spaces are s p has in
+        (home.chosen, chosen_over (page_view (place 16384 p (space_bytes files.spaces s)) files.double) (view text (image_of files)) s p refl (λ i. refl) home.chosen home.is);
+  }
+
+module _ (files : ImageFiles) (keys : List RingEntry) (header : HeldHeader) (text : LogView (List Change)) (homes : HasHomes (image_of files) keys header text) where
+  head_memory : (s : ℕ) → Head s ≡ OutOfMemory → ⊥
+  head_memory s e = cc
+
+  abbrev image : Image
+  image = image_of files
+
+  ordered : are_in_order 0 header.spaces ≡ true
+  ordered = order files keys header text homes.run
+
+  module _ (h : HeldSpace) (named : IsSpaceAt header.spaces h) where
+    abbrev bytes : List ℕ
+    bytes = space_bytes files.spaces h.space
+
+    page_refused : (p : ℕ) (salt : List ℕ) → p < h.pages → IsReadUnder image keys header text h.space p salt → (r : Refusal) → (r ≢ OutOfMemory → HasNoContents image keys header text) → IsPageRefusal header keys text (place 16384 p bytes) files.double salt h.space p r → IsRefusalOf image keys r
+    page_refused p salt within under (NotChosen z q) none (zs, qp, is) =
+        moved files keys header text homes.run (λ s p. IsRefusalOf image keys (NotChosen s p)) h.space p z q zs qp (
+          header,
+          text,
+          homes.run,
+          has_named header.spaces h p ordered named within,
+          λ o chosen. is (λ _. salt) refl o (chosen_over (view text image) (run_view text (place 16384 p bytes) files.double) h.space p refl (λ i. refl) o chosen),
+        )
+    page_refused p salt within under (NoText z q fault) none (zs, qp, is) =
+        moved files keys header text homes.run (λ s p. IsRefusalOf image keys (NoText s p fault)) h.space p z q zs qp
+        (header, text, record { none = none (λ e. cc); salt = salt; under = under; is = λ salts same. fault_whole header keys text files salts h.space p fault (is salts same) })
+    page_refused p salt within under (Slot z q i) none (zs, qp, x, is, agree, other) =
+        moved files keys header text homes.run (λ s p. IsRefusalOf image keys (Slot s p i)) h.space p z q zs qp (
+          header,
+          text,
+          record {
+            none = none (λ e. cc);
+            salt = salt;
+            under = under;
+            holds = x;
+            is = λ salts same. page_whole header keys text files salts h.space p (λ z q. x) x refl (is salts same);
+            before = λ j u lt at salts same. slot_whole header keys text files salts h.space p (λ z q. x) x refl u (agree j lt salts same u (live_one header keys text files salts h.space p j u at));
+            other = other.0;
+            live = live_whole header keys text files (λ _. salt) h.space p i other.0 other.1;
+            differs = λ salts same r. other.2 salts same (λ z q. x) refl (slot_one_view header keys text files salts h.space p (λ z q. x) x refl other.0 r);
+          },
+        )
+    page_refused p salt within under OutOfMemory none is = tt
+    page_refused p salt within under NoHeader none is = absurd is
+    page_refused p salt within under (Length f) none is = absurd is
+    page_refused p salt within under NoCheckpoint none is = absurd is
+    page_refused p salt within under (NoKey n v) none is = absurd is
+    page_refused p salt within under (NoChanges first at) none is = absurd is
+    page_refused p salt within under (OtherPages first) none is = absurd is
+    page_refused p salt within under (Mixed z q) none is = absurd is
+    page_refused p salt within under (Head z) none is = absurd is
+    page_refused p salt within under (LateBlock i n) none is = absurd is
+
+    head_of : (info : SpaceInfo) → HeadHolds text (place 16384 0 bytes) files.double h.space info → HasHead image keys header text h.space info
+    head_of info holds = record { is = λ salts. page_whole header keys text files salts h.space 0 (λ z q. HeadPage info) (HeadPage info) refl (holds.any header keys salts).page }
+
+    page_at : (p : ℕ) → p < h.pages → IsPageAt header.spaces h.space p
+    page_at p within = record { space = h; named = named; id = refl; within = within }
+
+    pub space_refused : (r : Refusal) → 0 < h.pages → (r ≢ OutOfMemory → HasNoContents image keys header text) → IsSpaceRefusal header keys text bytes files.double h r → IsRefusalOf image keys r
+    space_refused r some none (AtHead is) = page_refused 0 [] some (record { page = page_at 0 some; salted = λ other. absurd (other refl) }) r none (is header keys [])
+    space_refused r some none (AtInfo info holds other is) =
+        subst (λ (x : Refusal). IsRefusalOf image keys x) (sym is)
+        (header, text, record { none = none (λ e. head_memory h.space (sym is ∙ e)); space = h; named = named; id = refl; info = info; head = head_of info holds; other = other })
+    space_refused r some none (AtPage info holds is refused) =
+        page_refused refused.page info.salt refused.within (record { page = page_at refused.page refused.within; salted = λ _. record { info = info; head = head_of info holds; is = refl } }) r none refused.is
+    space_refused r some none (NoMemory is) = subst (λ (x : Refusal). IsRefusalOf image keys x) (sym is) tt
+
+  pub contents_refused : (r : Refusal) → IsSpacesRefusal header keys text files header.spaces r → IsRefusalOf image keys r
+  contents_refused r refused =
+      let h = refused.space in
+      let some = some_named 0 header.spaces refused.named.index h _ ordered refused.named.is in
+      let bytes = space_bytes files.spaces h.space in
+      let none : r ≢ OutOfMemory → HasNoContents image keys header text = λ mem. record {
+        homes = homes;
+        none = λ c by. none_recovers header keys text files c by.pages ordered by.spaces h refused.named (refused_space header keys text bytes files.double h r mem some refused.is);
+      } in
+      space_refused h refused.named r some none refused.is

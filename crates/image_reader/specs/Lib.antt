@@ -1,3 +1,7 @@
 pub mod Files
-pub mod Refusals
+pub mod HeaderSpaces
+pub mod Lengths
+pub mod Homes
 pub mod Spaces
+pub mod PageRefusals
+pub mod Refusals

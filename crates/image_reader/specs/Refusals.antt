@@ -1,73 +1,40 @@
--- Why the files of a store recover to nothing: which condition of Recovers fails.
-use Rattle.std.specs.Prelude.{◌≡◌, ◌≢◌, ℕ, ◌+◌, ◌*◌, ◌<◌, ◌≤◌, true, List, [], ◌∷◌, length, drop, Option}
+-- Why the files of a store recover to nothing: which condition of Recovers fails, and where.
+use Rattle.std.specs.Prelude.{◌≡◌, ◌≢◌, ℕ, ◌+◌, ◌*◌, ◌<◌, ◌≤◌, true, List, length, Option, Some}
 use Rattle.disk_model.specs.Image.{Image}
 use Rattle.disk_model.specs.declared.names.FileName.TheVariants.{Log, Double, Space}
 use Rattle.key_ring.specs.Ring.{RingEntry}
 use Rattle.places.specs.Places.{place}
 use Rattle.page_places.specs.Placed.{IsPlaced}
+use Rattle.page_places.specs.Views.{view}
+use Rattle.space_head.specs.declared.space.SpaceInfo.{SpaceInfo}
 use Rattle.store_image.specs.Places.{LogView}
-use Rattle.store_image.specs.View.{Text, IsChosen}
+use Rattle.store_image.specs.Recovers.{PageRecovers, SlotRecovers, ViewRecovers}
+use Rattle.store_image.specs.View.{Text, IsChosen, IsLive}
 use Rattle.redo_text.specs.declared.change.Change.{Change}
 use Rattle.store_model.specs.declared.contents.SpaceContents.{SpaceContents}
 use Rattle.store_files.specs.Header.{HeldHeader, HeldSpace}
-use Rattle.store_files.specs.Pages.{has_page}
-use Rattle.store_files.specs.Run.{IsLogOf, IsClear}
-use Rattle.crash_image.specs.Recovers.{HasHeader, AreLong, SpacesLong, RunIsOfStore, RecoversBy}
+use Rattle.store_files.specs.Pages.{Page, Head as HeadPage, HaveSpaces, has_page, pages_of, salts_of}
+use Rattle.store_files.specs.Run.{IsLogOf}
+use Rattle.crash_image.specs.StoreTheory.{store_theory}
+use Rattle.crash_image.specs.Recovers.{HasHeader, AreLong, RunIsOfStore, RecoversBy}
+use Rattle.image_log.specs.Late.{IsLateBlock}
 use Rattle.image_log.specs.Logs.{IsLogTextFault}
+use Rattle.image_log.specs.declared.blocks.LateBlock.{LateBlock as Late}
 use Rattle.image_log.specs.declared.fault.LogTextFault.{LogTextFault}
 use Rattle.image_log.specs.declared.fault.LogTextFault.TheVariants as log
-use Rattle.image_pages.specs.Choosing.{page_view}
-use Rattle.image_reader.specs.Files.{ImageFiles, space_bytes}
+use Rattle.image_pages.specs.Recovering.{IsTextFault}
+use Rattle.image_pages.specs.declared.fault.TextFault.{TextFault}
+use Rattle.image_reader.specs.HeaderSpaces.{IsSpaceAt, IsPageAt, IsHeaderInfo}
+use Rattle.image_reader.specs.Lengths.{IsFirstForeign, IsLengthFault}
 use Rattle.image_reader.specs.declared.refusal.Refusal.{Refusal}
-use Rattle.image_reader.specs.declared.refusal.Refusal.TheVariants.{NoHeader, Length, NoCheckpoint, NoChanges, OtherPages, Mixed, NoText, Head, Slot, LateBlock, OutOfMemory}
+use Rattle.image_reader.specs.declared.refusal.Refusal.TheVariants.{NoHeader, Length, NoCheckpoint, NoKey, NoChanges, OtherPages, Mixed, NotChosen, NoText, Head, Slot, LateBlock, OutOfMemory}
 
 -- a fault of the log as a refusal
 abbrev pub log_refusal : LogTextFault → Refusal
 log_refusal log.NoCheckpoint = NoCheckpoint
-log_refusal (log.NoChanges first) = NoChanges first
+log_refusal (log.NoKey number version) = NoKey number version
+log_refusal (log.NoChanges first at) = NoChanges first at
 log_refusal log.OutOfMemory = OutOfMemory
-
--- a space of the header, and its place among them
-pub record IsSpaceAt (spaces : List HeldSpace) (h : HeldSpace) : Type 0 where
-  pub index : ℕ
-  pub is : drop index spaces ≡ h ∷ drop (index + 1) spaces
-
--- no home of the first pages has the text of another page
-abbrev pub PlacedBelow : List ℕ → ℕ → Type 0
-PlacedBelow bytes n = (p : ℕ) → p < n → IsPlaced p (place 16384 p bytes)
-
-abbrev pub ArePlaced : ImageFiles → List HeldSpace → Type 0
-ArePlaced files [] = Unit {0}
-ArePlaced files (h ∷ hs) = PlacedBelow (space_bytes files.spaces h.space) h.pages × ArePlaced files hs
-
--- a home has the text of another page, or its page is read from nothing
-abbrev pub IsHomeFault : List ℕ → List ℕ → ℕ → ℕ → Refusal → Type 0
-IsHomeFault home double s p (Mixed z q) = (z ≡ s) × (q ≡ p) × (IsPlaced p home → ⊥)
-IsHomeFault home double s p (NoText z q) = (z ≡ s) × (q ≡ p) × ((chosen : Option Text) → IsChosen (page_view home double) s p chosen → ⊥)
-IsHomeFault home double s p r = ⊥
-
-abbrev pub IsSpaceFault : List ℕ → List ℕ → ℕ → ℕ → Refusal → Type 0
-IsSpaceFault bytes double s pages r = (p : ℕ) × (p < pages) × IsHomeFault (place 16384 p bytes) double s p r
-
-pub record HasHomeFault (files : ImageFiles) (spaces : List HeldSpace) (r : Refusal) : Type 0 where
-  pub space : HeldSpace
-  pub named : IsSpaceAt spaces space
-  pub fault : IsSpaceFault (space_bytes files.spaces space.space) files.double space.space space.pages r
-
--- what is said of a page, a head or a slot
-abbrev pub IsOfPage : Refusal → Type 0
-IsOfPage (NoText s p) = Unit {0}
-IsOfPage (Head s) = Unit {0}
-IsOfPage (Slot s p i) = Unit {0}
-IsOfPage OutOfMemory = Unit {0}
-IsOfPage r = ⊥
-
--- a file isn't as long as the header says
-abbrev pub LacksLength : Image → HeldHeader → Refusal → Type 0
-LacksLength image header (Length Log) = length (image.bytes Log) ≢ (3 + header.blocks) * 4096
-LacksLength image header (Length Double) = length (image.bytes Double) ≢ 64 * 16896
-LacksLength image header (Length (Space s)) = SpacesLong image header.spaces → ⊥
-LacksLength image header r = ⊥
 
 module _ (image : Image) (keys : List RingEntry) where
   -- the header and the lengths of the files are right
@@ -80,23 +47,89 @@ module _ (image : Image) (keys : List RingEntry) where
     pub files : HasFiles header
     pub is : IsLogOf header keys (image.bytes Log) text
 
-  -- under this header and with this log there are no contents to which the image recovers
-  pub record HasNoContents (header : HeldHeader) (text : LogView (List Change)) : Type 0 where
+  -- and its changes are of the store's pages
+  pub record HasRun (header : HeldHeader) (text : LogView (List Change)) : Type 0 where
     pub log : HasLog header text
-    pub none : (c : List SpaceContents) → RecoversBy image keys header text c → ⊥
+    pub of_store : RunIsOfStore header.spaces text.run
 
-  -- Which condition fails, where those of the header, the lengths and the log's text before it hold.
+  -- and no home has the text of another page, and each page is read from something
+  pub record HasHomes (header : HeldHeader) (text : LogView (List Change)) : Type 0 where
+    pub run : HasRun header text
+    pub placed : (s p : ℕ) → has_page header.spaces s p ≡ true → IsPlaced p (place 16384 p (image.bytes (Space s)))
+    pub chosen : (s p : ℕ) → has_page header.spaces s p ≡ true → (o : Option Text) × IsChosen (view text image) s p o
+
+  -- and these are the contents that all pages give
+  pub record HasContents (header : HeldHeader) (text : LogView (List Change)) (c : List SpaceContents) : Type 0 where
+    pub homes : HasHomes header text
+    pub spaces : HaveSpaces header.spaces c
+    pub pages : ViewRecovers (store_theory header keys (salts_of c)) (view text image) (pages_of c)
+
+  module _ (header : HeldHeader) (text : LogView (List Change)) where
+    -- the homes are right, and there are no contents
+    pub record HasNoContents : Type 0 where
+      pub homes : HasHomes header text
+      pub none : (c : List SpaceContents) → RecoversBy image keys header text c → ⊥
+
+    -- page 0 of a space recovers to this head, whatever the salts are
+    pub record HasHead (s : ℕ) (info : SpaceInfo) : Type 0 where
+      pub is : (salts : ℕ → List ℕ) → PageRecovers (store_theory header keys salts) (view text image) (λ z q. HeadPage info) s 0
+
+    -- the salt that page 0 of a space says
+    pub record IsHeadSalt (s : ℕ) (salt : List ℕ) : Type 0 where
+      pub info : SpaceInfo
+      pub head : HasHead s info
+      pub is : salt ≡ info.salt
+
+    -- the page is one of the store's, and this is the salt under which it is read; page 0 is in clear, and needs none
+    pub record IsReadUnder (s p : ℕ) (salt : List ℕ) : Type 0 where
+      pub page : IsPageAt header.spaces s p
+      pub salted : p ≢ 0 → IsHeadSalt s salt
+
+    -- what the page is read from doesn't give it
+    pub record HasTextFault (s p : ℕ) (fault : TextFault) : Type 0 where
+      pub none : HasNoContents
+      pub salt : List ℕ
+      pub under : IsReadUnder s p salt
+      pub is : (salts : ℕ → List ℕ) → salts s ≡ salt → IsTextFault header keys salts (view text image) s p fault
+
+    -- page 0 recovers, and says another size or key id of its space than the header
+    pub record HasOtherHead (s : ℕ) : Type 0 where
+      pub none : HasNoContents
+      pub space : HeldSpace
+      pub named : IsSpaceAt header.spaces space
+      pub id : s ≡ space.space
+      pub info : SpaceInfo
+      pub head : HasHead s info
+      pub other : IsHeaderInfo space info → ⊥
+
+    -- the page recovers to what it holds, slot i is live with a text that gives another, and each live slot before it gives the same
+    pub record HasOtherSlot (s p i : ℕ) : Type 0 where
+      pub none : HasNoContents
+      pub salt : List ℕ
+      pub under : IsReadUnder s p salt
+      pub holds : Page
+      pub is : (salts : ℕ → List ℕ) → salts s ≡ salt → PageRecovers (store_theory header keys salts) (view text image) (λ z q. holds) s p
+      pub before : (j : ℕ) (t : Text) → j < i → IsLive (view text image) s p j t → (salts : ℕ → List ℕ) → salts s ≡ salt → SlotRecovers (store_theory header keys salts) (view text image) (λ z q. holds) s p t
+      pub other : Text
+      pub live : IsLive (view text image) s p i other
+      pub differs : (salts : ℕ → List ℕ) → salts s ≡ salt → SlotRecovers (store_theory header keys salts) (view text image) (λ z q. holds) s p other → ⊥
+
+  -- Which condition fails, and where: the conditions before it, in the order of Refusal, hold.
   abbrev pub IsRefusalOf : Refusal → Type 0
   IsRefusalOf NoHeader = 12288 ≤ length (image.bytes Log) → (header : HeldHeader) → HasHeader image header → ⊥
-  IsRefusalOf (Length f) = (header : HeldHeader) × HasHeader image header × LacksLength image header (Length f)
+  IsRefusalOf (Length f) = (header : HeldHeader) × HasHeader image header × (12288 ≤ length (image.bytes Log)) × IsLengthFault image header (Length f)
   IsRefusalOf NoCheckpoint = (header : HeldHeader) × HasFiles header × IsLogTextFault header keys (image.bytes Log) log.NoCheckpoint
-  IsRefusalOf (NoChanges first) = (header : HeldHeader) × HasFiles header × IsLogTextFault header keys (image.bytes Log) (log.NoChanges first)
-  IsRefusalOf (OtherPages first) = (header : HeldHeader) × (text : LogView (List Change)) × HasLog header text × (RunIsOfStore header.spaces text.run → ⊥)
-  IsRefusalOf (Mixed s p) = (header : HeldHeader) × (text : LogView (List Change)) × HasLog header text × (has_page header.spaces s p ≡ true) × (IsPlaced p (place 16384 p (image.bytes (Space s))) → ⊥)
-  IsRefusalOf (NoText s p) = (header : HeldHeader) × (text : LogView (List Change)) × HasNoContents header text
-  IsRefusalOf (Head s) = (header : HeldHeader) × (text : LogView (List Change)) × HasNoContents header text
-  IsRefusalOf (Slot s p i) = (header : HeldHeader) × (text : LogView (List Change)) × HasNoContents header text
-  IsRefusalOf LateBlock = (header : HeldHeader) × (text : LogView (List Change)) × HasLog header text × (IsClear header.blocks (image.bytes Log) (text.end + header.blocks) → ⊥)
+  IsRefusalOf (NoKey number version) = (header : HeldHeader) × HasFiles header × IsLogTextFault header keys (image.bytes Log) (log.NoKey number version)
+  IsRefusalOf (NoChanges first at) = (header : HeldHeader) × HasFiles header × IsLogTextFault header keys (image.bytes Log) (log.NoChanges first at)
+  IsRefusalOf (OtherPages first) = (header : HeldHeader) × (text : LogView (List Change)) × HasLog header text × IsFirstForeign header.spaces text.run first
+  IsRefusalOf (Mixed s p) = (header : HeldHeader) × (text : LogView (List Change)) × HasRun header text × (has_page header.spaces s p ≡ true) × (IsPlaced p (place 16384 p (image.bytes (Space s))) → ⊥)
+  IsRefusalOf (NotChosen s p) = (header : HeldHeader) × (text : LogView (List Change)) × HasRun header text × (has_page header.spaces s p ≡ true) × ((o : Option Text) → IsChosen (view text image) s p o → ⊥)
+  IsRefusalOf (NoText s p fault) = (header : HeldHeader) × (text : LogView (List Change)) × HasTextFault header text s p fault
+  IsRefusalOf (Head s) = (header : HeldHeader) × (text : LogView (List Change)) × HasOtherHead header text s
+  IsRefusalOf (Slot s p i) = (header : HeldHeader) × (text : LogView (List Change)) × HasOtherSlot header text s p i
+  IsRefusalOf (LateBlock place number) =
+      (header : HeldHeader) × (text : LogView (List Change)) × (c : List SpaceContents) × HasContents header text c
+      × IsLateBlock header.blocks (image.bytes Log) (text.end + header.blocks) (record { place = place; number = number })
   IsRefusalOf OutOfMemory = Unit {0}
 
 -- the header is the image's, the image recovers to the contents by it and by the log's text, and this is the run's last block

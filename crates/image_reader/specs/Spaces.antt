@@ -1,5 +1,5 @@
 -- What the homes and slots of one space give under the header, the keys and the log's text.
-use Rattle.std.specs.Prelude.{◌≡◌, ◌≢◌, ℕ, ◌+◌, ◌<◌, List, [], ◌∷◌, length, slice_index_or, Option, None}
+use Rattle.std.specs.Prelude.{◌≡◌, ℕ, ◌+◌, ◌<◌, List, [], ◌∷◌, length, slice_index_or, Option, None}
 use Rattle.key_ring.specs.Ring.{RingEntry}
 use Rattle.places.specs.Places.{place}
 use Rattle.store_image.specs.Places.{LogView}
@@ -14,15 +14,6 @@ use Rattle.store_files.specs.Pages.{Page, Head, page_held, page_in}
 use Rattle.crash_image.specs.StoreTheory.{store_theory}
 use Rattle.image_pages.specs.Recovering.{run_view}
 use Rattle.image_reader.specs.Files.{ImageFiles, space_bytes}
-use Rattle.image_reader.specs.Refusals.{IsSpaceAt, IsOfPage}
-use Rattle.image_reader.specs.declared.refusal.Refusal.{Refusal}
-use Rattle.image_reader.specs.declared.refusal.Refusal.TheVariants.{OutOfMemory}
-
--- a head says what the header says of its space
-pub record IsHeaderInfo (h : HeldSpace) (info : SpaceInfo) : Type 0 where
-  pub space : info.space ≡ h.space
-  pub size : info.pages ≡ h.pages
-  pub key_id : info.key_id ≡ h.key_id
 
 module _ (header : HeldHeader) (keys : List RingEntry) (log : LogView (List Change)) (home double : List ℕ) where
   -- a page holds this, where the spaces have these salts, and each live slot gives the same
@@ -34,34 +25,14 @@ module _ (header : HeldHeader) (keys : List RingEntry) (log : LogView (List Chan
   pub record PageHolds (salt : List ℕ) (s p : ℕ) (x : Page) : Type 0 where
     pub any : (salts : ℕ → List ℕ) → salts s ≡ salt → PageGives salts s p x
 
-  -- or it holds nothing
-  pub record PageHoldsNone (salt : List ℕ) (s p : ℕ) : Type 0 where
-    pub none : (salts : ℕ → List ℕ) → salts s ≡ salt → (x : Page) → PageGives salts s p x → ⊥
-
-  -- a page that is refused holds nothing
-  pub record PageRefused (salt : List ℕ) (s p : ℕ) (r : Refusal) : Type 0 where
-    pub of_page : IsOfPage r
-    pub none : r ≢ OutOfMemory → PageHoldsNone salt s p
-
 -- page 0, whatever the header, the keys and the salts are
 pub record HeadHolds (log : LogView (List Change)) (home double : List ℕ) (s : ℕ) (info : SpaceInfo) : Type 0 where
   pub any : (header : HeldHeader) (keys : List RingEntry) (salts : ℕ → List ℕ) → PageGives header keys log home double salts s 0 (Head info)
-
-pub record HeadRefused (log : LogView (List Change)) (home double : List ℕ) (s : ℕ) (r : Refusal) : Type 0 where
-  pub of_page : IsOfPage r
-  pub none : r ≢ OutOfMemory → (header : HeldHeader) (keys : List RingEntry) (salts : ℕ → List ℕ) (x : Page) → PageGives header keys log home double salts s 0 x → ⊥
 
 module _ (header : HeldHeader) (keys : List RingEntry) (log : LogView (List Change)) (bytes double : List ℕ) where
   -- the first of these pages from page 1 on, as many as these, hold them
   pub record PagesHold (salt : List ℕ) (s : ℕ) (pages : List (Option PlainPage)) : Type 0 where
     pub each : (i : ℕ) → i < length pages → PageHolds header keys log (place 16384 (i + 1) bytes) double salt s (i + 1) (page_held (slice_index_or pages i None))
-
-  pub record PagesRefused (salt : List ℕ) (s pages : ℕ) (r : Refusal) : Type 0 where
-    pub of_page : IsOfPage r
-    pub page : ℕ
-    pub some : 0 < page
-    pub within : page < pages
-    pub none : r ≢ OutOfMemory → PageHoldsNone header keys log (place 16384 page bytes) double salt s page
 
   -- the space holds this, where the spaces have these salts
   pub record SpaceGives (salts : ℕ → List ℕ) (h : HeldSpace) (x : SpaceContents) : Type 0 where
@@ -75,14 +46,6 @@ module _ (header : HeldHeader) (keys : List RingEntry) (log : LogView (List Chan
   pub record SpaceHolds (h : HeldSpace) (x : SpaceContents) : Type 0 where
     pub any : (salts : ℕ → List ℕ) → salts h.space ≡ x.info.salt → SpaceGives salts h x
 
-  -- the space holds nothing
-  pub record SpaceHoldsNone (h : HeldSpace) : Type 0 where
-    pub none : (x : SpaceContents) (salts : ℕ → List ℕ) → salts h.space ≡ x.info.salt → SpaceGives salts h x → ⊥
-
-  pub record SpaceRefused (h : HeldSpace) (r : Refusal) : Type 0 where
-    pub of_page : IsOfPage r
-    pub none : r ≢ OutOfMemory → SpaceHoldsNone h
-
 module _ (header : HeldHeader) (keys : List RingEntry) (log : LogView (List Change)) (files : ImageFiles) where
   -- these spaces hold these contents
   abbrev pub AllGive : List HeldSpace → List SpaceContents → Type 0
@@ -90,13 +53,3 @@ module _ (header : HeldHeader) (keys : List RingEntry) (log : LogView (List Chan
   AllGive [] (x ∷ xs) = ⊥
   AllGive (h ∷ hs) [] = ⊥
   AllGive (h ∷ hs) (x ∷ xs) = SpaceHolds header keys log (space_bytes files.spaces h.space) files.double h x × AllGive hs xs
-
-  -- one of the spaces holds nothing
-  pub record OneHoldsNone (spaces : List HeldSpace) : Type 0 where
-    pub space : HeldSpace
-    pub named : IsSpaceAt spaces space
-    pub none : SpaceHoldsNone header keys log (space_bytes files.spaces space.space) files.double space
-
-  pub record SpacesRefused (spaces : List HeldSpace) (r : Refusal) : Type 0 where
-    pub of_page : IsOfPage r
-    pub none : r ≢ OutOfMemory → OneHoldsNone spaces

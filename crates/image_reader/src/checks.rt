@@ -3,8 +3,8 @@ ghost use Rattle.std.specs.Prelude.{◌≡◌, ◌≤◌, ◌<◌, ◌+◌, ◌*
 ghost use Rattle.store_files.specs.Pages.{has_page};
 ghost use Rattle.crash_image.specs.Recovers.{AreLong, AreOfStore, IsOfStore, RunIsOfStore, SpacesLong};
 ghost use Rattle.image_reader.specs.Files.{image_of, space_bytes};
-ghost use Rattle.page_places.specs.Placed.{IsPlaced};
-ghost use Rattle.image_reader.specs.Refusals.{ArePlaced, HasHomeFault, IsHomeFault, IsSpaceFault, LacksLength, PlacedBelow};
+ghost use Rattle.image_reader.specs.Homes.{AreHomesRight, AreRightBelow, HasHomeFault, IsHomeFault, IsHomeRight, IsSpaceFault};
+ghost use Rattle.image_reader.specs.Lengths.{IsFirstForeign, IsFirstOther, IsLengthFault};
 
 use crate::files::StoreFiles;
 use crate::refusal::Refusal;
@@ -25,7 +25,7 @@ fn has_length(files: &StoreFiles, space: &StoreSpace) -> bool
 // The first of these spaces whose file isn't as long as its pages.
 fn other_length(files: &StoreFiles, spaces: &[StoreSpace]) -> Option<u32>
     ensures none { IfNone result (SpacesLong (image_of files.now) spaces.now) }
-    ensures some { IfSome result (λ space. SpacesLong (image_of files.now) spaces.now → ⊥) }
+    ensures some { IfSome result (IsFirstOther (image_of files.now) spaces.now) }
 {
     for space in spaces {
         if !has_length(files, space) {
@@ -38,7 +38,7 @@ fn other_length(files: &StoreFiles, spaces: &[StoreSpace]) -> Option<u32>
 /// Whether each file is as long as the header says.
 pub(crate) fn check_lengths(files: &StoreFiles, header: &StoreHeader) -> Result<(), Refusal>
     ensures ok { OnOk result (AreLong (image_of files.now) header.now) }
-    ensures fault { IfErr result (LacksLength (image_of files.now) header.now) }
+    ensures fault { IfErr result (IsLengthFault (image_of files.now) header.now) }
 {
     if files.log().len() as u64 != (3 + u64::from(header.blocks())) * 4096 {
         return Err(Refusal::Length(FileName::Log));
@@ -93,7 +93,7 @@ fn are_of_store(spaces: &[StoreSpace], mtr: &Mtr) -> bool
 /// first block.
 pub(crate) fn other_pages(header: &StoreHeader, log: &LogText) -> Option<u64>
     ensures none { IfNone result (RunIsOfStore header.now.spaces log.now.run) }
-    ensures some { IfSome result (λ first. RunIsOfStore header.now.spaces log.now.run → ⊥) }
+    ensures some { IfSome result (IsFirstForeign header.now.spaces log.now.run) }
 {
     for entry in log.run() {
         if !are_of_store(header.spaces(), entry.mtr()) {
@@ -107,14 +107,14 @@ pub(crate) fn other_pages(header: &StoreHeader, log: &LogText) -> Option<u64>
 fn check_home(home: &[u8], double: &[u8], space: u32, page: u32) -> Result<(), Refusal>
     requires home { length home.now ≡ 16384 }
     requires double { length double.now ≡ 64 * 16896 }
-    ensures ok { OnOk result (IsPlaced page home.now) }
+    ensures ok { OnOk result (IsHomeRight home.now double.now space page) }
     ensures fault { IfErr result (IsHomeFault home.now double.now space page) }
 {
     if !is_placed(home, page) {
         return Err(Refusal::Mixed { space, page });
     }
     match chosen_text(home, double, space, page) {
-        Chosen::Nothing => Err(Refusal::NoText { space, page }),
+        Chosen::Nothing => Err(Refusal::NotChosen { space, page }),
         Chosen::Home => Ok(()),
         Chosen::Copy(_slot) => Ok(()),
         Chosen::Unused => Ok(()),
@@ -124,7 +124,7 @@ fn check_home(home: &[u8], double: &[u8], space: u32, page: u32) -> Result<(), R
 fn check_space_homes(bytes: &[u8], double: &[u8], space: u32, pages: u32) -> Result<(), Refusal>
     requires bytes { length bytes.now ≡ pages * 16384 }
     requires double { length double.now ≡ 64 * 16896 }
-    ensures ok { OnOk result (PlacedBelow bytes.now pages) }
+    ensures ok { OnOk result (AreRightBelow bytes.now double.now space pages) }
     ensures fault { IfErr result (IsSpaceFault bytes.now double.now space pages) }
 {
     for page in 0..pages {
@@ -136,7 +136,7 @@ fn check_space_homes(bytes: &[u8], double: &[u8], space: u32, pages: u32) -> Res
 /// Whether each page is read from something, and no home has the text of another page.
 pub(crate) fn check_homes(files: &StoreFiles, header: &StoreHeader) -> Result<(), Refusal>
     requires { AreLong (image_of files.now) header.now }
-    ensures ok { OnOk result (ArePlaced files.now header.now.spaces) }
+    ensures ok { OnOk result (AreHomesRight files.now header.now.spaces) }
     ensures fault { IfErr result (HasHomeFault files.now header.now.spaces) }
 {
     for space in header.spaces() {

@@ -1,5 +1,5 @@
 // What the files of a store recover to.
-ghost use Rattle.std.specs.Prelude.{◌≢◌, ℕ, List, IfOk, IfErr};
+ghost use Rattle.std.specs.Prelude.{◌≢◌, ◌≤◌, ℕ, List, length, IfOk, IfErr};
 ghost use Rattle.store_model.specs.declared.contents.SpaceContents.{SpaceContents};
 ghost use Rattle.crash_image.specs.Recovers.{HasHeader, Recovers};
 ghost use Rattle.image_reader.specs.Files.{image_of};
@@ -10,7 +10,7 @@ use crate::checks::{check_homes, check_lengths, other_pages};
 use crate::files::StoreFiles;
 use crate::recovering::contents_of;
 use crate::refusal::Refusal;
-use image_log::{LogText, StoreHeader, is_clear, place, read_header, read_log};
+use image_log::{LogText, StoreHeader, late_block, place, read_header, read_log};
 use key_ring::Ring;
 use std::alloc::Global;
 use store_model::Contents;
@@ -22,6 +22,7 @@ pub struct Recovered {
     pub header: StoreHeader,
     /// The run and its mini-transactions.
     pub log: LogText,
+    /// The spaces with their pages, in order of id.
     pub contents: Contents,
     /// The number of the run's last block, or that before the run where it is empty.
     pub last: u64,
@@ -29,6 +30,7 @@ pub struct Recovered {
 
 fn header_of(alloc: Global, files: &StoreFiles) -> Result<StoreHeader, Refusal>
     ensures ok { IfOk result (λ header. HasHeader (image_of files.now) header) }
+    ensures long { IfOk result (λ header. 12288 ≤ length files.now.log) }
     ensures fault { IfErr result (IsHeaderFault (image_of files.now)) }
 {
     let log = files.log();
@@ -44,7 +46,8 @@ fn header_of(alloc: Global, files: &StoreFiles) -> Result<StoreHeader, Refusal>
 /// What the files of a store recover to under these keys.
 ///
 /// # Errors
-/// The first [`Refusal`] in the order that it says; `OutOfMemory` where the machine has no memory.
+/// A [`Refusal`], before which in its order the conditions hold; `OutOfMemory` where the machine has no
+/// memory.
 pub fn recover(alloc: Global, files: &StoreFiles, keys: &Ring) -> Result<Recovered, Refusal>
     // The header, the log's text, the contents and the last block are those of Recovers.
     ensures ok { IfOk result (λ r. IsRecovery (image_of files.now) keys.now r.header r.log r.contents r.last) }
@@ -62,12 +65,12 @@ pub fn recover(alloc: Global, files: &StoreFiles, keys: &Ring) -> Result<Recover
     }
     check_homes(files, &header)?;
     let contents = contents_of(alloc, &header, keys, &log, files)?;
-    if !is_clear(
-        files.log(),
-        header.blocks(),
-        log.end() + u64::from(header.blocks()),
-    ) {
-        return Err(Refusal::LateBlock);
+    let first = log.end() + u64::from(header.blocks());
+    if let Some(late) = late_block(files.log(), header.blocks(), first) {
+        return Err(Refusal::LateBlock {
+            place: late.place,
+            number: late.number,
+        });
     }
     let last = log.end() - 1;
     Ok(Recovered {

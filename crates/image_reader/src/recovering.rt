@@ -1,10 +1,9 @@
 // The contents, space by space.
-ghost use Rattle.std.specs.Prelude.{◌≡◌, ◌≢◌, ◌≤◌, ◌<◌, ◌+◌, ◌*◌, true, false, length, IfOk, IfErr};
+ghost use Rattle.std.specs.Prelude.{◌≡◌, ◌≤◌, ◌<◌, ◌+◌, ◌*◌, true, false, length, IfOk, IfErr};
 ghost use Rattle.store_files.specs.Pages.{key_id_of, page_held};
-ghost use Rattle.image_pages.specs.declared.fault.PageFault.TheVariants.{Text as BadText};
-ghost use Rattle.image_reader.specs.Refusals.{IsOfPage};
-ghost use Rattle.image_reader.specs.declared.refusal.Refusal.TheVariants.{OutOfMemory as NoMemory};
-ghost use Rattle.image_reader.specs.Spaces.{AllGive, IsHeaderInfo, SpaceHolds, HeadHolds, HeadRefused, PageHolds, PageRefused, PagesHold, PagesRefused, SpaceRefused, SpacesRefused};
+ghost use Rattle.image_reader.specs.HeaderSpaces.{IsHeaderInfo};
+ghost use Rattle.image_reader.specs.PageRefusals.{IsHeadRefusal, IsPageRefusal, IsPagesRefusal, IsSpaceRefusal, IsSpacesRefusal, page_refusal};
+ghost use Rattle.image_reader.specs.Spaces.{AllGive, SpaceHolds, HeadHolds, PageHolds, PagesHold};
 ghost use Rattle.crash_image.specs.Recovers.{AreLong};
 ghost use Rattle.store_files.specs.Header.{are_in_order};
 ghost use Rattle.image_reader.specs.Files.{image_of};
@@ -30,13 +29,13 @@ fn key_id_of(spaces: &[StoreSpace], space: u32) -> u32
     0
 }
 
-// What is said of a page that isn't recovered.
+// A page's fault as a refusal.
 fn refused(fault: PageFault, space: u32, page: u32) -> Refusal
-    ensures of_page { IsOfPage result }
-    ensures text { result ≢ NoMemory → fault ≡ BadText }
+    ensures { result ≡ page_refusal space page fault }
 {
     match fault {
-        PageFault::Text => Refusal::NoText { space, page },
+        PageFault::NotChosen => Refusal::NotChosen { space, page },
+        PageFault::Text(fault) => Refusal::NoText { space, page, fault },
         PageFault::OutOfMemory => Refusal::OutOfMemory,
     }
 }
@@ -52,7 +51,7 @@ fn head_of(
     requires home { length home.now ≡ 16384 }
     requires double { length double.now ≡ 64 * 16896 }
     ensures ok { IfOk result (HeadHolds log.now home.now double.now space) }
-    ensures fault { IfErr result (HeadRefused log.now home.now double.now space) }
+    ensures fault { IfErr result (IsHeadRefusal log.now home.now double.now space) }
 {
     match recover_head(alloc, log, home, double, space) {
         Err(fault) => Err(refused(fault, space, 0)),
@@ -83,7 +82,7 @@ fn page_of(
     requires double { length double.now ≡ 64 * 16896 }
     requires number { 0 < number }
     ensures ok { IfOk result (λ page. PageHolds header.now keys.now log.now home.now double.now salt.now space number (page_held page)) }
-    ensures fault { IfErr result (PageRefused header.now keys.now log.now home.now double.now salt.now space number) }
+    ensures fault { IfErr result (IsPageRefusal header.now keys.now log.now home.now double.now salt.now space number) }
 {
     let key_id = key_id_of(header.spaces(), space);
     match recover_page(
@@ -123,7 +122,7 @@ fn pages_of(
     requires double { length double.now ≡ 64 * 16896 }
     ensures ok { IfOk result (PagesHold header.now keys.now log.now bytes.now double.now salt.now space) }
     ensures long { IfOk result (λ list. length list + 1 ≡ pages) }
-    ensures fault { IfErr result (PagesRefused header.now keys.now log.now bytes.now double.now salt.now space pages) }
+    ensures fault { IfErr result (IsPagesRefusal header.now keys.now log.now bytes.now double.now salt.now space pages) }
 {
     let mut list = Vec::new(alloc);
     for number in 1..pages {
@@ -155,7 +154,7 @@ fn space_of(
     requires some { 0 < space.now.pages }
     requires double { length double.now ≡ 64 * 16896 }
     ensures ok { IfOk result (SpaceHolds header.now keys.now log.now bytes.now double.now space.now) }
-    ensures fault { IfErr result (SpaceRefused header.now keys.now log.now bytes.now double.now space.now) }
+    ensures fault { IfErr result (IsSpaceRefusal header.now keys.now log.now bytes.now double.now space.now) }
 {
     let id = space.space();
     let info = head_of(alloc, log, place(bytes, 16384, 0), double, id)?;
@@ -188,7 +187,7 @@ pub(crate) fn contents_of(
     requires long { AreLong (image_of files.now) header.now }
     requires order { are_in_order 0 header.now.spaces ≡ true }
     ensures ok { IfOk result (AllGive header.now keys.now log.now files.now header.now.spaces) }
-    ensures fault { IfErr result (SpacesRefused header.now keys.now log.now files.now header.now.spaces) }
+    ensures fault { IfErr result (IsSpacesRefusal header.now keys.now log.now files.now header.now.spaces) }
 {
     let mut list = Vec::new(alloc);
     for space in header.spaces() {

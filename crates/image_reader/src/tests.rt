@@ -6,6 +6,7 @@ use crate::fixture::{
 use crate::{Recovered, Refusal};
 use aes_core::Algorithm;
 use cause_core::OutOfMemory;
+use image_pages::TextFault;
 use std::alloc::Global;
 use std::process::Abort;
 use std::test::Fail;
@@ -125,7 +126,15 @@ fn a_home_of_zero_bytes_is_read_from_its_copy(rt: HostRuntime) -> Result<(), Fai
 fn a_copy_of_an_older_lsn_than_its_home_is_not_read(rt: HostRuntime) -> Result<(), Fail> {
     for algorithm in MODES {
         let mut store = one_put(&rt, rt.alloc(), algorithm)?;
-        let old = text(&rt, rt.alloc(), algorithm, 8192, 0x55)?;
+        // Of another type, which the run's put leaves as it is.
+        let head = PageHead {
+            space: 1,
+            page: 1,
+            lsn: 8192,
+            version: 1,
+            kind: 11,
+        };
+        let old = page_text(&rt, rt.alloc(), algorithm, head, &[0x55, 0x55, 0x55, 0x55])?;
         write_slot(&rt, rt.alloc(), &mut store.double, 1, 1, 1, &old)?;
         let page = text(&rt, rt.alloc(), algorithm, 12288, 0x61)?;
         write_at(&rt, &mut store.one, HOME, &page);
@@ -213,8 +222,20 @@ fn a_block_of_a_lost_tail_may_be_within_a_ring(rt: HostRuntime) -> Result<(), Fa
     for algorithm in MODES {
         for (number, wanted) in [
             (34, Ok((2, None))),
-            (35, Err(Refusal::LateBlock)),
-            (60, Err(Refusal::LateBlock)),
+            (
+                35,
+                Err(Refusal::LateBlock {
+                    place: 3,
+                    number: 35,
+                }),
+            ),
+            (
+                60,
+                Err(Refusal::LateBlock {
+                    place: 28,
+                    number: 60,
+                }),
+            ),
         ] {
             let mut store = one_put(&rt, rt.alloc(), algorithm)?;
             if number == 34 {
@@ -253,7 +274,7 @@ fn changes_of_other_pages_and_no_changes_are_told_apart(rt: HostRuntime) -> Resu
         let mut store = one_put(&rt, rt.alloc(), algorithm)?;
         write_block(&rt, &mut store.log, algorithm, 3, 3, &[9, 0, 0]);
         let found = recovered(&rt, rt.alloc(), store)?;
-        assert!(rt; summary(&found) == Err(Refusal::NoChanges { first: 3 }));
+        assert!(rt; summary(&found) == Err(Refusal::NoChanges { first: 3, at: 0 }));
     }
     Ok(())
 }
@@ -265,7 +286,12 @@ fn a_text_behind_the_run_is_none(rt: HostRuntime) -> Result<(), Fail> {
         let page = text(&rt, rt.alloc(), algorithm, 12289, 0x61)?;
         write_at(&rt, &mut store.one, HOME, &page);
         let found = recovered(&rt, rt.alloc(), store)?;
-        assert!(rt; summary(&found) == Err(Refusal::NoText { space: 1, page: 1 }));
+        let refused = Refusal::NoText {
+            space: 1,
+            page: 1,
+            fault: TextFault::BehindTheRun,
+        };
+        assert!(rt; summary(&found) == Err(refused));
     }
     Ok(())
 }

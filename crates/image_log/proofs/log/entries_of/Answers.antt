@@ -1,10 +1,11 @@
-use Rattle.std.proofs.Common.{◌≡◌, ◌∙◌, ◌+◌, ◌∷◌, ◌<◌, ap, sym, subst, suc, drop, get_or, length, List, ℕ, Option, Some, None, arith, add-one}
+use Rattle.std.proofs.Common.{◌≡◌, ◌∙◌, ◌+◌, ◌∷◌, ◌<◌, ap, sym, subst, suc, drop, get_or, length, List, ℕ, Option, Some, None, arith, add-one, rules}
+use Rattle.std.specs.Prelude.{IsErrAnd}
 use Rattle.std.proofs.Math.Seq.{drop-cons}
 use Rattle.redo_text.specs.declared.change.Change.{Change}
 use Rattle.store_image.specs.View.{Logged}
 use Rattle.store_files.specs.Run.{MakeWholeMtrs}
-use Rattle.image_log.specs.Logs.{IsEntryIn}
-use Rattle.image_log.proofs.Entries.{Gathers, head_whole, gathers_more, gathers_all, gathers_lacks}
+use Rattle.image_log.specs.Logs.{IsEntryFault}
+use Rattle.image_log.proofs.Entries.{Gathers, head_whole, gathers_more, gathers_all, gathers_fault, run_fault, if_err}
 use Rattle.image_log.proofs.Headers.{drop_none}
 use Rattle.image_log.proofs.log.entries_of.Goals as goal
 
@@ -21,14 +22,15 @@ entry_of-requires-clause-small c =
     let small = c.requires.small in
     omega (arith, within, small)
 
-pub returns-in_default-clause-fault : goal.returns-in_default-clause-fault
-returns-in_default-clause-fault c =
+pub returns-in_err-entry_of-clause-fault : goal.returns-in_err-entry_of-clause-fault
+returns-in_err-entry_of-clause-fault c =
+    let is : IsErrAnd c.from_residual.result (λ e. e ≡ c.in_err-entry_of.field-0.0) = search rules in
     let xs = c.args.run.now.sizes.items in
     let i = c.loop-size.size-index in
     let size = get_or c.deref-size-items.result.now i 0 in
     let left = left_of xs c.deref-size-items.result.now i c.deref-size-items.ensures.value c.loop-size-test.true in
-    gathers_lacks c.args.header.now c.args.keys.now c.args.log.now c.args.from xs c.args.run.now.end c.loop-size.entries.items c.loop-size.first i size c.loop-size.invariant left
-    (subst (λ (o : Option (Logged (List Change))). IsEntryIn c.args.header.now c.args.keys.now c.args.log.now c.loop-size.first size o) c.in_default.is c.in_ok-entry.ensures)
+    let met = gathers_fault c.args.header.now c.args.keys.now c.args.log.now c.args.from xs c.args.run.now.end c.loop-size.entries.items c.loop-size.first i size c.in_err-entry_of.field-0.0 c.loop-size.invariant left c.in_err-entry_of.ensures.fault in
+    if_err c.from_residual.result (IsEntryFault c.args.header.now c.args.keys.now c.args.log.now c.args.from) c.in_err-entry_of.field-0.0 is (run_fault c.args.header.now c.args.keys.now c.args.log.now c.args.from c.in_err-entry_of.field-0.0 met)
 
 pub loop-size-preserved : goal.loop-size-preserved
 loop-size-preserved c =
@@ -36,8 +38,7 @@ loop-size-preserved c =
     let i = c.loop-size.size-index in
     let size = get_or c.deref-size-items.result.now i 0 in
     let left = left_of xs c.deref-size-items.result.now i c.deref-size-items.ensures.value c.loop-size-test.true in
-    let more = gathers_more c.args.header.now c.args.keys.now c.args.log.now c.args.from xs c.args.run.now.end c.loop-size.entries.items c.loop-size.first i size c.in-Some.entry c.loop-size.invariant left
-    (subst (λ (o : Option (Logged (List Change))). IsEntryIn c.args.header.now c.args.keys.now c.args.log.now c.loop-size.first size o) c.in-Some.is c.in_ok-entry.ensures) in
+    let more = gathers_more c.args.header.now c.args.keys.now c.args.log.now c.args.from xs c.args.run.now.end c.loop-size.entries.items c.loop-size.first i size c.in_ok-entry_of.field-0 c.loop-size.invariant left c.in_ok-entry_of.ensures.ok in
     subst (λ (n : ℕ). Gathers c.args.header.now c.args.keys.now c.args.log.now c.args.from xs c.args.run.now.end c.push.new.self.items (c.loop-size.first + size) n) (sym (add-one i))
     (subst (λ (es : List (Logged (List Change))). Gathers c.args.header.now c.args.keys.now c.args.log.now c.args.from xs c.args.run.now.end es (c.loop-size.first + size) (suc i)) (sym c.in_ok-push.ensures.items) more)
 

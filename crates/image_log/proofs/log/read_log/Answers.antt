@@ -1,5 +1,5 @@
 use Rattle.std.proofs.Common.{◌≡◌, ◌≢◌, ◌∙◌, ap, sym, subst, arith, rules, List, ℕ}
-use Rattle.std.specs.Prelude.{Result, Ok, Err, IfErr, IsErrAnd}
+use Rattle.std.specs.Prelude.{IsErrAnd}
 use Rattle.redo_text.specs.declared.change.Change.{Change}
 use Rattle.store_image.specs.Places.{LogView}
 use Rattle.store_files.specs.Run.{IsLogOf, MakeWholeMtr, MakeWholeMtrs}
@@ -7,12 +7,8 @@ use Rattle.image_log.specs.declared.fault.LogTextFault.{LogTextFault}
 use Rattle.image_log.specs.declared.fault.LogTextFault.TheVariants.{NoCheckpoint, OutOfMemory}
 use Rattle.image_log.specs.Logs.{IsLongest, checkpoint_of}
 use Rattle.image_log.proofs.Checkpoints.{from_bounds}
-use Rattle.image_log.proofs.Entries.{entry_fault, fault_refuses}
+use Rattle.image_log.proofs.Entries.{entry_fault, fault_refuses, if_err}
 use Rattle.image_log.proofs.log.read_log.Goals as goal
-
-if_err : {A : Type 0} {E : Type 0} (r : Result A E) (P : E → Type 0) (e : E) → IsErrAnd r (λ x. x ≡ e) → P e → IfErr r P
-if_err (Ok x) P e is p = tt
-if_err (Err x) P e is p = subst P (sym is) p
 
 pub returns-in_default-clause-never : goal.returns-in_default-clause-never
 returns-in_default-clause-never c = fault_refuses c.args.header.now c.args.keys.now c.args.log.now NoCheckpoint c.in_default.ensures.none

@@ -2,8 +2,8 @@ use Rattle.std.proofs.Common.{◌≡◌, ℕ, ◌+◌, ◌*◌, List, length, dr
 use Rattle.store_files.specs.Header.{HeldSpace}
 use Rattle.crash_image.specs.Recovers.{SpacesLong}
 use Rattle.image_reader.specs.Files.{image_of, space_bytes}
-use Rattle.image_reader.specs.Refusals.{ArePlaced, PlacedBelow}
-use Rattle.image_reader.proofs.HeaderSpaces.{long_named}
+use Rattle.image_reader.specs.Homes.{AreHomesRight, AreRightBelow}
+use Rattle.image_reader.proofs.Firsts.{long_named}
 use Rattle.image_reader.proofs.Passes.{passes_next, drop_item}
 use Rattle.image_reader.proofs.checks.check_homes.Goals as goal
 
@@ -13,8 +13,11 @@ check_space_homes-requires-clause-bytes c =
     let item = c.space-item.result in
     let left = drop_item items c.loop-space.space-index item c.loop-space-test.true c.space-item.is in
     let all : SpacesLong (image_of c.args.files.now) items = subst (λ (hs : List HeldSpace). SpacesLong (image_of c.args.files.now) hs) (sym c.spaces-space-items.ensures) c.requires.spaces in
-    let long = long_named c.args.files.now items c.loop-space.space-index item (drop (c.loop-space.space-index + 1) items) all left in
+    let long = long_named (image_of c.args.files.now) items c.loop-space.space-index item (drop (c.loop-space.space-index + 1) items) all left in
     ap length c.space-in-loop-space.ensures ∙ ap (λ (n : ℕ). length (space_bytes c.args.files.now.spaces n)) c.space.ensures ∙ long ∙ ap (λ (n : ℕ). n * 16384) (sym c.pages.ensures)
+
+right : (bytes other double same : List ℕ) (s z n m : ℕ) → bytes ≡ other → double ≡ same → s ≡ z → n ≡ m → AreRightBelow bytes double s n → AreRightBelow other same z m
+right bytes other double same s z n m a b c d are = subst (λ (X : Type 0). X) (λ i. AreRightBelow (a i) (b i) (c i) (d i)) are
 
 pub loop-space-preserved : goal.loop-space-preserved
 loop-space-preserved c =
@@ -22,5 +25,5 @@ loop-space-preserved c =
     let item = c.space-item.result in
     let left = drop_item items c.loop-space.space-index item c.loop-space-test.true c.space-item.is in
     let bytes : c.space-in-loop-space.result.now ≡ space_bytes c.args.files.now.spaces item.space = c.space-in-loop-space.ensures ∙ ap (λ (n : ℕ). space_bytes c.args.files.now.spaces n) c.space.ensures in
-    let here : PlacedBelow (space_bytes c.args.files.now.spaces item.space) item.pages = subst (λ (n : ℕ). PlacedBelow (space_bytes c.args.files.now.spaces item.space) n) c.pages.ensures (subst (λ (b : List ℕ). PlacedBelow b c.pages.result) bytes c.in_ok-check_space_homes.ensures.ok) in
-    passes_next (ArePlaced c.args.files.now) items c.loop-space.space-index item c.loop-space.invariant left (λ rest. (here, rest)) (λ both. both.1)
+    let here = right _ _ _ _ _ _ _ _ bytes c.double.ensures c.space-in-loop-space-2.ensures c.pages.ensures c.in_ok-check_space_homes.ensures.ok in
+    passes_next (AreHomesRight c.args.files.now) items c.loop-space.space-index item c.loop-space.invariant left (λ rest. (here, rest)) (λ both. both.1)

@@ -1,19 +1,28 @@
-use Rattle.std.proofs.Common.{arith}
+use Rattle.std.proofs.Common.{List, sym, refl, subst, arith}
+use Rattle.store_files.specs.Header.{HeldSpace}
 use Rattle.crash_image.specs.Recovers.{SpacesLong}
 use Rattle.image_reader.specs.Files.{image_of}
-use Rattle.image_reader.proofs.Passes.{passes_next, passes_all, passes_fail, drop_item, drop_none}
+use Rattle.image_reader.proofs.Firsts.{long_more}
+use Rattle.image_reader.proofs.Passes.{drop_item, drop_none}
+use Rattle.image_reader.proofs.Takes.{take_item, take_whole}
 use Rattle.image_reader.proofs.checks.other_length.Goals as goal
 
 pub returns-then-not-has_length-clause-some : goal.returns-then-not-has_length-clause-some
 returns-then-not-has_length-clause-some c =
-    passes_fail (SpacesLong (image_of c.args.files.now)) c.args.spaces.now c.loop-space.space-index c.space-item.result c.loop-space.invariant (drop_item c.args.spaces.now c.loop-space.space-index c.space-item.result c.loop-space-test.true c.space-item.is)
-    (λ both. c.has_length.ensures.no c.if-not-has_length.true both.0)
+    let left = drop_item c.args.spaces.now c.loop-space.space-index c.space-item.result c.loop-space-test.true c.space-item.is in record {
+      space = c.space-item.result;
+      named = record { index = c.loop-space.space-index; is = left };
+      id = c.space.ensures;
+      before = c.loop-space.invariant;
+      other = λ is. c.has_length.ensures.no c.if-not-has_length.true (rw (← c.space.ensures) is);
+    }
 
 pub loop-space-preserved : goal.loop-space-preserved
 loop-space-preserved c =
-    passes_next (SpacesLong (image_of c.args.files.now)) c.args.spaces.now c.loop-space.space-index c.space-item.result c.loop-space.invariant (drop_item c.args.spaces.now c.loop-space.space-index c.space-item.result c.loop-space-test.true c.space-item.is)
-    (λ rest. (c.has_length.ensures.yes c.if-not-has_length.false, rest)) (λ both. both.1)
+    let left = drop_item c.args.spaces.now c.loop-space.space-index c.space-item.result c.loop-space-test.true c.space-item.is in
+    subst (λ (hs : List HeldSpace). SpacesLong (image_of c.args.files.now) hs) (sym (take_item c.args.spaces.now c.loop-space.space-index c.space-item.result _ left))
+    (long_more (image_of c.args.files.now) _ c.space-item.result c.loop-space.invariant (c.has_length.ensures.yes c.if-not-has_length.false))
 
 pub returns-clause-none : goal.returns-clause-none
 returns-clause-none c =
-    passes_all (SpacesLong (image_of c.args.files.now)) c.args.spaces.now c.loop-space.space-index c.loop-space.invariant (drop_none c.args.spaces.now c.loop-space.space-index (omega arith)) tt
+    subst (λ (hs : List HeldSpace). SpacesLong (image_of c.args.files.now) hs) (take_whole c.args.spaces.now c.loop-space.space-index (drop_none c.args.spaces.now c.loop-space.space-index (omega arith))) c.loop-space.invariant

@@ -4,7 +4,8 @@ use Rattle.store_files.specs.Header.{HeldSpace, are_in_order}
 use Rattle.crash_image.specs.Recovers.{SpacesLong}
 use Rattle.image_reader.specs.Files.{image_of, space_bytes}
 use Rattle.image_reader.specs.Spaces.{AllGive}
-use Rattle.image_reader.proofs.HeaderSpaces.{long_named, some_named}
+use Rattle.image_reader.proofs.Firsts.{long_named}
+use Rattle.image_reader.proofs.HeaderSpaces.{some_named}
 use Rattle.image_reader.proofs.Passes.{drop_item, drop_none}
 use Rattle.image_reader.proofs.Gathering.{gathered_all}
 use Rattle.image_reader.proofs.recovering.contents_of.Goals as goal
@@ -15,7 +16,7 @@ space_of-requires-clause-bytes c =
     let item = c.space-item.result in
     let left = drop_item items c.loop-space.space-index item c.loop-space-test.true c.space-item.is in
     let all : SpacesLong (image_of c.args.files.now) items = subst (λ (hs : List HeldSpace). SpacesLong (image_of c.args.files.now) hs) (sym c.spaces-space-items.ensures) c.requires.long.spaces in
-    let long = long_named c.args.files.now items c.loop-space.space-index item (drop (c.loop-space.space-index + 1) items) all left in
+    let long = long_named (image_of c.args.files.now) items c.loop-space.space-index item (drop (c.loop-space.space-index + 1) items) all left in
     ap length c.space-bytes.ensures ∙ ap (λ (n : ℕ). length (space_bytes c.args.files.now.spaces n)) c.space.ensures ∙ long
 
 pub space_of-requires-clause-some : goal.space_of-requires-clause-some

@@ -3,8 +3,8 @@ use Rattle.byte_list.specs.Fields.{be64_at}
 use Rattle.places.specs.Places.{place}
 use Rattle.store_files.specs.RingBlock.{is_ring_block}
 use Rattle.image_log.proofs.Clear.{clear_more, other_number, lower_number}
-use Rattle.image_log.proofs.blocks.is_clear.Goals as goal
-use Rattle.image_log.proofs.blocks.is_clear.Goals.{else-number-found-via-then-number-found+else-is_ring_block, else-number-found-via-else-number-found}
+use Rattle.image_log.proofs.blocks.late_block.Goals as goal
+use Rattle.image_log.proofs.blocks.late_block.Goals.{else-number-found-via-then-number-found+else-is_ring_block, else-number-found-via-else-number-found}
 
 pub loop-i-preserved : goal.loop-i-preserved
 loop-i-preserved c =
