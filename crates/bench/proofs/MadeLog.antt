@@ -1,6 +1,6 @@
 -- A log's file of a ring of 4096 blocks that was made.
 use Rattle.std.proofs.Common.{◌≡◌, ◌∷◌, Some, None, sym, subst, ◌∙◌}
-use Rattle.disk_model.specs.Event.{Event, Make}
+use Rattle.disk_model.specs.Event.{Make}
 use Rattle.disk_model.specs.Past.{Past, At, grow}
 use Rattle.disk_model.specs.declared.names.FileName.TheVariants.{Log as LogFile}
 use Rattle.places.specs.Places.{HasPlaces}

@@ -5,6 +5,7 @@
 //! What a measurement computed is compared or printed, so that no call is left out as unused.
 #![tactic(auto)]
 
+mod batches;
 mod by_eight;
 mod by_one;
 mod checksums;
@@ -25,6 +26,7 @@ fn main(rt: HostRuntime) -> Result<()> {
             ciphers::measure(rt.alloc(), &rt)?;
             pages::measure(rt.alloc(), &rt)?;
             redo::measure(rt.alloc(), &rt)?;
+            batches::measure(rt.alloc(), &rt)?;
             scripts::measure(rt.alloc(), &rt)
         }
         _ => {
