@@ -1,5 +1,5 @@
 -- A number of 16 bytes as four words: highest first, with the words' bytes turned round, and lowest first.
-use Rattle.std.proofs.Common.{◌≡◌, ℕ, ◌+◌, ◌*◌, ◌/◌, ◌%◌, ◌^◌, ◌<◌, [], ◌∷◌, ◌++◌, bit_xor, List, refl, sym, ap, ◌∙◌, arith}
+use Rattle.std.proofs.Common.{◌≡◌, ℕ, ◌+◌, ◌*◌, ◌/◌, ◌%◌, ◌^◌, ◌<◌, [], ◌∷◌, ◌++◌, bit_xor, List, refl, sym, ap, ◌∙◌, arith, reverse}
 use Rattle.std.specs.Int.{byte_at, from_be_bytes, from_le_bytes, swap_bytes, to_be_bytes, to_le_bytes, w32, w128}
 use Rattle.std.proofs.Math.Nat.{div-div-eq-div-mul}
 use Rattle.std.proofs.lemmas.Nat.{le_bytes_4, xor_mod, xor_shr}
@@ -53,21 +53,11 @@ four_words n =
 -- ---- lowest first
 
 pub le_low_word : (m : ℕ) → to_le_bytes w32 (m % 4294967296) ≡ to_le_bytes w32 m
-le_low_word m = (λ i. low_0 m i ∷ low_1 m i ∷ low_2 m i ∷ low_3 m i ∷ [])
+le_low_word m = ap reverse (low_word m)
 
 pub le_four_words : (n : ℕ)
     → to_le_bytes w32 n ++ to_le_bytes w32 (n / 4294967296) ++ to_le_bytes w32 (n / 18446744073709551616) ++ to_le_bytes w32 (n / 79228162514264337593543950336) ≡ to_le_bytes w128 n
-le_four_words n =
-    let e33 = within n 79228162514264337593543950336 16777216 in
-    let e32 = within n 79228162514264337593543950336 65536 in
-    let e31 = within n 79228162514264337593543950336 256 in
-    let e23 = within n 18446744073709551616 16777216 in
-    let e22 = within n 18446744073709551616 65536 in
-    let e21 = within n 18446744073709551616 256 in
-    let e13 = within n 4294967296 16777216 in
-    let e12 = within n 4294967296 65536 in
-    let e11 = within n 4294967296 256 in
-    (λ i. n % 256 ∷ n / 256 % 256 ∷ n / 65536 % 256 ∷ n / 16777216 % 256 ∷ n / 4294967296 % 256 ∷ e11 i ∷ e12 i ∷ e13 i ∷ n / 18446744073709551616 % 256 ∷ e21 i ∷ e22 i ∷ e23 i ∷ n / 79228162514264337593543950336 % 256 ∷ e31 i ∷ e32 i ∷ e33 i ∷ [])
+le_four_words n = ap reverse (four_words n)
 
 -- what four words are joined to
 abbrev pub words_sum : ℕ → ℕ → ℕ → ℕ → ℕ

@@ -58,6 +58,14 @@ put_at xs ys zs new at ex ey =
     put_parts at new (xs ++ (ys ++ zs))
     ∙ (λ i. take_at xs (ys ++ zs) at ex i ++ (new ++ (sym (drop-drop (length new) at (xs ++ (ys ++ zs))) ∙ ap (drop (length new)) (drop_at xs (ys ++ zs) at ex) ∙ drop_at ys zs (length new) ey) i))
 
+-- behind a list of this length
+pub put_next : (at : ℕ) (xs new ys : List ℕ) → length xs ≡ at → put at new (xs ++ ys) ≡ xs ++ (new ++ drop (length new) ys)
+put_next at xs new ys is =
+    ap (λ (l : List ℕ). l ++ new ++ drop (at + length new) (xs ++ ys)) (take_at xs ys at is)
+    ∙ ap (λ (k : ℕ). xs ++ new ++ drop (k + length new) (xs ++ ys)) (sym is)
+    ∙ ap (λ (l : List ℕ). xs ++ new ++ l) (drop-append-add xs ys (length new))
+    ∙ append_assoc xs new (drop (length new) ys)
+
 -- what is there, put again
 pub put-range : (at n : ℕ) (xs : List ℕ) → at + n ≤ length xs → put at (range at n xs) xs ≡ xs
 put-range at n xs fits =

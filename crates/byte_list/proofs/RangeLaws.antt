@@ -1,6 +1,6 @@
--- The bytes from a place on, and zero bytes.
-use Rattle.std.proofs.Common.{◌≡◌, ℕ, ◌+◌, ◌-◌, ◌<◌, ◌≤◌, List, ◌++◌, length, take, drop, get_or, sym, ap, ◌∙◌, arith, length-drop}
-use Rattle.std.proofs.lemmas.List.{drop_at, drop-drop, drop-replicate, drop-take, get_or-drop, get_or-take, length-replicate, length-take-le, take-append-drop, take-replicate, take-take, take_at}
+-- What is behind a place of a list, the bytes from a place on, and zero bytes.
+use Rattle.std.proofs.Common.{◌≡◌, ℕ, ◌+◌, ◌-◌, ◌<◌, ◌≤◌, List, ◌∷◌, ◌++◌, length, take, drop, get_or, sym, ap, ◌∙◌, arith, length-drop}
+use Rattle.std.proofs.lemmas.List.{drop_at, drop-drop, drop-replicate, drop-take, get_or-drop, get_or-take, length-replicate, length-take-le, take-append-drop, take-replicate, take-take, take_at, drop_more}
 use Rattle.byte_list.specs.Bytes.{range, zeros}
 
 pub length-range : (at n : ℕ) (xs : List ℕ) → at + n ≤ length xs → length (range at n xs) ≡ n
@@ -18,6 +18,10 @@ range-add at n m xs =
 -- what is behind a place: a range, and what is behind it
 pub split_off : (at n : ℕ) (xs : List ℕ) → drop at xs ≡ range at n xs ++ drop (at + n) xs
 split_off at n xs = sym (take-append-drop n (drop at xs)) ∙ ap (λ (x : List ℕ). range at n xs ++ x) (drop-drop n at xs)
+
+-- an element of a list, and what is behind it
+pub drop_item : {A : Type 0} (xs : List A) (i : ℕ) (x : A) → i < length xs → x ≡ get_or xs i x → drop i xs ≡ x ∷ drop (i + 1) xs
+drop_item xs i x lt is = drop_more xs i x lt ∙ ap (λ y. y ∷ drop (i + 1) xs) (sym is)
 
 -- a range of a range
 pub range-range : (from k at n : ℕ) (xs : List ℕ) → from + k ≤ n → range from k (range at n xs) ≡ range (at + from) k xs

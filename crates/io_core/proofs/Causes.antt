@@ -1,5 +1,5 @@
 -- What the counts of an object of the outside tell a caller.
-use Rattle.std.proofs.Common.{◌≡◌, ◌≤◌, ℕ, Option, Result, Err, refl, sym, ◌∙◌, arith}
+use Rattle.std.proofs.Common.{◌≡◌, ℕ, Option, Err, refl, sym, ◌∙◌}
 use Rattle.cause_core.specs.Counts.{Rose}
 use Rattle.io_core.specs.Told.{Told}
 use Rattle.io_core.specs.Cause.{HasIoCause}

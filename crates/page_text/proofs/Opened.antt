@@ -1,9 +1,9 @@
 -- What is taken is a page text, and each page text is taken.
-use Rattle.std.proofs.Common.{◌≡◌, ◌≢◌, ℕ, zero, suc, ◌+◌, ◌-◌, ◌%◌, ◌^◌, ◌==◌, ◌<◌, ◌≤◌, Bool, true, false, not, List, [], ◌∷◌, ◌++◌, length, take, drop, Ok, Err, refl, sym, ap, ap₂, ◌∙◌, arith, inl, inr, length-append, length-drop, append_assoc, lit<, eq-eqb, ne_eqb}
+use Rattle.std.proofs.Common.{◌≡◌, ◌≢◌, ℕ, ◌+◌, ◌-◌, ◌%◌, ◌^◌, ◌==◌, ◌<◌, ◌≤◌, Bool, true, false, not, List, [], ◌∷◌, ◌++◌, length, take, drop, Ok, Err, refl, sym, ap, ap₂, ◌∙◌, arith, inl, inr, length-append, length-drop, append_assoc, lit<, eq-eqb, ne_eqb}
 use Rattle.std.specs.Prelude.{Option, IsSome, Result, if◌then◌else◌, replicate}
 use Rattle.std.specs.Int.{to_be_bytes, w16, w32, w64}
 use Rattle.std.proofs.lemmas.Bool.{eqb-true}
-use Rattle.std.proofs.lemmas.List.{append-nil, drop_at, take_all, take_at}
+use Rattle.std.proofs.lemmas.List.{append-nil, take_all, take_at}
 use Rattle.bytes_core.specs.Crc.{crc32c}
 use Rattle.byte_list.specs.Fields.{be16_at, be32_at, be64_at}
 use Rattle.byte_list.specs.Bytes.{range, put, AreBytes}
@@ -200,7 +200,7 @@ pass_on a b e rest h = rw (eq-eqb a b h) refl
 pass_true : (t : Bool) (e : OpenFault) (rest : Result (Unit {0}) OpenFault) → t ≡ true → (if not t then Err e else rest) ≡ rest
 pass_true t e rest h = rw h refl
 
-bytes_of_inner : (space lsn : ℕ) (b : List ℕ) → AreBytes b → AreBytes (inner space lsn b)
+pub bytes_of_inner : (space lsn : ℕ) (b : List ℕ) → AreBytes b → AreBytes (inner space lsn b)
 bytes_of_inner space lsn b h =
     bytes_append (inner_start space) (b ++ to_be_bytes w32 (lsn % 2 ^ 32))
     (bytes_append (replicate 8 0) (to_be_bytes w32 space) (bytes_append (0 ∷ 0 ∷ 0 ∷ 0 ∷ []) (0 ∷ 0 ∷ 0 ∷ 0 ∷ []) zeros zeros) (bytes_four _ _ _ _ (omega arith) (omega arith) (omega arith) (omega arith)))

@@ -1,7 +1,7 @@
 -- The parts of a page, joined and put in place of others.
 use Rattle.std.proofs.Common.{◌≡◌, ℕ, ◌+◌, ◌-◌, ◌≤◌, List, ◌++◌, length, take, sym, ap, subst, ◌∙◌, arith}
 use Rattle.byte_list.proofs.PartLaws.{cut_at, length_with_part, part_rest}
-use Rattle.page_text.specs.Parts.{part_of, with_part, IsPageSize, header, body, trailer}
+use Rattle.page_text.specs.Parts.{with_part, IsPageSize, header, body, trailer}
 
 pub longer : (n : ℕ) → IsPageSize n → 46 ≤ n
 longer n size = grind arith

@@ -1,23 +1,22 @@
 -- What events that leave a file as it is leave of its places: marks and files that are made among them.
-use Rattle.std.proofs.Common.{◌≡◌, inl, inr, ℕ, true, false, true≢false, List, [], ◌∷◌, ◌++◌, length, Option, refl, sym, ap, subst, ◌∙◌}
+use Rattle.std.proofs.Common.{◌≡◌, inl, inr, ℕ, true≢false, List, [], ◌∷◌, ◌++◌, length, Option, refl, sym, ap, subst, ◌∙◌}
+use Rattle.std.proofs.lemmas.Bool.{cond-false, MatchBool-at_false}
 use Rattle.disk_model.specs.Event.{Event, Open, Make, Write, Sync, Tell, same_file, reads, is_there}
 use Rattle.disk_model.specs.Does.{AllAre, Since}
 use Rattle.disk_model.specs.declared.names.FileName.{FileName}
 use Rattle.disk_model.proofs.CrashImage.{to_false}
 use Rattle.places.specs.Beside.{LeavesFile}
 use Rattle.places.specs.Places.{place, shown, May, Layout, AreWhole, HasPlaces}
-use Rattle.places.proofs.Left.{if_false}
-use Rattle.places.proofs.Steps.{from_false}
 
 module _ (g : FileName) where
   may_all : (n i : ℕ) (news es : List Event) (x : Option (List ℕ)) → AllAre (LeavesFile g) news → May g n i (news ++ es) x → May g n i es x
   may_all n i [] es x all may = may
   may_all n i (Open files ms ws ∷ news) es x all may = absurd all.0
-  may_all n i (Make f m ∷ news) es x all may = may_all n i news es x all.1 (from_false (same_file g f) _ _ all.0 may)
+  may_all n i (Make f m ∷ news) es x all may = may_all n i news es x all.1 (MatchBool-at_false _ _ all.0 may)
   may_all n i (Tell m ∷ news) es x all may = may_all n i news es x all.1 may
   may_all n i (Write f at bytes shows ∷ news) es x all (inl may) = may_all n i news es x all.1 may
   may_all n i (Write f at bytes shows ∷ news) es x all (inr w) = absurd (true≢false (sym w.0 ∙ all.0))
-  may_all n i (Sync f ∷ news) es x all may = may_all n i news es x all.1 (from_false (same_file g f) _ _ all.0 may)
+  may_all n i (Sync f ∷ news) es x all may = may_all n i news es x all.1 (MatchBool-at_false _ _ all.0 may)
 
   whole_all : (layout : Layout) (news es : List Event) → AllAre (LeavesFile g) news → AreWhole g layout es → AreWhole g layout (news ++ es)
   whole_all layout [] es all whole = whole
@@ -30,15 +29,15 @@ module _ (g : FileName) where
   reads_all : (news es : List Event) → AllAre (LeavesFile g) news → reads g (news ++ es) ≡ reads g es
   reads_all [] es all = refl
   reads_all (Open files ms ws ∷ news) es all = absurd all.0
-  reads_all (Make f m ∷ news) es all = if_false (same_file g f) _ _ all.0 ∙ reads_all news es all.1
+  reads_all (Make f m ∷ news) es all = cond-false (same_file g f) _ _ all.0 ∙ reads_all news es all.1
   reads_all (Tell m ∷ news) es all = reads_all news es all.1
-  reads_all (Write f at bytes shows ∷ news) es all = if_false (same_file g f) _ _ all.0 ∙ reads_all news es all.1
+  reads_all (Write f at bytes shows ∷ news) es all = cond-false (same_file g f) _ _ all.0 ∙ reads_all news es all.1
   reads_all (Sync f ∷ news) es all = reads_all news es all.1
 
   there_all : (news es : List Event) → AllAre (LeavesFile g) news → is_there g (news ++ es) ≡ is_there g es
   there_all [] es all = refl
   there_all (Open files ms ws ∷ news) es all = absurd all.0
-  there_all (Make f m ∷ news) es all = if_false (same_file g f) _ _ all.0 ∙ there_all news es all.1
+  there_all (Make f m ∷ news) es all = cond-false (same_file g f) _ _ all.0 ∙ there_all news es all.1
   there_all (Tell m ∷ news) es all = there_all news es all.1
   there_all (Write f at bytes shows ∷ news) es all = there_all news es all.1
   there_all (Sync f ∷ news) es all = there_all news es all.1

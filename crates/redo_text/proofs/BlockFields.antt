@@ -1,16 +1,15 @@
 -- What is read of a ring block that was written.
-use Rattle.std.proofs.Common.{◌≡◌, ℕ, ◌+◌, ◌-◌, ◌<◌, ◌≤◌, ◌^◌, Bool, true, false, List, [], ◌∷◌, ◌++◌, length, take, drop, refl, sym, ap, ◌∙◌, arith, length-append, append_assoc}
-use Rattle.std.specs.Int.{to_be_bytes, w16, w32, w64}
+use Rattle.std.proofs.Common.{◌≡◌, ℕ, ◌-◌, ◌<◌, ◌≤◌, ◌^◌, Bool, true, false, List, [], ◌++◌, length, take, drop, refl, sym, ap, ◌∙◌, arith, length-append, append_assoc}
+use Rattle.std.specs.Int.{to_be_bytes, w32}
 use Rattle.std.proofs.lemmas.List.{append-nil, take-take, take_at}
 use Rattle.byte_list.specs.Bytes.{AreBytes, range, zeros}
-use Rattle.byte_list.specs.Fields.{be16_at, be32_at, be64_at}
 use Rattle.byte_list.proofs.ByteLaws.{bytes_append, bytes_zeros}
 use Rattle.byte_list.proofs.FieldLaws.{be16_at-written, be32_at-written, be64_at-written}
 use Rattle.byte_list.proofs.RangeLaws.{range_at}
 use Rattle.bytes_core.specs.Crc.{crc32c}
 use Rattle.bytes_core.proofs.Division.{crc32c-lt}
 use Rattle.redo_text.specs.declared.key.RedoKey.{RedoKey}
-use Rattle.redo_text.specs.Block.{enciphered_body, filled, flags, head, ring_block, sealed}
+use Rattle.redo_text.specs.Block.{enciphered_body, filled, flags, head, ring_block}
 use Rattle.redo_text.specs.Reading.{block_body, computed_block_sum, block_flags, is_first, is_last, number_of, stored_block_sum, used_of, block_version}
 use Rattle.redo_text.proofs.BlockWrites.{length-head}
 

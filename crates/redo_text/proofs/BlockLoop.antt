@@ -1,5 +1,5 @@
 -- Blocks of 4096 bytes, one after the other.
-use Rattle.std.proofs.Common.{◌≡◌, ℕ, zero, suc, ◌+◌, ◌-◌, ◌*◌, ◌<◌, ◌≤◌, List, [], ◌++◌, length, take, drop, refl, sym, ap, ◌∙◌, arith, length-append, append_assoc, subst, ⊎_elim}
+use Rattle.std.proofs.Common.{◌≡◌, ℕ, zero, suc, ◌+◌, ◌-◌, ◌*◌, ◌<◌, ◌≤◌, List, ◌++◌, length, sym, ap, ◌∙◌, arith, length-append, append_assoc, subst, ⊎_elim}
 use Rattle.std.proofs.lemmas.List.{append-nil}
 use Rattle.std.proofs.lemmas.Bool.{cases_lt}
 use Rattle.aes_core.specs.Modes.{joined}
@@ -8,19 +8,7 @@ use Rattle.byte_list.proofs.PutLaws.{put_at}
 use Rattle.byte_list.proofs.RangeLaws.{length-zeros, range_at}
 use Rattle.redo_text.specs.Block.{AreOf}
 use Rattle.redo_text.proofs.BlockWrites.{zeros-add}
-
-joined_more : (f : ℕ → List ℕ) (n : ℕ) → joined f (n + 1) ≡ joined f n ++ f n
-unfolding joined
-joined_more f n = let e : n + 1 ≡ suc n = omega arith in ap (joined f) e
-
-joined_after : (f : ℕ → List ℕ) (i m : ℕ) → joined f (i + m) ≡ joined f i ++ joined (λ j. f (i + j)) m
-unfolding joined
-joined_after f i zero =
-    let e : i + 0 ≡ i = omega arith in
-    ap (joined f) e ∙ sym (append-nil (joined f i))
-joined_after f i (suc m) =
-    let e : i + suc m ≡ suc (i + m) = omega arith in
-    ap (joined f) e ∙ ap (λ (l : List ℕ). l ++ f (i + m)) (joined_after f i m) ∙ append_assoc (joined f i) (joined (λ j. f (i + j)) m) (f (i + m))
+use Rattle.aes_core.proofs.BlockLoop.{joined_more, joined_after}
 
 pub length-joined : (size : ℕ) (f : ℕ → List ℕ) (n : ℕ) → AreOf size f n → length (joined f n) ≡ size * n
 unfolding joined

@@ -1,17 +1,17 @@
 -- Which blocks are taken: those of a mini-transaction, and none whose last byte was inverted.
-use Rattle.std.proofs.Common.{◌≡◌, ◌≢◌, ℕ, ◌+◌, ◌-◌, ◌<◌, ◌≤◌, ◌^◌, ◌==◌, Bool, true, false, List, [], ◌++◌, length, take, drop, set, refl, sym, ap, subst, ◌∙◌, arith, length-drop, ⊎_elim}
+use Rattle.std.proofs.Common.{◌≡◌, ◌≢◌, ℕ, ◌-◌, ◌<◌, ◌≤◌, ◌^◌, Bool, true, false, List, length, take, drop, refl, sym, ap, subst, ◌∙◌, arith, length-drop, ⊎_elim}
 use Rattle.std.specs.Prelude.{eqb, leb, Result, Ok, Err, IsErrAnd}
 use Rattle.std.specs.Int.{from_be_bytes, w32}
 use Rattle.std.proofs.lemmas.Bool.{eq-eqb, le-leb, ne_eqb}
 use Rattle.std.proofs.lemmas.Bool.Decides.{eqb_tells}
 use Rattle.std.proofs.lemmas.List.{length-set, take_all}
-use Rattle.byte_list.specs.Bytes.{AreBytes, range}
+use Rattle.byte_list.specs.Bytes.{AreBytes}
 use Rattle.byte_list.specs.Fields.{be32_at}
 use Rattle.bytes_core.specs.Crc.{crc32c}
 use Rattle.bytes_core.specs.LastByte.{EndsInCrc32c, last_inverted}
 use Rattle.bytes_core.proofs.LastByte.{inverted-not_ends, stored-ends}
 use Rattle.redo_text.specs.declared.fault.BlockFault.{BlockFault}
-use Rattle.redo_text.specs.declared.fault.BlockFault.TheVariants.{BadBlock, BadHead, WrongNumber}
+use Rattle.redo_text.specs.declared.fault.BlockFault.TheVariants.{BadBlock, BadHead}
 use Rattle.redo_text.specs.declared.key.RedoKey.{RedoKey}
 use Rattle.redo_text.specs.Block.{flags, ring_block}
 use Rattle.redo_text.specs.Reading.{computed_block_sum, fits_used, block_flags, is_first, is_last, number_of, reading, stored_block_sum, used_of, block_version}
@@ -57,15 +57,15 @@ pub reading_bad : (number : ℕ) (o : List ℕ) → stored_block_sum o ≢ compu
 unfolding reading
 reading_bad number o differ = rw (ne_eqb (stored_block_sum o) (computed_block_sum o) differ) refl
 
--- a block that is taken ends in its checksum
+-- a block that is taken sum_ends in its checksum
 pub reading_sum : (number : ℕ) (o : List ℕ) → reading number o ≡ Ok tt → stored_block_sum o ≡ computed_block_sum o
 reading_sum number o ok =
     ⊎_elim (λ (yes : (eqb (stored_block_sum o) (computed_block_sum o) ≡ true) × (stored_block_sum o ≡ computed_block_sum o)). yes.1)
     (λ (no : (eqb (stored_block_sum o) (computed_block_sum o) ≡ false) × (stored_block_sum o ≢ computed_block_sum o)). let bad : Ok tt ≡ Err (BadBlock (stored_block_sum o) (computed_block_sum o)) = sym ok ∙ reading_bad number o no.1 in absurd cc) (eqb_tells (stored_block_sum o) (computed_block_sum o))
 
-ends : (o : List ℕ) → length o ≡ 4096 → AreBytes o → stored_block_sum o ≡ computed_block_sum o → EndsInCrc32c o
+pub sum_ends : (o : List ℕ) → length o ≡ 4096 → AreBytes o → stored_block_sum o ≡ computed_block_sum o → EndsInCrc32c o
 unfolding be32_at
-ends o long are sum =
+sum_ends o long are sum =
     let end : length o - 4 ≡ 4092 = omega (arith, long) in
     let four : take 4 (drop 4092 o) ≡ drop 4092 o = take_all 4 (drop 4092 o) (omega (arith, length-drop 4092 o, long)) in
     stored-ends o (omega (arith, long)) are
@@ -75,7 +75,7 @@ ends o long are sum =
 pub torn : (whole o : List ℕ) → length o ≡ 4096 → AreBytes o → AreBytes whole → o ≡ last_inverted whole → stored_block_sum whole ≡ computed_block_sum whole → stored_block_sum o ≢ computed_block_sum o
 torn whole o long are bytes is sum same =
     let size : length whole ≡ 4096 = sym (length-set whole (length whole - 1) _) ∙ sym (ap length is) ∙ long in
-    inverted-not_ends whole (ends whole size bytes sum) (subst EndsInCrc32c is (ends o long are same))
+    inverted-not_ends whole (sum_ends whole size bytes sum) (subst EndsInCrc32c is (sum_ends o long are same))
 
 abbrev fault_of : Result (Unit {0}) BlockFault → BlockFault
 fault_of (Ok u) = BadHead 0

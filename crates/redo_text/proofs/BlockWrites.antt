@@ -1,6 +1,5 @@
 -- The writes of a block over zero bytes, in order: head, text, cipher and checksum.
-use Rattle.std.proofs.Common.{◌≡◌, ℕ, ◌+◌, ◌-◌, ◌*◌, ◌<◌, ◌≤◌, List, [], ◌++◌, length, take, drop, refl, sym, ap, ◌∙◌, arith, length-append, append_assoc}
-use Rattle.std.specs.Int.{to_be_bytes, w16, w32, w64}
+use Rattle.std.proofs.Common.{◌≡◌, ℕ, ◌+◌, ◌-◌, ◌≤◌, List, [], ◌++◌, length, take, refl, sym, ap, ◌∙◌, arith, length-append, append_assoc}
 use Rattle.std.proofs.lemmas.List.{append-nil, replicate-append-replicate, take_at}
 use Rattle.byte_list.specs.Bytes.{put, range, zeros}
 use Rattle.byte_list.proofs.PutLaws.{put_at}

@@ -1,7 +1,7 @@
 -- No text of a change begins another change's text: what a text begins with is read off it.
-use Rattle.std.proofs.Common.{◌≡◌, ℕ, ◌+◌, ◌<◌, ◌≤◌, ◌^◌, ◌==◌, List, [], ◌∷◌, ◌++◌, length, take, drop, get_or, refl, sym, ap, ◌∙◌, arith, length-append, append_assoc}
+use Rattle.std.proofs.Common.{◌≡◌, ℕ, ◌+◌, ◌<◌, ◌≤◌, ◌^◌, ◌==◌, List, [], ◌∷◌, ◌++◌, length, take, drop, get_or, refl, sym, ap, ◌∙◌, arith}
 use Rattle.std.specs.Prelude.{if◌then◌else◌}
-use Rattle.std.specs.Int.{from_be_bytes, to_be_bytes, w16, w32}
+use Rattle.std.specs.Int.{from_be_bytes, to_be_bytes, w32}
 use Rattle.std.proofs.lemmas.List.{drop_at, take_at}
 use Rattle.std.proofs.lemmas.Nat.{from_be_bytes-to_be_bytes_2, from_be_bytes-to_be_bytes_4}
 use Rattle.byte_list.specs.Fields.{be16_at, be32_at}
@@ -69,7 +69,7 @@ one_change text c d r s b e = begins-change text c r b ∙ sym (begins-change te
 pub one_rest : (text : List ℕ) (c d : Change) (r s : List ℕ) → Begins text c r → Begins text d s → r ≡ s
 one_rest text c d r s b e = begins-rest text c r b ∙ sym (begins-rest text d s e)
 
-change_some : (c : Change) (rest : List ℕ) → change_text c ++ rest ≡ [] → ⊥
+pub change_some : (c : Change) (rest : List ℕ) → change_text c ++ rest ≡ [] → ⊥
 change_some (Put space page at bytes) rest e = absurd (omega (arith, ap length e))
 change_some (Kind space page kind) rest e = absurd (omega (arith, ap length e))
 change_some (Touch space page) rest e = absurd (omega (arith, ap length e))

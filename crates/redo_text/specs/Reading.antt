@@ -1,5 +1,5 @@
 -- What is looked at before a ring block is taken, in order, and what is read of it.
-use Rattle.std.specs.Prelude.{ℕ, ◌/◌, ◌%◌, ◌==◌, ◌&&◌, ◌||◌, Bool, leb, not, List, length, if◌then◌else◌, Result, Ok, Err}
+use Rattle.std.specs.Prelude.{ℕ, ◌/◌, ◌%◌, ◌==◌, ◌&&◌, ◌||◌, Bool, leb, not, List, if◌then◌else◌, Result, Ok, Err}
 use Rattle.byte_list.specs.Bytes.{put, range}
 use Rattle.byte_list.specs.Fields.{be16_at, be32_at, be64_at}
 use Rattle.bytes_core.specs.Crc.{crc32c}

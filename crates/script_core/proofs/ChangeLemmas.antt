@@ -1,7 +1,6 @@
 -- The words of changes.
 use Rattle.std.proofs.Common.{◌≡◌, ◌≢◌, ℕ, ◌+◌, ◌≤◌, ◌<◌, List, [], ◌∷◌, ◌++◌, length, ap, sym, ◌∙◌, subst, inl, inr, refl, codes, arith}
 use mathlib.Core.List.{append_assoc}
-use Rattle.std.proofs.lemmas.List.{append-nil, length_push}
 use Rattle.script_core.specs.Words.{Word}
 use Rattle.script_core.specs.Fields.{FaultIn}
 use Rattle.script_core.specs.Names.{change_name_of, change_fields_of}

@@ -1,12 +1,11 @@
 -- A line's words that can stand have no fault, and words that can't have one.
-use Rattle.std.proofs.Common.{◌≡◌, ◌≢◌, ◌⊎◌, ℕ, ◌<◌, ◌≤◌, ◌^◌, List, [], ◌∷◌, ap, sym, ◌∙◌, subst, inl, inr, refl, arith, drop, get_or}
-use Rattle.std.specs.Str.Parse.{digits_value}
-use Rattle.script_core.specs.Words.{Word, IsNumeral, IsNumber, NotNumber, IsOutOfRange, IsPageType, IsHex}
+use Rattle.std.proofs.Common.{◌≡◌, ◌⊎◌, ℕ, ◌<◌, ◌≤◌, ◌^◌, List, [], ◌∷◌, ap, sym, ◌∙◌, subst, inl, inr, refl, arith, drop}
+use Rattle.script_core.specs.Words.{Word, IsNumber, NotNumber}
 use Rattle.script_core.specs.Batches.{IsOut}
 use Rattle.script_core.specs.Fields.{Field, Numeral, PageType, Bytes, Byte, FreeBatch, HeldBatch, End, Takes, FitsField, Misfit, FaultAt, Passes, FaultIn}
 use Rattle.script_core.specs.declared.act.Act.{Act}
 use Rattle.script_core.specs.declared.fault.LineFault.{LineFault}
-use Rattle.script_core.specs.declared.fault.LineFault.TheVariants.{Number, Range, Hex, Missing, Extra, Batch}
+use Rattle.script_core.specs.declared.fault.LineFault.TheVariants.{Missing}
 use Rattle.script_core.proofs.NumberLemmas.{number_numeral}
 
 -- a number is no word that isn't one

@@ -1,18 +1,12 @@
 -- One field of a line: what stands first, and what is wrong where another word does.
-use Rattle.std.proofs.Common.{◌≡◌, ◌⊎◌, ℕ, List, [], ◌∷◌, sym, subst, inl, inr, Result, Ok, Err, IfOk, IfErr, IsErrAnd, refl}
-use Rattle.script_core.specs.Words.{Word, IsNumber, NotNumber, IsPageType, IsHex}
-use Rattle.script_core.specs.Batches.{IsOut}
-use Rattle.script_core.specs.Fields.{Field, Numeral, PageType, Bytes, Byte, FreeBatch, HeldBatch, End, Takes, FitsField, Misfit, FaultAt, Passes, ForFault}
+use Rattle.std.proofs.Common.{◌≡◌, ℕ, List, [], ◌∷◌, sym, subst, inl, Result, Ok, Err, IfOk, IfErr}
+use Rattle.script_core.specs.Words.{Word, NotNumber}
+use Rattle.script_core.specs.Fields.{Field, Numeral, PageType, Bytes, Byte, FreeBatch, HeldBatch, End, Misfit, FaultAt, ForFault}
 use Rattle.script_core.specs.declared.fault.LineError.{LineError}
 use Rattle.script_core.specs.declared.fault.LineError.TheVariants.{Fault, OutOfMemory}
 use Rattle.script_core.specs.declared.act.Act.{Act}
 use Rattle.script_core.specs.declared.fault.LineFault.{LineFault}
-use Rattle.script_core.specs.declared.fault.LineFault.TheVariants.{Missing, Extra, Batch, Range}
-
--- a refusal that is handed on
-pub handed : {T E : Type 0} (P : E → Type 0) (r : Result T E) (x : E) → IsErrAnd r (λ e. e ≡ x) → P x → IfErr r P
-handed P (Ok v) x is p = absurd is
-handed P (Err e) x is p = subst P (sym is) p
+use Rattle.script_core.specs.declared.fault.LineFault.TheVariants.{Missing}
 
 -- each refusal of the one kind is one of the other
 pub err_more : {T E : Type 0} (P Q : E → Type 0) (r : Result T E) → IfErr r P → ((e : E) → P e → Q e) → IfErr r Q

@@ -1,6 +1,6 @@
 -- Words in hex digits.
-use Rattle.std.proofs.Common.{◌≡◌, ℕ, ◌<◌, List, [], ◌∷◌, length, ap, sym, ◌∙◌, subst, arith, Result, Ok, Err, MatchResult, refl}
-use Rattle.hex.specs.Hex.{decode_of, decode_sized}
+use Rattle.std.proofs.Common.{◌≡◌, ℕ, List, [], ◌∷◌, length, ◌∙◌, subst, arith, Result, Ok, Err, MatchResult}
+use Rattle.hex.specs.Hex.{decode_sized}
 use Rattle.hex.specs.declared.error.FromHexError.{FromHexError}
 use Rattle.hex.proofs.HexLemmas.{decode_of-ok, decode_sized-twice}
 use Rattle.script_core.specs.Words.{Word, IsHex}

@@ -1,15 +1,16 @@
 -- Words joined by a byte that none of them has, and cut there again.
-use Rattle.std.proofs.Common.{◌≡◌, ◌≢◌, ℕ, ◌<◌, ◌≤◌, ◌^◌, List, [], ◌∷◌, ◌++◌, ◌==◌, All, true, false, Bool, ap, sym, ◌∙◌, subst, inl, inr, refl, arith, length, get_or, zero, suc, codes, rules, Ok}
+use Rattle.std.proofs.Common.{◌≡◌, ◌≢◌, ℕ, ◌<◌, ◌^◌, List, [], ◌∷◌, ◌==◌, All, true, ap, ◌∙◌, subst, refl, arith, get_or}
 use Rattle.std.specs.Fmt.{decimal}
-use Rattle.std.specs.List.{join_with_byte, slice_split, AllPass}
+use Rattle.std.specs.List.{join_with_byte}
 use Rattle.std.proofs.lemmas.List.Splits.{slice_split_none, slice_split_at}
 use Rattle.std.proofs.lemmas.List.Elements.{All-cons, All-append}
 use Rattle.std.proofs.lemmas.Bool.Decides.{Decides-eqb}
-use Rattle.hex.specs.Hex.{decode_of, encode_lower, is_hex_digit}
+use Rattle.hex.specs.Hex.{encode_lower, is_hex_digit}
 use Rattle.hex.proofs.HexLemmas.{decode_of-ok, decode_of-encode_lower}
 use Rattle.script_core.specs.Parts.{parts_of}
-use Rattle.script_core.specs.Words.{Word, IsHex, IsNumber}
+use Rattle.script_core.specs.Words.{Word, IsHex}
 use Rattle.script_core.proofs.NumberLemmas.{decimal_digits}
+use Rattle.script_core.proofs.PartsLemmas.{all_unlike}
 
 -- neither a space nor a line feed
 abbrev pub IsPlain : ℕ → Type 0
@@ -22,9 +23,6 @@ abbrev pub ArePlain : List Word → Type 0
 ArePlain [] = Unit {0}
 ArePlain (word ∷ words) = IsPlainWord word × ArePlain words
 
-unlike : (separator c : ℕ) → c ≢ separator → (c == separator) ≡ false
-unlike separator c other = search (rules, Decides-eqb c separator)
-
 is_same : (separator : ℕ) → (separator == separator) ≡ true
 is_same separator = (Decides-eqb separator separator).1 refl
 
@@ -35,14 +33,11 @@ abbrev pub AreFree : ℕ → List (List ℕ) → Type 0
 AreFree separator [] = Unit {0}
 AreFree separator (part ∷ parts) = IsFree separator part × AreFree separator parts
 
-free_test : (separator : ℕ) (text : List ℕ) → IsFree separator text → All (λ c. (c == separator) ≡ false) text
-free_test separator text free k d low = unlike separator (get_or text k d) (free k d low)
-
 -- parts that have no separator are what the text is cut into
 pub parts_joined : (separator : ℕ) (part : List ℕ) (parts : List (List ℕ)) → AreFree separator (part ∷ parts) → parts_of separator (join_with_byte separator (part ∷ parts)) ≡ part ∷ parts
-parts_joined separator part [] free = slice_split_none (λ c. c == separator) part (free_test separator part free.0)
+parts_joined separator part [] free = slice_split_none (λ c. c == separator) part (all_unlike separator part free.0)
 parts_joined separator part (next ∷ parts) free =
-    slice_split_at (λ c. c == separator) part separator (join_with_byte separator (next ∷ parts)) (free_test separator part free.0) (is_same separator)
+    slice_split_at (λ c. c == separator) part separator (join_with_byte separator (next ∷ parts)) (all_unlike separator part free.0) (is_same separator)
     ∙ ap (λ ps. part ∷ ps) (parts_joined separator next parts free.1)
 
 pub no_spaces : (words : List Word) → ArePlain words → AreFree 32 words

@@ -1,8 +1,8 @@
 -- Fields in a row: the words of each, and the first that can't stand.
-use Rattle.std.proofs.Common.{◌≡◌, ℕ, List, [], ◌∷◌, ap, inl, inr, refl, sym, subst}
-use Rattle.script_core.specs.Words.{Word, IsNumber, IsPageType, IsHex}
+use Rattle.std.proofs.Common.{◌≡◌, ℕ, List, ◌∷◌, ap, inl, inr}
+use Rattle.script_core.specs.Words.{Word, IsNumber}
 use Rattle.script_core.specs.Batches.{IsOut}
-use Rattle.script_core.specs.Fields.{Field, Numeral, PageType, Bytes, Byte, FreeBatch, HeldBatch, End, Takes, FitsField, FaultAt, Passes, FaultIn}
+use Rattle.script_core.specs.Fields.{Field, Numeral, FreeBatch, HeldBatch, Takes, FitsField, FaultAt, Passes, FaultIn}
 use Rattle.script_core.specs.declared.act.Act.{Act}
 use Rattle.script_core.specs.declared.fault.LineFault.{LineFault}
 

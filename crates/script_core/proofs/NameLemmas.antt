@@ -1,5 +1,5 @@
 -- The names are text.
-use Rattle.std.proofs.Common.{◌≡◌, rules}
+use Rattle.std.proofs.Common.{rules}
 use Rattle.std.specs.Str.{IsUtf8}
 use Rattle.script_core.specs.Names.{name_of, change_name_of}
 use Rattle.script_core.specs.declared.names.StatementName.{StatementName}

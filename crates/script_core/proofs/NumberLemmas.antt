@@ -1,16 +1,14 @@
 -- Numbers in decimal digits.
-use Rattle.std.proofs.Common.{◌≡◌, ◌≢◌, ◌⊎◌, ℕ, ◌<◌, ◌≤◌, ◌^◌, length, get_or, arith, sym, ◌∙◌, ap, subst, inl, inr, List, [], ◌∷◌, refl, zero, suc, Result, Ok, Err, All}
+use Rattle.std.proofs.Common.{◌≡◌, ℕ, ◌<◌, ◌≤◌, ◌^◌, length, get_or, arith, sym, ◌∙◌, ap, subst, inl, inr, [], ◌∷◌, refl, zero, suc, Result, Ok, Err, All}
 use Rattle.std.specs.Fmt.{decimal}
 use Rattle.std.specs.Result.{OkIff}
 use Rattle.std.specs.Str.{IsUtf8}
 use Rattle.std.specs.Str.Parse.{AllDigits, digits_value, ParsesUnsigned}
-use Rattle.std.proofs.lemmas.Fmt.{decimal_digit, first_decimal, decimal_nonempty, decimal-digits_value, digits_value-decimal, digits_decimal, decimal_injective, IsAscii-from_digits}
+use Rattle.std.proofs.lemmas.Fmt.{decimal_digit, first_decimal, decimal_nonempty, decimal-digits_value, digits_value-decimal, digits_decimal, IsAscii-from_digits}
 use Rattle.std.proofs.lemmas.Bool.{cases_lt}
 use Rattle.std.proofs.lemmas.Str.{IsUtf8-from_ascii}
 use Rattle.std.proofs.lemmas.Str.Parse.{IsNumeralModel, numerals_by_value, tells_by_index, tells_digits, digit_at, parse_digits}
-use Rattle.script_core.specs.Words.{Word, IsDigit, IsNumeral, IsNumber, NotNumber, IsOutOfRange}
-use Rattle.script_core.specs.declared.fault.LineFault.{LineFault}
-use Rattle.script_core.specs.declared.fault.LineFault.TheVariants.{Number, Range}
+use Rattle.script_core.specs.Words.{Word, IsDigit, IsNumeral, IsNumber}
 
 pub own : IsNumeralModel (AllDigits 10) (digits_value 10)
 own = numerals_by_value (AllDigits 10) tells_digits

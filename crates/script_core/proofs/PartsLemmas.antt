@@ -7,7 +7,7 @@ use Rattle.script_core.specs.Parts.{IsNot, IsCut, parts_of}
 unlike : (separator byte : ℕ) → byte ≢ separator → (byte == separator) ≡ false
 unlike separator byte other = search (rules, Decides-eqb byte separator)
 
-all_unlike : (separator : ℕ) (text : List ℕ) → All (IsNot separator) text → All (λ byte. (byte == separator) ≡ false) text
+pub all_unlike : (separator : ℕ) (text : List ℕ) → All (IsNot separator) text → All (λ byte. (byte == separator) ≡ false) text
 all_unlike separator text free k d low = unlike separator (get_or text k d) (free k d low)
 
 pub one_part : (separator : ℕ) (text : List ℕ) → All (IsNot separator) text → parts_of separator text ≡ text ∷ []

@@ -1,13 +1,13 @@
 -- A script that is printed by the grammar's own spelling reads as itself.
-use Rattle.std.proofs.Common.{◌≡◌, ◌≢◌, ◌⊎◌, ℕ, ◌+◌, ◌-◌, ◌<◌, ◌≤◌, ◌^◌, List, [], ◌∷◌, ◌++◌, ap, sym, ◌∙◌, subst, inl, inr, refl, arith, length, get_or, codes, replicate, suc, zero, Bool, true, false, ◌&&◌, nat_lt}
+use Rattle.std.proofs.Common.{◌≡◌, ◌≢◌, ℕ, ◌+◌, ◌-◌, ◌<◌, ◌≤◌, ◌^◌, List, [], ◌∷◌, ◌++◌, ap, sym, ◌∙◌, subst, inl, inr, refl, arith, length, get_or, codes, replicate, suc, Bool, true, false, ◌&&◌, nat_lt}
 use Rattle.std.proofs.lemmas.Bool.Decides.{Decides-ltb}
 use Rattle.std.proofs.lemmas.List.Elements.{All-cons}
 use Rattle.std.specs.Fmt.{decimal}
 use Rattle.std.specs.List.{join_with_byte}
 use Rattle.hex.specs.Hex.{encode_lower}
-use Rattle.script_core.specs.Words.{Word, IsNumber, IsPageType, IsHex, script_lines, words_of}
+use Rattle.script_core.specs.Words.{Word, IsNumber, script_lines, words_of}
 use Rattle.script_core.specs.Names.{name_of, change_name_of}
-use Rattle.script_core.specs.Statements.{IsU32, change_name, AreChangeArguments, IsChange, AreChanges, statement_name, AreArguments, IsStatement}
+use Rattle.script_core.specs.Statements.{change_name, AreChangeArguments, IsChange, AreChanges, statement_name, AreArguments, IsStatement}
 use Rattle.script_core.specs.Scripts.{IsSkipped, Reads, NoLine, Skipped, Said, IsScript}
 use Rattle.script_core.specs.Printing.{change_arguments, change_spelling, changes_spelling, arguments_of, spelling, line_of, lines_from, printed}
 use Rattle.script_core.specs.declared.names.StatementName.{StatementName}
@@ -19,7 +19,7 @@ use Rattle.script_core.specs.declared.act.Act.TheVariants.{Mtr, Read, Sync, Flus
 use Rattle.script_core.specs.declared.act.ScriptChange.{ScriptChange}
 use Rattle.script_core.specs.declared.act.ScriptChange.TheVariants as change
 use Rattle.script_core.specs.declared.script.Statement.{Statement}
-use Rattle.script_core.proofs.Joining.{IsPlain, IsPlainWord, ArePlain, AreFree, IsFree, parts_joined, no_spaces, no_feed, plain_decimal, plain_hex, hex_again}
+use Rattle.script_core.proofs.Joining.{IsPlain, IsPlainWord, ArePlain, AreFree, parts_joined, no_spaces, no_feed, plain_decimal, plain_hex, hex_again}
 
 again : (word : Word) (low high n : ℕ) → IsNumber word low high n → IsNumber (decimal n) low high n
 again word low high n is = record { spelled = refl; from = is.from; to = is.to }

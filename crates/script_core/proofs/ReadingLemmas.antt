@@ -1,5 +1,5 @@
 -- Lines read one after another.
-use Rattle.std.proofs.Common.{◌≡◌, ◌≢◌, ◌⊎◌, ℕ, ◌+◌, ◌≤◌, ◌<◌, List, [], ◌∷◌, ◌++◌, length, get_or, ap, sym, ◌∙◌, subst, inl, inr, refl, arith, Bool}
+use Rattle.std.proofs.Common.{◌≡◌, ℕ, ◌+◌, ◌≤◌, List, [], ◌∷◌, ◌++◌, length, ap, sym, ◌∙◌, subst, arith, Bool}
 use mathlib.Core.List.{append_assoc}
 use Rattle.std.proofs.lemmas.List.{append-nil}
 use Rattle.std.proofs.lemmas.List.Sums.{count_by-le-length}
@@ -8,7 +8,7 @@ use Rattle.std.specs.Prelude.{◌==◌}
 use Rattle.script_core.specs.Words.{Word, script_lines, words_of}
 use Rattle.script_core.specs.Batches.{Tells, HasBatch}
 use Rattle.script_core.specs.Statements.{IsStatement, IsLineFault, AreArguments}
-use Rattle.script_core.specs.Scripts.{IsSkipped, Reads, NoLine, Skipped, Said, BadAt, Bad, PastSkipped, PastSaid, IsLine, IsLineRefusal, IsScriptRefusal, IsScript}
+use Rattle.script_core.specs.Scripts.{IsSkipped, Reads, NoLine, Skipped, Said, BadAt, Bad, PastSkipped, PastSaid, IsLineRefusal, IsScriptRefusal, IsScript}
 use Rattle.script_core.specs.declared.act.Act.{Act}
 use Rattle.script_core.specs.declared.act.Act.TheVariants.{Mtr, Read, Sync, Flush, Check, Take, Put, Activate, Encrypt, Rotate, Report}
 use Rattle.script_core.specs.declared.script.Statement.{Statement}

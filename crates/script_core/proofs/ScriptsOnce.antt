@@ -1,10 +1,10 @@
 -- A text is one script at most, and then no line is bad; a text has one first bad line at most.
-use Rattle.std.proofs.Common.{◌≡◌, ◌≢◌, ◌⊎◌, ℕ, ◌+◌, ◌<◌, ◌≤◌, List, [], ◌∷◌, ap, sym, ◌∙◌, subst, inl, inr, refl, arith, drop, get_or, length, codes}
-use Rattle.script_core.specs.Words.{Word, IsNumber, script_lines, words_of}
+use Rattle.std.proofs.Common.{◌≡◌, ◌≢◌, ◌⊎◌, ℕ, ◌+◌, ◌≤◌, List, [], ◌∷◌, ap, sym, ◌∙◌, subst, inl, inr, refl, arith, drop, get_or, length, codes}
+use Rattle.script_core.specs.Words.{Word, script_lines, words_of}
 use Rattle.script_core.specs.Names.{name_of, change_name_of, fields_of, change_fields_of}
-use Rattle.script_core.specs.Fields.{Field, Numeral, PageType, Bytes, Byte, FreeBatch, HeldBatch, End, Takes, FitsField, Passes, FaultAt, FaultIn}
+use Rattle.script_core.specs.Fields.{Field, Numeral, Takes, FitsField, Passes, FaultIn}
 use Rattle.script_core.specs.Statements.{change_name, AreChangeArguments, IsChange, AreChanges, statement_name, AreArguments, IsStatement, ChangeFault, ChangesFault, InChange, NoSemicolon, Full, InRest, ArgumentFault, IsLineFault}
-use Rattle.script_core.specs.Scripts.{IsSkipped, Reads, NoLine, Skipped, Said, BadAt, Bad, PastSkipped, PastSaid, IsScript, IsOnlyScript, HasNoBadLine, IsFirstBad, IsScriptRefusal, Excludes}
+use Rattle.script_core.specs.Scripts.{Reads, NoLine, Skipped, Said, BadAt, Bad, PastSkipped, PastSaid, IsScript, IsOnlyScript, HasNoBadLine, IsFirstBad, IsScriptRefusal, Excludes}
 use Rattle.script_core.specs.declared.names.StatementName.{StatementName}
 use Rattle.script_core.specs.declared.names.StatementName.TheVariants as name
 use Rattle.script_core.specs.declared.names.ChangeName.{ChangeName}
@@ -19,7 +19,7 @@ use Rattle.script_core.specs.declared.fault.LineFault.TheVariants as fault
 use Rattle.script_core.specs.declared.fault.ScriptFault.{ScriptFault}
 use Rattle.script_core.specs.declared.fault.ScriptFault.TheVariants.{BadLine, TooMany, OutOfMemory}
 use Rattle.script_core.proofs.FaultsOnce.{AllPass, AreBounded, no_fault, one_fault, no_fault_there, one_fault_there, one_rest}
-use Rattle.script_core.proofs.StatementsOnce.{one_change, one_changes, one_statement, name_of-injective, change_name_of-injective}
+use Rattle.script_core.proofs.StatementsOnce.{one_change, one_statement, name_of-injective, change_name_of-injective}
 
 -- a word that can stand, first of some words
 first : (before : List Act) (word : Word) (rest : List Word) (field : Field) → FitsField before field word → Takes (word ∷ rest) rest (FitsField before field)

@@ -1,5 +1,5 @@
 -- The words of a line.
-use Rattle.std.proofs.Common.{◌≡◌, ◌≢◌, ℕ, List, [], ◌∷◌, ap, sym, ◌∙◌, subst, inl, inr, refl}
+use Rattle.std.proofs.Common.{◌≡◌, ◌≢◌, List, [], ◌∷◌, ap, sym, ◌∙◌, subst, inl, inr, refl}
 use Rattle.script_core.specs.Words.{Word}
 use Rattle.script_core.specs.Names.{name_of}
 use Rattle.script_core.specs.Statements.{statement_name, AreArguments, ArgumentFault, IsStatement, IsLineFault}

@@ -1,12 +1,10 @@
 -- The words of a line are one statement at most, and a statement has no fault.
-use Rattle.std.proofs.Common.{◌≡◌, ◌≢◌, ◌⊎◌, ℕ, ◌+◌, ◌<◌, ◌≤◌, ◌^◌, List, [], ◌∷◌, ap, sym, ◌∙◌, subst, inl, inr, refl, arith, drop, get_or, length, codes, nat_eq, if◌then◌else◌, Result, Ok, Err}
+use Rattle.std.proofs.Common.{◌≡◌, ℕ, ◌<◌, ◌^◌, List, [], ◌∷◌, ap, sym, ◌∙◌, subst, refl, arith, drop, get_or, codes, nat_eq, if◌then◌else◌, Result, Ok, Err}
 use Rattle.std.specs.Str.Parse.{digits_value}
 use Rattle.hex.specs.Hex.{decode_of}
-use Rattle.hex.proofs.HexLemmas.{decode_of-same}
-use Rattle.script_core.specs.Words.{Word, IsNumber, IsPageType, IsHex}
-use Rattle.script_core.specs.Names.{name_of, change_name_of, fields_of, change_fields_of, any_u32}
-use Rattle.script_core.specs.Fields.{Field, Numeral, PageType, Bytes, Byte, FreeBatch, HeldBatch, End, Takes, Passes, FaultAt, FaultIn, FitsField}
-use Rattle.script_core.specs.Statements.{IsU32, change_name, AreChangeArguments, IsChange, AreChanges, statement_name, AreArguments, IsStatement, ChangeFault, ChangesFault, InChange, NoSemicolon, Full, InRest, ArgumentFault, IsLineFault}
+use Rattle.script_core.specs.Words.{Word, IsNumber, IsHex}
+use Rattle.script_core.specs.Names.{name_of, change_name_of}
+use Rattle.script_core.specs.Statements.{change_name, AreChangeArguments, IsChange, AreChanges, statement_name, AreArguments, IsStatement}
 use Rattle.script_core.specs.declared.names.StatementName.{StatementName}
 use Rattle.script_core.specs.declared.names.StatementName.TheVariants as name
 use Rattle.script_core.specs.declared.names.ChangeName.{ChangeName}
@@ -15,8 +13,6 @@ use Rattle.script_core.specs.declared.act.Act.{Act}
 use Rattle.script_core.specs.declared.act.Act.TheVariants.{Mtr, Read, Sync, Flush, Check, Take, Put, Activate, Encrypt, Rotate, Report}
 use Rattle.script_core.specs.declared.act.ScriptChange.{ScriptChange}
 use Rattle.script_core.specs.declared.act.ScriptChange.TheVariants as change
-use Rattle.script_core.specs.declared.fault.LineFault.{LineFault}
-use Rattle.script_core.specs.declared.fault.LineFault.TheVariants as fault
 use Rattle.script_core.proofs.NumberLemmas.{number_numeral}
 
 -- A name determines its statement

@@ -1,14 +1,12 @@
 -- A checkpoint that is written is read back, and refused once its last byte is inverted.
-use Rattle.std.proofs.Common.{◌≡◌, ℕ, ◌+◌, ◌%◌, ◌^◌, ◌<◌, ◌≤◌, ◌&&◌, Bool, true, false, true≢false, nat_eq, nat_le, if◌then◌else◌, List, ◌++◌, Option, Some, None, refl, sym, ap, ◌∙◌, arith, append_assoc}
+use Rattle.std.proofs.Common.{◌≡◌, ℕ, ◌+◌, ◌^◌, Bool, true, false, true≢false, nat_eq, nat_le, if◌then◌else◌, List, Some, None, refl, sym, ap, ◌∙◌, arith}
 use Rattle.std.proofs.lemmas.Bool.Decides.{nat_tests}
 use Rattle.std.proofs.lemmas.Slice.Eq.{bytes_eq-Decides}
-use Rattle.std.specs.Int.{to_be_bytes, w32, w64}
 use Rattle.std.specs.Prelude.{codes}
-use Rattle.bytes_core.specs.Crc.{crc32c}
 use Rattle.bytes_core.proofs.LastByte.{ends-append}
 use Rattle.disk_model.specs.Crash.{torn_bytes}
 use Rattle.byte_list.specs.Fields.{be64_at}
-use Rattle.byte_list.specs.Bytes.{range, zeros}
+use Rattle.byte_list.specs.Bytes.{range}
 use Rattle.byte_list.proofs.FieldLaws.{be64_at-written}
 use Rattle.page_places.specs.Texts.{ends_in_sum}
 use Rattle.page_places.proofs.Sums.{and_left, and_both, not_true, ends-ends_in_sum, torn_page}

@@ -1,21 +1,21 @@
 -- Contents of a header's spaces are given by their pages, and their salts by the pages 0.
-use Rattle.std.proofs.Common.{◌≡◌, ◌≢◌, ℕ, zero, suc, ◌+◌, ◌<◌, ◌≤◌, ◌&&◌, ◌||◌, Bool, true, false, true≢false, nat_eq, nat_le, nat_lt, if◌then◌else◌, List, [], ◌∷◌, length, Option, Some, None, refl, sym, ap, ap₂, subst, ◌∙◌, arith}
+use Rattle.std.proofs.Common.{◌≡◌, ℕ, suc, ◌+◌, ◌<◌, ◌||◌, Bool, true, false, nat_eq, nat_le, if◌then◌else◌, List, [], ◌∷◌, length, Option, Some, None, refl, sym, ap, subst, ◌∙◌, arith}
 use Rattle.std.specs.Prelude.{codes}
 use Rattle.std.specs.Str.{bytes_eq}
 use Rattle.byte_list.specs.Fields.{be32_at}
 use Rattle.byte_list.specs.Bytes.{range}
 use Rattle.std.proofs.lemmas.Bool.Decides.{nat_tests}
 use Rattle.std.proofs.lemmas.List.{ext_get_or}
+use Rattle.std.proofs.lemmas.Option.{same_Some}
+use Rattle.std.proofs.lemmas.Bool.{cond-true, cond-false}
 use Rattle.store_model.specs.declared.contents.PlainPage.{PlainPage}
 use Rattle.store_model.specs.declared.contents.SpaceContents.{SpaceContents}
 use Rattle.space_head.specs.declared.space.SpaceInfo.{SpaceInfo}
 use Rattle.page_places.specs.Texts.{ends_in_sum}
 use Rattle.page_places.proofs.Sums.{and_left, and_right}
-use Rattle.store_files.specs.Header.{HeldHeader, HeldSpace, header_in, header_fields, is_header, are_in_order, are_allowed, pages_together}
-use Rattle.store_files.specs.Pages.{Page, Head, Unused, Used, page_held, page_in, pages_of, salts_of, has_page, HaveSpaces}
-
-one_some : {A : Type 0} (x y : A) → Some x ≡ Some y → x ≡ y
-one_some x y e = cc
+use Rattle.store_files.specs.Header.{HeldHeader, HeldSpace, header_in, header_fields, is_header, are_in_order, are_allowed}
+use Rattle.store_files.specs.Pages.{Head, page_held, page_in, pages_of, salts_of, has_page, HaveSpaces}
+use Rattle.store_files.proofs.SpacesInOrder.{ordered, other_space, has_first, has_rest}
 
 -- ---- a header that is read
 
@@ -34,44 +34,8 @@ unfolding header_in
 header_order b h is = by (is_header b) refl is
   where
     by : (v : Bool) → is_header b ≡ v → (if v then Some (header_fields b) else None) ≡ Some h → are_in_order 0 h.spaces ≡ true
-    by true valid e = subst (λ (x : HeldHeader). are_in_order 0 x.spaces ≡ true) (one_some _ _ e) (fields_order b valid)
+    by true valid e = subst (λ (x : HeldHeader). are_in_order 0 x.spaces ≡ true) (same_Some _ _ e) (fields_order b valid)
     by false valid e = absurd (cc)
-
--- ---- spaces in order
-
-record Ordered (id : ℕ) (h : HeldSpace) (hs : List HeldSpace) : Type 0 where
-  lower : id < h.space
-  some : 2 ≤ h.pages
-  rest : are_in_order h.space hs ≡ true
-
-ordered : (id : ℕ) (h : HeldSpace) (hs : List HeldSpace) → are_in_order id (h ∷ hs) ≡ true → Ordered id h hs
-unfolding are_in_order
-ordered id h hs order =
-    let first : nat_lt id h.space ≡ true = and_left _ _ order in
-    let a = and_right (nat_lt id h.space) _ order in
-    let b = and_right (nat_le h.space 4294967279) _ a in
-    let pages : nat_le 2 h.pages ≡ true = and_left _ _ b in
-    record { lower = grind (arith, nat_tests); some = grind (arith, nat_tests); rest = and_right (nat_le 1 h.key_id) _ (and_right (nat_le 2 h.pages) _ b) }
-
--- a space of a list in order is above the id before the list
-above : (id : ℕ) (hs : List HeldSpace) (s p : ℕ) → are_in_order id hs ≡ true → has_page hs s p ≡ true → id < s
-above id [] s p order is = absurd (true≢false (sym is))
-above id (h ∷ hs) s p order is =
-    let o = ordered id h hs order in
-    by (nat_eq h.space s) refl o.lower (λ rest. above h.space hs s p o.rest rest) is
-  where
-    by : (b : Bool) → nat_eq h.space s ≡ b → id < h.space → (has_page hs s p ≡ true → h.space < s) → (if b then nat_lt p h.pages else has_page hs s p) ≡ true → id < s
-    by true same lower later is = let e : h.space ≡ s = grind (arith, nat_tests) in omega (arith, lower, e)
-    by false same lower later is = omega (arith, lower, later is)
-
-other : (h : HeldSpace) (hs : List HeldSpace) (s p : ℕ) → are_in_order h.space hs ≡ true → has_page hs s p ≡ true → nat_eq h.space s ≡ false
-other h hs s p order is = let lt = above h.space hs s p order is in grind (arith, nat_tests)
-
-if_true : {A : Type 0} (b : Bool) (x y : A) → b ≡ true → (if b then x else y) ≡ x
-if_true b x y is = ap (λ (t : Bool). if t then x else y) is
-
-if_false : {A : Type 0} (b : Bool) (x y : A) → b ≡ false → (if b then x else y) ≡ y
-if_false b x y is = ap (λ (t : Bool). if t then x else y) is
 
 -- what is asked of two contents of the same spaces: equal pages, p being below some bound
 abbrev Same : (ℕ → Type 0) → List HeldSpace → List SpaceContents → List SpaceContents → Type 0
@@ -79,25 +43,24 @@ Same P hs c d = (s p : ℕ) → P p → has_page hs s p ≡ true → pages_of c 
 
 same_rest : (P : ℕ → Type 0) (h : HeldSpace) (hs : List HeldSpace) (x y : SpaceContents) (xs ys : List SpaceContents) → are_in_order h.space hs ≡ true → x.info.space ≡ h.space → y.info.space ≡ h.space → Same P (h ∷ hs) (x ∷ xs) (y ∷ ys) → Same P hs xs ys
 same_rest P h hs x y xs ys order ex ey same s p ok is =
-    let o : nat_eq h.space s ≡ false = other h hs s p order is in
-    let there : has_page (h ∷ hs) s p ≡ true = if_false (nat_eq h.space s) (nat_lt p h.pages) (has_page hs s p) o ∙ is in
-    sym (if_false (nat_eq x.info.space s) (page_in x p) (pages_of xs s p) (ap (λ (n : ℕ). nat_eq n s) ex ∙ o))
+    let o : nat_eq h.space s ≡ false = other_space h hs s p order is in
+    let there : has_page (h ∷ hs) s p ≡ true = has_rest h hs s p order is in
+    sym (cond-false (nat_eq x.info.space s) (page_in x p) (pages_of xs s p) (ap (λ (n : ℕ). nat_eq n s) ex ∙ o))
     ∙ same s p ok there
-    ∙ if_false (nat_eq y.info.space s) (page_in y p) (pages_of ys s p) (ap (λ (n : ℕ). nat_eq n s) ey ∙ o)
+    ∙ cond-false (nat_eq y.info.space s) (page_in y p) (pages_of ys s p) (ap (λ (n : ℕ). nat_eq n s) ey ∙ o)
 
 same_first : (P : ℕ → Type 0) (h : HeldSpace) (hs : List HeldSpace) (x y : SpaceContents) (xs ys : List SpaceContents) (p : ℕ) → x.info.space ≡ h.space → y.info.space ≡ h.space → P p → p < h.pages → Same P (h ∷ hs) (x ∷ xs) (y ∷ ys) → page_in x p ≡ page_in y p
 same_first P h hs x y xs ys p ex ey ok lt same =
     let own : nat_eq h.space h.space ≡ true = grind (arith, nat_tests) in
-    let below : nat_lt p h.pages ≡ true = grind (arith, nat_tests) in
-    let there : has_page (h ∷ hs) h.space p ≡ true = if_true (nat_eq h.space h.space) (nat_lt p h.pages) (has_page hs h.space p) own ∙ below in
-    sym (if_true (nat_eq x.info.space h.space) (page_in x p) (pages_of xs h.space p) (ap (λ (n : ℕ). nat_eq n h.space) ex ∙ own))
+    let there : has_page (h ∷ hs) h.space p ≡ true = has_first h hs p lt in
+    sym (cond-true (nat_eq x.info.space h.space) (page_in x p) (pages_of xs h.space p) (ap (λ (n : ℕ). nat_eq n h.space) ex ∙ own))
     ∙ same h.space p ok there
-    ∙ if_true (nat_eq y.info.space h.space) (page_in y p) (pages_of ys h.space p) (ap (λ (n : ℕ). nat_eq n h.space) ey ∙ own)
+    ∙ cond-true (nat_eq y.info.space h.space) (page_in y p) (pages_of ys h.space p) (ap (λ (n : ℕ). nat_eq n h.space) ey ∙ own)
 
-one_head : (a b : SpaceInfo) → Head a ≡ Head b → a ≡ b
+pub one_head : (a b : SpaceInfo) → Head a ≡ Head b → a ≡ b
 one_head a b e = cc
 
-one_held : (a b : Option PlainPage) → page_held a ≡ page_held b → a ≡ b
+pub one_held : (a b : Option PlainPage) → page_held a ≡ page_held b → a ≡ b
 one_held None None e = refl
 one_held None (Some b) e = absurd (cc)
 one_held (Some a) None e = absurd (cc)

@@ -1,16 +1,16 @@
 -- What changes do to contents is what they do to each page: the fold of a journal, page by page.
-use Rattle.std.proofs.Common.{◌≡◌, ◌≢◌, ℕ, zero, suc, ◌+◌, ◌-◌, ◌<◌, ◌≤◌, ◌&&◌, Bool, true, false, true≢false, nat_eq, nat_lt, if◌then◌else◌, List, [], ◌∷◌, length, map, Option, Some, None, refl, sym, ap, ap₂, subst, ◌∙◌, arith}
+use Rattle.std.proofs.Common.{◌≡◌, ℕ, zero, suc, ◌+◌, ◌-◌, ◌<◌, ◌&&◌, Bool, true, false, true≢false, nat_eq, nat_lt, if◌then◌else◌, List, [], ◌∷◌, length, Option, Some, None, refl, sym, ap, ◌∙◌, arith}
 use Rattle.std.specs.Prelude.{slice_index_or, slice_set}
 use Rattle.std.proofs.lemmas.Bool.Decides.{nat_tests}
 use Rattle.std.proofs.lemmas.List.{get_or-set_same, get_or-set_other, length-set}
-use Rattle.store_model.specs.Fold.{used, written, on_page, page_changed, floor_set, made_ciphered, space_changed, space_of, changed_in, changed, after, fold}
+use Rattle.store_model.specs.Fold.{used, written, page_changed, floor_set, made_ciphered, space_changed, space_of, changed_in, changed, after, fold}
 use Rattle.redo_text.specs.declared.change.Change.{Change}
 use Rattle.redo_text.specs.declared.change.Change.TheVariants.{Put, Kind, Touch, Floor, Encrypt}
 use Rattle.store_model.specs.declared.contents.PlainPage.{PlainPage}
 use Rattle.store_model.specs.declared.contents.SpaceContents.{SpaceContents}
 use Rattle.space_head.specs.declared.space.SpaceInfo.{SpaceInfo}
 use Rattle.store_files.specs.Header.{HeldSpace}
-use Rattle.store_files.specs.Pages.{Page, Head, Unused, Used, change_names, plain_in, page_after, mtr_acts, page_held, page_in, pages_of, salts_of, has_page, HaveSpaces}
+use Rattle.store_files.specs.Pages.{Page, Head, Used, change_names, plain_in, page_after, mtr_acts, page_held, page_in, pages_of, salts_of, has_page, HaveSpaces}
 
 -- ---- one page of one space
 

@@ -1,25 +1,22 @@
 -- A page 0 is that of one head.
-use Rattle.std.proofs.Common.{◌≡◌, ℕ, zero, suc, ◌+◌, ◌-◌, ◌^◌, ◌<◌, ◌≤◌, Bool, true, false, List, [], ◌∷◌, ◌++◌, length, take, drop, Option, Some, None, Ok, Result, IfSome, if◌then◌else◌, refl, sym, ap, ap₂, ◌∙◌, arith, inl, inr, length-append, length-drop}
-use Rattle.std.proofs.lemmas.List.{length-replicate}
+use Rattle.std.proofs.Common.{◌≡◌, ℕ, ◌+◌, ◌-◌, ◌≤◌, Bool, true, false, List, ◌++◌, length, take, drop, Ok, Result, if◌then◌else◌, refl, sym, ap, ◌∙◌, arith, inl, inr, length-drop}
+use Rattle.std.proofs.lemmas.List.{take_all}
 use Rattle.std.specs.Int.{to_be_bytes, w32}
+use Rattle.std.proofs.lemmas.Option.{same_Some}
 use Rattle.byte_list.specs.Bytes.{zeros, range, put}
-use Rattle.page_text.specs.Parts.{body, part_of}
+use Rattle.page_text.specs.Parts.{body}
 use Rattle.byte_list.proofs.PartLaws.{cut_at}
 use Rattle.space_head.specs.Head.{IsAccepted, IsTyped, head_of, with_head}
-use Rattle.space_head.specs.Record.{IsTypedRecord, crypt_bytes, record_end}
-use Rattle.space_head.specs.Sizes.{IsPageSize, page_size, record_place, pages_per_extent, size_of_code}
+use Rattle.space_head.specs.Record.{crypt_bytes}
+use Rattle.space_head.specs.Sizes.{IsPageSize, page_size, record_place, size_of_code}
 use Rattle.space_head.specs.declared.fault.HeadFault.{HeadFault}
 use Rattle.space_head.specs.declared.head.SpaceHead.{SpaceHead}
-use Rattle.space_head.specs.declared.record.CryptRecord.{CryptRecord}
 use Rattle.space_head.specs.declared.space.SpaceInfo.{SpaceInfo}
-use Rattle.space_head.proofs.Heads.{head_back}
+use Rattle.space_head.proofs.Heads.{head_back, crypt_long}
 use Rattle.byte_list.proofs.PutLaws.{length-put, range-put_after, range-put_before}
-use Rattle.space_head.proofs.Places.{place_inside}
+use Rattle.space_head.proofs.Places.{place_inside, place_16384}
 use Rattle.store_files.specs.Pages.{IsTypedInfo, head_of_space, head_page}
-
-crypt_long : (crypt : Option CryptRecord) → IfSome crypt IsTypedRecord → length (crypt_bytes crypt) ≡ 33
-crypt_long None fits = refl
-crypt_long (Some r) fits = omega (arith, fits.salt_long, length-append r.salt (record_end r))
+use Rattle.byte_list.proofs.RangeLaws.{length-zeros}
 
 -- a page with a head is as before it in the first 38 bytes and behind the record
 module _ (head : SpaceHead) (page : List ℕ) (sized : IsPageSize (length page)) (fits : IsTyped head) where
@@ -81,15 +78,6 @@ module _ (head : SpaceHead) (page : List ℕ) (sized : IsPageSize (length page))
 joined : (page : List ℕ) → 46 ≤ length page → take 38 page ++ (body page ++ drop (length page - 8) page) ≡ page
 joined page room = cut_at page 38 (length page - 8) (omega arith)
 
-end_whole : (xs : List ℕ) (n : ℕ) → length xs ≤ n → take n xs ≡ xs
-end_whole [] n le = by n
-  where
-    by : (n : ℕ) → ◌≡◌ {A = List ℕ} (take n []) []
-    by zero = refl
-    by (suc n) = refl
-end_whole (x ∷ xs) zero le = absurd (omega arith)
-end_whole (x ∷ xs) (suc n) le = ap (λ (l : List ℕ). x ∷ l) (end_whole xs n (omega arith))
-
 module _ (a b : SpaceHead) (page : List ℕ) (sized : IsPageSize (length page)) (fa : IsTyped a) (fb : IsTyped b) (oa : IsAccepted a (length page)) (ob : IsAccepted b (length page)) where
   end_same : (inside : record_place (length page) + 41 ≤ length page) → drop (length (with_head a page) - 8) (with_head a page) ≡ drop (length (with_head b page) - 8) (with_head b page)
   end_same inside =
@@ -97,10 +85,10 @@ module _ (a b : SpaceHead) (page : List ℕ) (sized : IsPageSize (length page)) 
       let lb = long b page sized fb in
       let n : ℕ = length page - 8 in
       ap (λ (k : ℕ). drop (k - 8) (with_head a page)) la
-      ∙ sym (end_whole (drop n (with_head a page)) 8 (omega (arith, length-drop n (with_head a page), la)))
+      ∙ sym (take_all 8 (drop n (with_head a page)) (omega (arith, length-drop n (with_head a page), la)))
       ∙ last_part a page sized fa n 8 (omega arith)
       ∙ sym (last_part b page sized fb n 8 (omega arith))
-      ∙ end_whole (drop n (with_head b page)) 8 (omega (arith, length-drop n (with_head b page), lb))
+      ∙ take_all 8 (drop n (with_head b page)) (omega (arith, length-drop n (with_head b page), lb))
       ∙ sym (ap (λ (k : ℕ). drop (k - 8) (with_head b page)) lb)
 
   pub heads_same : record_place (length page) + 41 ≤ length page → body (with_head a page) ≡ body (with_head b page) → a ≡ b
@@ -119,45 +107,34 @@ module _ (a b : SpaceHead) (page : List ℕ) (sized : IsPageSize (length page)) 
 
 -- ---- spaces
 
-accepted : (info : SpaceInfo) → IsAccepted (head_of_space info) 16384
+pub head_accepted : (info : SpaceInfo) → IsAccepted (head_of_space info) 16384
 unfolding page_size size_of_code
-accepted info = record { flags_name = refl; mode_known = by info.ciphered }
+head_accepted info = record { flags_name = refl; mode_known = by info.ciphered }
   where
     by : (b : Bool) → (if b then 1 else 2) ≤ 2
     by true = omega arith
     by false = omega arith
 
-typed : (info : SpaceInfo) → IsTypedInfo info → IsTyped (head_of_space info)
-typed info t = record {
+pub head_typed : (info : SpaceInfo) → IsTypedInfo info → IsTyped (head_of_space info)
+head_typed info t = record {
   space_fits = t.space_fits;
   pages_fits = t.pages_fit;
   flags_fits = omega arith;
   crypt_fits = record { salt_long = t.salt_long; minimum_fits = t.floor_fits; key_id_fits = t.key_id_fits };
 }
 
-long_zeros : (n : ℕ) → length (zeros n) ≡ n
-unfolding zeros
-long_zeros n = length-replicate n 0
-
-place_16384 : record_place 16384 ≡ 10428
-unfolding record_place pages_per_extent
-place_16384 = refl
-
 info_one : (a b : SpaceInfo) → head_of_space a ≡ head_of_space b → a ≡ b
 info_one a b same =
     let crypts : record { ciphered = a.ciphered; salt = a.salt; minimum = a.floor; key_id = a.key_id; mode = if a.ciphered then 1 else 2 } ≡ record { ciphered = b.ciphered; salt = b.salt; minimum = b.floor; key_id = b.key_id; mode = if b.ciphered then 1 else 2 } =
-    one_some _ _ (ap (λ (h : SpaceHead). h.crypt) same) in
+    same_Some _ _ (ap (λ (h : SpaceHead). h.crypt) same) in
     (λ i. record { space = (same i).space; pages = (same i).pages; key_id = (crypts i).key_id; salt = (crypts i).salt; ciphered = (crypts i).ciphered; floor = (crypts i).minimum })
-  where
-    one_some : (x y : CryptRecord) → Some x ≡ Some y → x ≡ y
-    one_some x y e = cc
 
 -- the zero page stands behind a name, so that its bytes are never counted
 by_page : (a b : SpaceInfo) (page : List ℕ) → length page ≡ 16384 → IsTypedInfo a → IsTypedInfo b → body (with_head (head_of_space a) page) ≡ body (with_head (head_of_space b) page) → a ≡ b
 by_page a b page long ta tb same =
     let sized : IsPageSize (length page) = inr (inr (inl long)) in
     let place : record_place (length page) ≡ 10428 = ap record_place long ∙ place_16384 in
-    info_one a b (heads_same (head_of_space a) (head_of_space b) page sized (typed a ta) (typed b tb) (rw long (accepted a)) (rw long (accepted b)) (omega arith) same)
+    info_one a b (heads_same (head_of_space a) (head_of_space b) page sized (head_typed a ta) (head_typed b tb) (rw long (head_accepted a)) (rw long (head_accepted b)) (omega arith) same)
 
 pub head_one : (a b : SpaceInfo) → IsTypedInfo a → IsTypedInfo b → head_page a ≡ head_page b → a ≡ b
-head_one a b ta tb same = by_page a b (zeros 16384) (long_zeros 16384) ta tb (λ i. (same i).bytes)
+head_one a b ta tb same = by_page a b (zeros 16384) (length-zeros 16384) ta tb (λ i. (same i).bytes)

@@ -5,6 +5,7 @@ pub mod HeadersWritten
 pub mod CheckpointsWritten
 pub mod RingBlocks
 pub mod RunsOnce
+pub mod SpacesInOrder
 pub mod ContentsOnce
 pub mod Folds
 pub mod TextsHeld

@@ -1,18 +1,19 @@
 -- The laws of pages that the theory of crashes asks for.
-use Rattle.std.proofs.Common.{◌≡◌, ◌≢◌, ℕ, zero, ◌<◌, ◌^◌, ◌&&◌, ◌||◌, Bool, true, false, true≢false, nat_eq, nat_lt, if◌then◌else◌, List, [], ◌∷◌, Option, Some, None, IfSome, refl, sym, ap, ◌∙◌, arith}
+use Rattle.std.proofs.Common.{◌≡◌, ℕ, ◌||◌, Bool, true, false, true≢false, nat_eq, nat_lt, if◌then◌else◌, List, [], ◌∷◌, None, refl, sym, ap, ◌∙◌, arith}
 use Rattle.std.proofs.lemmas.Bool.Decides.{nat_tests}
-use Rattle.page_text.specs.Text.{Plain, IsText, text}
+use Rattle.std.proofs.lemmas.Bool.{or_parts}
+use Rattle.page_text.specs.Text.{Plain, text}
 use Rattle.key_ring.specs.Ring.{RingEntry}
 use Rattle.store_image.specs.View.{Text}
-use Rattle.store_model.specs.Fold.{floor_set, made_ciphered}
 use Rattle.redo_text.specs.declared.change.Change.{Change}
 use Rattle.redo_text.specs.declared.change.Change.TheVariants.{Put, Kind, Touch, Floor, Encrypt}
 use Rattle.store_model.specs.declared.contents.PlainPage.{PlainPage}
 use Rattle.space_head.specs.declared.space.SpaceInfo.{SpaceInfo}
 use Rattle.store_files.specs.Header.{HeldHeader, HeldSpace}
-use Rattle.store_files.specs.Pages.{Page, Head, Unused, Used, change_names, mtr_names, page_after, mtr_acts, is_used, has_page, key_at, head_page, HasKeyBytes, IsTypedInfo, MeansPage}
+use Rattle.store_files.specs.Pages.{Page, Head, Unused, Used, change_names, mtr_names, page_after, mtr_acts, is_used, has_page, key_at, head_page, MeansPage}
 use Rattle.store_files.proofs.HeadsOnce.{head_one}
 use Rattle.store_files.proofs.TextsOnce.{plain_one}
+use Rattle.store_image.proofs.ChosenTexts.{text_one}
 
 pub has_head_page : (spaces : List HeldSpace) (s p : ℕ) → has_page spaces s p ≡ true → has_page spaces s 0 ≡ true
 has_head_page [] s p is = absurd (true≢false (sym is))
@@ -27,10 +28,6 @@ has_head_page (x ∷ xs) s p is = by (nat_eq x.space s) (has_head_page xs s p) i
 
 -- ---- what a mini-transaction does
 
-or_left : (a b : Bool) → (a || b) ≡ false → a ≡ false
-or_left false b is = refl
-or_left true b is = is
-
 or_right : (a b : Bool) → (a || b) ≡ false → b ≡ false
 or_right false b is = is
 or_right true b is = absurd (true≢false is)
@@ -38,7 +35,7 @@ or_right true b is = absurd (true≢false is)
 pub mtr_idle : (m : List Change) (s p : ℕ) (x : Page) → mtr_names m s p ≡ false → mtr_acts m s p x ≡ x
 mtr_idle [] s p x none = refl
 mtr_idle (c ∷ cs) s p x none =
-    ap (λ (b : Bool). mtr_acts cs s p (if b then page_after c x else x)) (or_left (change_names c s p) (mtr_names cs s p) none)
+    ap (λ (b : Bool). mtr_acts cs s p (if b then page_after c x else x)) (or_parts (change_names c s p) (mtr_names cs s p) none).0
     ∙ mtr_idle cs s p x (or_right (change_names c s p) (mtr_names cs s p) none)
 
 after_used : (c : Change) (x : Page) → is_used (page_after c x) ≡ true
@@ -79,9 +76,6 @@ mtr_uses (c ∷ cs) s p x named = by (change_names c s p) (mtr_uses cs s p x) na
 
 -- ---- texts
 
-one_text : (t u : Text) → t.lsn ≡ u.lsn → t.version ≡ u.version → t.bytes ≡ u.bytes → t ≡ u
-one_text t u a b c = λ i. record { lsn = a i; version = b i; bytes = c i }
-
 one_page : (a b : PlainPage) → ◌≡◌ {A = Plain} (record { kind = a.kind; bytes = a.body }) (record { kind = b.kind; bytes = b.body }) → a ≡ b
 one_page a b same = λ i. record { kind = (same i).kind; body = (same i).bytes }
 
@@ -103,10 +97,10 @@ module _ (header : HeldHeader) (keys : List RingEntry) (salts : ℕ → List ℕ
 
   pub means_text : (s p : ℕ) (t u : Text) (x : Page) → MeansPage header keys salts s p t x → MeansPage header keys salts s p u x → t.lsn ≡ u.lsn → t.version ≡ u.version → t ≡ u
   means_text s p t u (Head a) (z, na, ta, xa) (z', nb, tb, xb) lsn version =
-      one_text t u lsn version (xa.written ∙ (λ i. text_of_head a (lsn i) (version i)) ∙ sym xb.written)
+      text_one t u lsn version (xa.written ∙ (λ i. text_of_head a (lsn i) (version i)) ∙ sym xb.written)
     where
       text_of_head : (a : SpaceInfo) → ℕ → ℕ → List ℕ
       text_of_head a l v = text s 0 l v None (head_page a)
   means_text s p t u Unused m n lsn version = elim m [ ]
   means_text s p t u (Used a) (z, ka, xa) (z', kb, xb) lsn version =
-      one_text t u lsn version (xa.written ∙ (λ i. text s p (lsn i) (version i) (key_at header keys salts s (version i)) (record { kind = a.kind; bytes = a.body })) ∙ sym xb.written)
+      text_one t u lsn version (xa.written ∙ (λ i. text s p (lsn i) (version i) (key_at header keys salts s (version i)) (record { kind = a.kind; bytes = a.body })) ∙ sym xb.written)

@@ -1,10 +1,9 @@
 -- A ring block by its bytes alone, and as redo_text reads it: both say the same of 4096 bytes, and a block that is written is read back.
-use Rattle.std.proofs.Common.{◌≡◌, ◌≢◌, ℕ, ◌+◌, ◌-◌, ◌^◌, ◌<◌, ◌≤◌, ◌&&◌, ◌==◌, Bool, true, false, true≢false, nat_eq, List, ◌++◌, length, take, drop, refl, sym, ap, ◌∙◌, arith, length-drop, ⊎_elim}
+use Rattle.std.proofs.Common.{◌≡◌, ◌≢◌, ℕ, ◌+◌, ◌-◌, ◌^◌, ◌<◌, ◌≤◌, Bool, true, false, true≢false, nat_eq, List, ◌++◌, length, take, refl, sym, ap, ◌∙◌, arith, ⊎_elim}
 use Rattle.std.specs.Prelude.{eqb, Result, Ok, Err}
-use Rattle.std.specs.Int.{from_be_bytes, w32}
 use Rattle.std.proofs.lemmas.Bool.{eq-eqb, ne_eqb}
 use Rattle.std.proofs.lemmas.Bool.Decides.{eqb_tells, nat_tests}
-use Rattle.std.proofs.lemmas.List.{take_all, take_at}
+use Rattle.std.proofs.lemmas.List.{take_at}
 use Rattle.aes_core.specs.Algorithm.{ciphered, deciphered}
 use Rattle.aes_core.specs.Cipher.{IsCipherBlock, IsKey}
 use Rattle.aes_core.specs.Modes.{whole_blocks}
@@ -12,10 +11,7 @@ use Rattle.aes_core.specs.declared.algorithm.Algorithm.{Algorithm}
 use Rattle.aes_core.specs.declared.algorithm.Algorithm.TheVariants.{Cbc, Ctr}
 use Rattle.aes_core.proofs.ModeLaws.{cbc_undone, ctr_twice, stream_blocks}
 use Rattle.byte_list.specs.Bytes.{AreBytes, zeros}
-use Rattle.byte_list.specs.Fields.{be32_at}
-use Rattle.bytes_core.specs.Crc.{crc32c}
-use Rattle.bytes_core.specs.LastByte.{EndsInCrc32c}
-use Rattle.bytes_core.proofs.LastByte.{ends-append, stored-ends}
+use Rattle.bytes_core.proofs.LastByte.{ends-append}
 use Rattle.disk_model.specs.Crash.{torn_bytes}
 use Rattle.page_places.specs.Texts.{ends_in_sum}
 use Rattle.page_places.proofs.Sums.{and_left, and_right, and_both, not_true, ends-ends_in_sum, torn_page}
@@ -25,7 +21,7 @@ use Rattle.redo_text.specs.declared.fault.BlockFault.{BlockFault}
 use Rattle.redo_text.specs.declared.fault.BlockFault.TheVariants.{WrongNumber}
 use Rattle.redo_text.specs.declared.key.RedoKey.{RedoKey}
 use Rattle.redo_text.proofs.BlockFields.{body_is, filled_bytes, number_is, used_is}
-use Rattle.redo_text.proofs.BlockTaken.{reading_sum, taken}
+use Rattle.redo_text.proofs.BlockTaken.{reading_sum, taken, sum_ends}
 use Rattle.store_files.specs.RingBlock.{has_no_fault, is_ring_block, begins_mtr, ends_mtr, block_text}
 use Rattle.store_files.proofs.TextsOnce.{iv_block}
 
@@ -67,17 +63,9 @@ valid_block n b sum long ok =
     let size : nat_eq (length b) 4096 ≡ true = grind (arith, nat_tests) in
     and_both _ _ sum (and_both _ _ size (ap has_no_fault ok))
 
-stored : (b : List ℕ) → length b ≡ 4096 → AreBytes b → stored_block_sum b ≡ computed_block_sum b → EndsInCrc32c b
-unfolding be32_at
-stored b long are sum =
-    let end : length b - 4 ≡ 4092 = omega (arith, long) in
-    let four : take 4 (drop 4092 b) ≡ drop 4092 b = take_all 4 (drop 4092 b) (omega (arith, length-drop 4092 b, long)) in
-    stored-ends b (omega (arith, long)) are
-    (ap (λ (n : ℕ). from_be_bytes w32 (drop n b)) end ∙ ap (from_be_bytes w32) (sym four) ∙ sum ∙ ap (λ (n : ℕ). crc32c (take n b)) (sym end))
-
 -- 4096 bytes that are read with no fault are a valid ring block
 pub read_is_block : (n : ℕ) (b : List ℕ) → length b ≡ 4096 → AreBytes b → reading n b ≡ Ok tt → is_ring_block n b ≡ true
-read_is_block n b long are ok = valid_block n b (ends-ends_in_sum b (stored b long are (reading_sum n b ok))) long ok
+read_is_block n b long are ok = valid_block n b (ends-ends_in_sum b (sum_ends b long are (reading_sum n b ok))) long ok
 
 -- and are none once the last byte is inverted
 pub ring_block_torn : (n m : ℕ) (b : List ℕ) → is_ring_block n b ≡ true → is_ring_block m (torn_bytes b) ≡ false

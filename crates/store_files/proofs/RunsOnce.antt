@@ -1,9 +1,9 @@
 -- What a log's file says under the keys is one thing.
-use Rattle.std.proofs.Common.{◌≡◌, ◌⊎◌, ℕ, zero, suc, ◌+◌, ◌-◌, ◌*◌, ◌<◌, ◌≤◌, Bool, true, false, true≢false, nat_eq, List, [], ◌∷◌, ◌++◌, Option, Some, refl, sym, ap, ap₂, subst, ◌∙◌, arith, inl, inr}
+use Rattle.std.proofs.Common.{◌≡◌, ◌⊎◌, ℕ, zero, suc, ◌+◌, ◌-◌, ◌*◌, ◌<◌, ◌≤◌, true, false, true≢false, nat_eq, List, [], ◌∷◌, ◌++◌, refl, sym, ap, ap₂, subst, ◌∙◌, arith, inl, inr}
 use Rattle.std.proofs.lemmas.Bool.Decides.{nat_tests}
 use Rattle.std.proofs.lemmas.Bool.{cases_lt}
+use Rattle.std.proofs.lemmas.Option.{same_Some}
 use Rattle.key_ring.specs.Ring.{RingEntry}
-use Rattle.key_ring.specs.Local.{local_key}
 use Rattle.places.specs.Places.{place}
 use Rattle.store_image.specs.Places.{LogView}
 use Rattle.store_image.specs.View.{Logged}
@@ -13,17 +13,14 @@ use Rattle.redo_text.proofs.ChangeLaws.{one_list}
 use Rattle.store_files.specs.Checkpoint.{checkpoint_in, IsNewestCheckpoint}
 use Rattle.store_files.specs.Header.{HeldHeader}
 use Rattle.store_files.specs.RingBlock.{block_text, IsMtrText}
-use Rattle.store_files.specs.Run.{block_at, MakeWholeMtr, HasText, AreLogEntries, IsRun, IsLogOf}
-
-one_some : {A : Type 0} (x y : A) → Some x ≡ Some y → x ≡ y
-one_some x y e = cc
+use Rattle.store_files.specs.Run.{block_at, MakeWholeMtr, HasText, AreLogEntries, IsLogOf}
 
 pub newest_one : (file : List ℕ) (c d : HeldCheckpoint) → IsNewestCheckpoint file c → IsNewestCheckpoint file d → c ≡ d
 newest_one file c d nc nd =
     let a = nd.newest (side_of c.sequence) c nc.is in
     let b = nc.newest (side_of d.sequence) d nd.is in
     let same : c.sequence ≡ d.sequence = omega (arith, a, b) in
-    one_some c d (sym nc.is ∙ ap (λ (s : ℕ). checkpoint_in (side_of s) (place 4096 (side_of s) file)) same ∙ nd.is)
+    same_Some c d (sym nc.is ∙ ap (λ (s : ℕ). checkpoint_in (side_of s) (place 4096 (side_of s) file)) same ∙ nd.is)
 
 not_less : (blocks : ℕ) (file : List ℕ) (n k j : ℕ) → MakeWholeMtr blocks file n k → MakeWholeMtr blocks file n j → k < j → ⊥
 not_less blocks file n k j wk wj lt =
@@ -51,7 +48,7 @@ module _ (header : HeldHeader) (keys : List RingEntry) (file : List ℕ) where
   pub text_one : (n k : ℕ) (t u : List ℕ) → HasText header keys file n k t → HasText header keys file n k u → t ≡ u
   text_one n zero t u ht hu = ht ∙ sym hu
   text_one n (suc k) t u (l, r, kl, hr, et) (m, s, km, hs, eu) =
-      let same : l ≡ m = one_some l m (sym kl ∙ km) in
+      let same : l ≡ m = same_Some l m (sym kl ∙ km) in
       let rest : r ≡ s = text_one (n + 1) k r s hr hs in
       et ∙ ap₂ (λ (x y : List ℕ). block_text header.algorithm x (block_at header.blocks file n) ++ y) same rest ∙ sym eu
 

@@ -1,8 +1,6 @@
 -- A page text that is written is held by its home as that text, and means its page.
-use Rattle.std.proofs.Common.{◌≡◌, ◌≢◌, ℕ, ◌^◌, ◌<◌, ◌&&◌, Bool, true, false, nat_eq, List, ◌++◌, Option, Some, None, IfSome, refl, sym, ap, ◌∙◌, arith}
+use Rattle.std.proofs.Common.{◌≡◌, ◌≢◌, ℕ, ◌^◌, ◌<◌, true, nat_eq, List, Option, Some, None, IfSome, refl, ap, ◌∙◌, arith}
 use Rattle.std.proofs.lemmas.Bool.Decides.{nat_tests}
-use Rattle.std.specs.Int.{to_be_bytes, w32, w64}
-use Rattle.bytes_core.specs.Crc.{crc32c}
 use Rattle.bytes_core.proofs.LastByte.{ends-append}
 use Rattle.disk_model.specs.Crash.{torn_bytes}
 use Rattle.key_ring.specs.Ring.{RingEntry}
@@ -12,10 +10,10 @@ use Rattle.byte_list.proofs.FieldLaws.{be32_at-written, be64_at-written}
 use Rattle.space_head.specs.declared.space.SpaceInfo.{SpaceInfo}
 use Rattle.page_text.specs.Text.{Plain, IsText, before_sum}
 use Rattle.page_text.specs.declared.key.PageKey.{PageKey}
-use Rattle.page_places.specs.Texts.{ends_in_sum, is_page_text, text_in, held, slot_held, slot_bytes, slot_sums_up}
+use Rattle.page_places.specs.Texts.{ends_in_sum, is_page_text, text_in, held, slot_held, slot_bytes}
 use Rattle.page_places.proofs.Sums.{and_both, ends-ends_in_sum, torn_page}
 use Rattle.page_places.proofs.Texts.{held-text, held-torn, slot-holds}
-use Rattle.store_image.specs.View.{Text, Held, Holds, Slot}
+use Rattle.store_image.specs.View.{Text, Holds}
 use Rattle.store_model.specs.declared.contents.PlainPage.{PlainPage}
 use Rattle.store_files.specs.Header.{HeldHeader}
 use Rattle.store_files.specs.Pages.{Head, Used, key_at, head_page, HasKeyBytes, IsTypedInfo, MeansPage}

@@ -1,7 +1,7 @@
 -- A page text is that of one plain page.
-use Rattle.std.proofs.Common.{◌≡◌, ℕ, ◌==◌, Bool, true, false, ◌+◌, ◌-◌, ◌%◌, ◌^◌, ◌<◌, List, [], ◌∷◌, ◌++◌, length, take, drop, replicate, Option, Some, None, IfSome, if◌then◌else◌, refl, sym, ap, ap₂, ◌∙◌, arith, inl, length-append}
-use Rattle.std.proofs.lemmas.List.{take_at, drop_at}
-use Rattle.std.specs.Int.{byte_at, to_be_bytes, to_le_bytes, w16, w32, w64}
+use Rattle.std.proofs.Common.{◌≡◌, ℕ, ◌==◌, Bool, true, false, ◌+◌, ◌-◌, ◌%◌, ◌^◌, List, [], ◌∷◌, ◌++◌, length, take, drop, replicate, Option, Some, None, IfSome, if◌then◌else◌, refl, sym, ap, ◌∙◌, arith, inl, length-append}
+use Rattle.std.proofs.lemmas.List.{take_at}
+use Rattle.std.specs.Int.{byte_at, to_be_bytes, to_le_bytes, w32, w64}
 use Rattle.aes_core.specs.Algorithm.{ciphered}
 use Rattle.aes_core.specs.Cipher.{AreBytes, IsCipherBlock, IsKey}
 use Rattle.aes_core.specs.Modes.{uncbc_tail, ctr, whole_blocks}
@@ -15,9 +15,10 @@ use Rattle.byte_list.proofs.ByteLaws.{bytes_append, bytes_four, bytes_made}
 use Rattle.byte_list.specs.Fields.{be16_at}
 use Rattle.byte_list.specs.Bytes.{range}
 use Rattle.byte_list.proofs.FieldLaws.{be16_at-written}
-use Rattle.page_text.specs.Text.{Plain, IsText, text, before_sum, start, inner, inner_start, page_iv, page_key, enciphered}
+use Rattle.page_text.specs.Text.{Plain, IsText, before_sum, inner, page_iv, page_key, enciphered}
 use Rattle.page_text.specs.declared.key.PageKey.{PageKey}
 use Rattle.store_files.specs.Pages.{HasKeyBytes}
+use Rattle.page_text.proofs.Opened.{bytes_of_inner}
 
 -- ---- bytes
 
@@ -32,11 +33,6 @@ be_four n = bytes_four _ _ _ _ (omega arith) (omega arith) (omega arith) (omega 
 
 le_four : (n : ℕ) → AreBytes (to_le_bytes w32 n)
 le_four n = bytes_four _ _ _ _ (omega arith) (omega arith) (omega arith) (omega arith)
-
-pub inner_bytes : (space lsn : ℕ) (b : List ℕ) → AreBytes b → AreBytes (inner space lsn b)
-inner_bytes space lsn b h =
-    bytes_append (inner_start space) (b ++ to_be_bytes w32 (lsn % 2 ^ 32)) (bytes_append (replicate 8 0) (to_be_bytes w32 space) zeros_eight (be_four space))
-    (bytes_append b (to_be_bytes w32 (lsn % 2 ^ 32)) h (be_four (lsn % 2 ^ 32)))
 
 eight_le : (n : ℕ) → AreBytes (to_le_bytes w64 n)
 eight_le n = bytes_made (λ k. byte_at k n) (λ k. byte_at-lt k n) (0 ∷ 1 ∷ 2 ∷ 3 ∷ 4 ∷ 5 ∷ 6 ∷ 7 ∷ [])
@@ -94,7 +90,7 @@ pub plain_one : (size space page lsn version : ℕ) (key : Option PageKey) (a b 
 plain_one size space page lsn version key a b bytes h ta tb =
     let kind : a.kind ≡ b.kind = sym (kind_read size space page lsn version key a bytes ta) ∙ kind_read size space page lsn version key b bytes tb in
     let inside : inner space lsn a.bytes ≡ inner space lsn b.bytes =
-    under_one (page_key version key) (page_iv space page lsn) _ _ (key_of-bytes version key h) (iv_block space page lsn) (inner_bytes space lsn a.bytes ta.body_bytes) (inner_bytes space lsn b.bytes tb.body_bytes)
+    under_one (page_key version key) (page_iv space page lsn) _ _ (key_of-bytes version key h) (iv_block space page lsn) (bytes_of_inner space lsn a.bytes ta.body_bytes) (bytes_of_inner space lsn b.bytes tb.body_bytes)
     (sym (cipher_read size space page lsn version key a bytes ta) ∙ cipher_read size space page lsn version key b bytes tb) in
     let body : a.bytes ≡ b.bytes = body_one space lsn a.bytes b.bytes (omega (arith, ta.body_long, tb.body_long)) inside in
     (λ i. record { kind = kind i; bytes = body i })

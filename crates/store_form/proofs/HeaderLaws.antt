@@ -1,7 +1,8 @@
 -- What a valid header is, part by part.
-use Rattle.std.proofs.Common.{◌≡◌, ℕ, Bool, true, false, true≢false, nat_eq, nat_le, ◌&&◌, ◌||◌, if◌then◌else◌, List, length, take, codes, Some, None, refl, sym, ap, ◌∙◌}
+use Rattle.std.proofs.Common.{◌≡◌, ℕ, Bool, true, false, nat_eq, nat_le, ◌&&◌, ◌||◌, if◌then◌else◌, List, length, take, codes, Some, None, refl, sym, ap, ◌∙◌}
 use Rattle.std.proofs.lemmas.Slice.Eq.{bytes_eq-Decides}
 use Rattle.std.specs.Str.{bytes_eq}
+use Rattle.std.proofs.lemmas.Bool.{cond-true, cond-false}
 use Rattle.aes_core.specs.declared.algorithm.Algorithm.{Algorithm}
 use Rattle.aes_core.specs.declared.algorithm.Algorithm.TheVariants.{Cbc, Ctr}
 use Rattle.byte_list.specs.Bytes.{range}
@@ -62,21 +63,13 @@ is_header_of b is =
     and_both _ _ is.sums (and_both _ _ ((bytes_eq-Decides (range 0 8 b) (codes "KEYSTOR1")).1 is.magic) (and_both _ _ (and_left (nat_eq (be32_at b 8) 2) _ is.form) (and_both _ _ (and_right (nat_eq (be32_at b 8) 2) _ is.form)
     (and_both _ _ is.named (and_both _ _ low (and_both _ _ high (and_both _ _ some (and_both _ _ few is.spaces))))))))
 
-by_true : {A : Type 0} (b : Bool) (x y : A) → b ≡ true → (if b then x else y) ≡ x
-by_true true x y is = refl
-by_true false x y is = absurd (true≢false (sym is))
-
-by_false : {A : Type 0} (b : Bool) (x y : A) → b ≡ false → (if b then x else y) ≡ y
-by_false true x y is = absurd (true≢false is)
-by_false false x y is = refl
-
 pub header_none : (b : List ℕ) → (IsHeaderBlock b → ⊥) → header_in b ≡ None
 unfolding header_in
-header_none b none = by_false (is_header b) _ _ (not_true (is_header b) (λ is. none (header_is b is)))
+header_none b none = cond-false (is_header b) _ _ (not_true (is_header b) (λ is. none (header_is b is)))
 
 pub header_some : (b : List ℕ) → IsHeaderBlock b → header_in b ≡ Some (header_fields b)
 unfolding header_in
-header_some b is = by_true (is_header b) _ _ (is_header_of b is)
+header_some b is = cond-true (is_header b) _ _ (is_header_of b is)
 
 -- the algorithm that a number names
 pub named_none : (code : ℕ) → algorithm_named code ≡ None → (nat_eq code 1 || nat_eq code 2) ≡ false

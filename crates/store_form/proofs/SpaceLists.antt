@@ -3,7 +3,7 @@ use Rattle.std.proofs.Common.{◌≡◌, ℕ, zero, suc, ◌+◌, ◌*◌, ◌<�
 use Rattle.std.specs.Prelude.{slice_set}
 use Rattle.std.proofs.lemmas.List.{take_more_set}
 use Rattle.byte_list.specs.Fields.{be32_at}
-use Rattle.store_files.specs.Header.{HeldSpace, spaces_at, are_in_order, pages_together}
+use Rattle.store_files.specs.Header.{HeldSpace, spaces_at, are_in_order}
 use Rattle.store_form.specs.Said.{space_said}
 use Rattle.store_form.specs.declared.header.HeaderSpace.{HeaderSpace}
 
@@ -64,11 +64,6 @@ rest_none [] i is = drop_nil i
 rest_none (x ∷ xs) zero is = absurd (omega (arith, is))
 rest_none (x ∷ xs) (suc i) is = rest_none xs i (omega (arith, is))
 
--- ids in order, from a space on
-pub order_none : (id : ℕ) → are_in_order id [] ≡ true
-unfolding are_in_order
-order_none id = refl
-
 pub order_more : (id : ℕ) (s : HeldSpace) (ss : List HeldSpace) → (nat_lt id s.space && (nat_le s.space 4294967279 && (nat_le 2 s.pages && nat_le 1 s.key_id))) ≡ true → are_in_order id (s ∷ ss) ≡ are_in_order s.space ss
 unfolding are_in_order
 order_more id s ss is = by (nat_lt id s.space) (nat_le s.space 4294967279) (nat_le 2 s.pages) (nat_le 1 s.key_id) (are_in_order s.space ss) is
@@ -90,12 +85,3 @@ order_ends id s ss is = by (nat_lt id s.space) (nat_le s.space 4294967279) (nat_
     by true true false d e is = refl
     by true true true false e is = refl
     by true true true true e is = absurd (cc)
-
--- pages together, from a space on
-pub pages_none : pages_together [] ≡ 0
-unfolding pages_together
-pages_none = refl
-
-pub pages_more : (s : HeldSpace) (ss : List HeldSpace) → pages_together (s ∷ ss) ≡ s.pages + pages_together ss
-unfolding pages_together
-pages_more s ss = refl

@@ -1,11 +1,11 @@
-use Rattle.std.proofs.Common.{◌≡◌, ◌+◌, ◌<◌, ◌≤◌, ◌^◌, ℕ, Bool, List, length, ap, sym, ◌∙◌, arith}
+use Rattle.std.proofs.Common.{◌≡◌, ◌+◌, ◌≤◌, ℕ, List, length, ap, sym, ◌∙◌, arith}
 use Rattle.aes_core.specs.Algorithm.{ciphered, deciphered}
 use Rattle.byte_list.specs.Bytes.{AreBytes, put, range}
 use borrow.Rule.Slice.PartMut.{put_mid}
 use Rattle.byte_list.proofs.PutLaws.{put_written, range-put_same}
 use Rattle.byte_list.proofs.RangeLaws.{length-range}
 use Rattle.redo_text.specs.Reading.{block_body, number_of}
-use Rattle.redo_text.specs.Block.{enciphered_body, filled, log_iv}
+use Rattle.redo_text.specs.Block.{filled, log_iv}
 use Rattle.redo_text.proofs.BlockFields.{body_is, filled_bytes, number_is, text_read}
 use Rattle.redo_text.proofs.block.decipher_under.Goals as goal
 

@@ -1,6 +1,6 @@
-use Rattle.std.proofs.Common.{◌≡◌, ◌+◌, ◌≤◌, ℕ, List, length, take, drop, ap, sym, ◌∙◌, arith}
+use Rattle.std.proofs.Common.{◌≡◌, ℕ, List, length, ap, sym, ◌∙◌, arith}
 use Rattle.aes_core.specs.Algorithm.{ciphered}
-use Rattle.byte_list.specs.Bytes.{put, range}
+use Rattle.byte_list.specs.Bytes.{put}
 use Rattle.byte_list.proofs.PutLaws.{put_written}
 use Rattle.byte_list.proofs.RangeLaws.{length-range}
 use Rattle.redo_text.specs.Reading.{block_body}

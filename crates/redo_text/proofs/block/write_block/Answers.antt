@@ -1,4 +1,4 @@
-use Rattle.std.proofs.Common.{◌≡◌, ◌+◌, ◌-◌, ◌≤◌, ℕ, List, ◌++◌, length, take, drop, ap, refl, sym, ◌∙◌, arith, length-append}
+use Rattle.std.proofs.Common.{◌≡◌, ℕ, List, ◌++◌, length, ap, sym, ◌∙◌, arith}
 use Rattle.std.specs.Int.{to_be_bytes, w32}
 use Rattle.aes_core.specs.Algorithm.{ciphered}
 use Rattle.bytes_core.specs.Crc.{crc32c}
@@ -6,7 +6,7 @@ use Rattle.byte_list.specs.Bytes.{put, range, zeros}
 use Rattle.byte_list.proofs.RangeLaws.{length-zeros}
 use Rattle.redo_text.specs.Reading.{block_body}
 use Rattle.redo_text.specs.Block.{filled, flags, head, log_iv}
-use Rattle.redo_text.proofs.BlockWrites.{block_long, body_put, body_read, front_read, head_put, length-filled, length-head, sum_put, text_put}
+use Rattle.redo_text.proofs.BlockWrites.{body_put, body_read, front_read, head_put, length-filled, length-head, sum_put, text_put}
 use Rattle.redo_text.proofs.block.write_block.Goals as goal
 
 pub put-requires : goal.put-requires

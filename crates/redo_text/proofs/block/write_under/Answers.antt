@@ -1,4 +1,4 @@
-use Rattle.std.proofs.Common.{◌≡◌, ◌+◌, ◌-◌, ◌*◌, ◌<◌, ◌≤◌, ℕ, List, ◌++◌, length, take, drop, ap, refl, sym, subst, ◌∙◌, arith}
+use Rattle.std.proofs.Common.{◌≡◌, ◌+◌, ◌-◌, ◌*◌, ◌<◌, ℕ, List, length, take, drop, ap, sym, subst, ◌∙◌, arith}
 use Rattle.aes_core.specs.Modes.{joined}
 use Rattle.byte_list.specs.Bytes.{put, range, zeros}
 use Rattle.byte_list.proofs.PutLaws.{put_written}

@@ -1,4 +1,4 @@
-use Rattle.std.proofs.Common.{◌≡◌, ◌∷◌, List, ℕ, ap, refl, arith}
+use Rattle.std.proofs.Common.{◌∷◌, List, ℕ, ap, refl, arith}
 use Rattle.redo_text.proofs.ChangeReads.{one_word}
 use Rattle.redo_text.proofs.changes.encrypt.Goals as goal
 

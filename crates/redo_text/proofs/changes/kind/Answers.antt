@@ -1,4 +1,4 @@
-use Rattle.std.proofs.Common.{◌≡◌, ◌≢◌, ◌∷◌, ◌≤◌, List, ℕ, length, ap, refl, sym, ◌∙◌, subst, arith}
+use Rattle.std.proofs.Common.{◌≡◌, ◌∷◌, ◌≤◌, List, ℕ, length, ap, refl, sym, ◌∙◌, arith}
 use Rattle.byte_list.specs.Fields.{be16_at, be32_at}
 use Rattle.redo_text.proofs.ChangeReads.{two_and_half, same_16, same_32, kind_allowed}
 use Rattle.redo_text.proofs.changes.kind.Goals as goal

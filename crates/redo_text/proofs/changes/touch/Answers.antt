@@ -1,4 +1,4 @@
-use Rattle.std.proofs.Common.{◌≡◌, ◌∷◌, List, ℕ, ap, refl, arith}
+use Rattle.std.proofs.Common.{◌∷◌, List, ℕ, ap, refl, arith}
 use Rattle.redo_text.proofs.ChangeReads.{two_words}
 use Rattle.redo_text.proofs.changes.touch.Goals as goal
 

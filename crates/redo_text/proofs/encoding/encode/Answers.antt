@@ -1,4 +1,4 @@
-use Rattle.std.proofs.Common.{◌≡◌, ◌*◌, ℕ, List, length, ap, subst, ◌∙◌}
+use Rattle.std.proofs.Common.{◌≡◌, ℕ, List, length, ap, subst, ◌∙◌}
 use Rattle.byte_list.specs.Bytes.{AreBytes}
 use Rattle.redo_text.specs.Block.{AreOf, block_count, blocks, nth_block}
 use Rattle.redo_text.specs.Text.{text_of}

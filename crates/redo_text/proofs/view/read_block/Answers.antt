@@ -1,6 +1,5 @@
 use Rattle.std.proofs.Common.{rules, ◌≡◌, ℕ, List, sym, ◌∙◌}
-use Rattle.std.specs.Prelude.{Result, Ok, Err, IsErrAnd}
-use Rattle.redo_text.specs.declared.fault.BlockFault.{BlockFault}
+use Rattle.std.specs.Prelude.{Err, IsErrAnd}
 use Rattle.redo_text.specs.declared.fault.BlockFault.TheVariants.{BadBlock}
 use Rattle.redo_text.specs.Reading.{computed_block_sum, reading, stored_block_sum}
 use Rattle.redo_text.proofs.BlockTaken.{handed, reading_bad, reading_sum, taken, torn}

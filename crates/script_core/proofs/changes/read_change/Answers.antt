@@ -3,9 +3,10 @@ use Rattle.script_core.specs.Fields.{ForFault, FaultIn}
 use Rattle.script_core.specs.Names.{change_fields_of}
 use Rattle.script_core.specs.Statements.{ChangeFault, IsChange}
 use Rattle.script_core.specs.declared.fault.LineError.TheVariants.{Fault}
-use Rattle.script_core.proofs.FieldLemmas.{handed, err_more, ok_more, fault_more}
+use Rattle.script_core.proofs.FieldLemmas.{err_more, ok_more, fault_more}
 use Rattle.script_core.proofs.ChangeLemmas.{change_missing, change_unnamed, change_behind, change_whole}
 use Rattle.script_core.proofs.changes.read_change.Goals as goal
+use Rattle.cause_core.proofs.Causes.{handed}
 
 pub returns-in_err-word-clause-err : goal.returns-in_err-word-clause-err
 returns-in_err-word-clause-err c =

@@ -1,13 +1,14 @@
-use Rattle.std.proofs.Common.{◌≡◌, ◌+◌, ◌<◌, rules, [], ◌∷◌, codes, length, arith, refl, sym, subst}
+use Rattle.std.proofs.Common.{◌≡◌, ◌+◌, ◌<◌, rules, ◌∷◌, codes, length, arith, refl, sym, subst}
 use Rattle.std.proofs.lemmas.Bool.Decides.{when_true, when_false}
 use Rattle.std.proofs.lemmas.List.{length_push}
 use Rattle.script_core.specs.Fields.{ForFault}
 use Rattle.script_core.specs.Statements.{ChangeFault, ChangesFault, IsChange, InChange, NoSemicolon, Full}
 use Rattle.script_core.specs.declared.fault.LineError.TheVariants.{Fault}
 use Rattle.script_core.specs.declared.fault.LineFault.TheVariants as fault
-use Rattle.script_core.proofs.FieldLemmas.{handed, fault_more}
+use Rattle.script_core.proofs.FieldLemmas.{fault_more}
 use Rattle.script_core.proofs.ChangeLemmas.{gives_more, gives_last, faults_more, change_shorter}
 use Rattle.script_core.proofs.changes.read_changes.Goals as goal
+use Rattle.cause_core.proofs.Causes.{handed}
 
 pub returns-in_err-change-clause-err : goal.returns-in_err-change-clause-err
 returns-in_err-change-clause-err c =

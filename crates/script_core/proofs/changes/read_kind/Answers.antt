@@ -4,8 +4,8 @@ use Rattle.script_core.specs.Names.{change_fields_of}
 use Rattle.script_core.specs.Statements.{change_name, AreChangeArguments}
 use Rattle.script_core.specs.declared.names.ChangeName.TheVariants as name
 use Rattle.script_core.proofs.LineLemmas.{onto, here, behind_number}
-use Rattle.script_core.proofs.FieldLemmas.{handed}
 use Rattle.script_core.proofs.changes.read_kind.Goals as goal
+use Rattle.cause_core.proofs.Causes.{handed}
 
 pub returns-in_err-space-clause-err : goal.returns-in_err-space-clause-err
 unfolding change_fields_of

@@ -5,8 +5,9 @@ use Rattle.script_core.specs.Statements.{change_name, AreChangeArguments}
 use Rattle.script_core.specs.declared.names.ChangeName.TheVariants as name
 use Rattle.script_core.specs.declared.fault.LineError.TheVariants.{Fault}
 use Rattle.script_core.proofs.LineLemmas.{onto, here, behind_number}
-use Rattle.script_core.proofs.FieldLemmas.{handed, fault_more}
+use Rattle.script_core.proofs.FieldLemmas.{fault_more}
 use Rattle.script_core.proofs.changes.read_put.Goals as goal
+use Rattle.cause_core.proofs.Causes.{handed}
 
 pub returns-in_err-space-clause-err : goal.returns-in_err-space-clause-err
 unfolding change_fields_of

@@ -1,4 +1,3 @@
-use Rattle.std.proofs.Common.{◌≡◌, ℕ, List, [], ◌∷◌, Ok, Err, Result}
 use Rattle.script_core.proofs.HexLemmas.{no_byte}
 use Rattle.script_core.proofs.fields.byte_of.Goals as goal
 

@@ -1,4 +1,4 @@
-use Rattle.std.proofs.Common.{◌≡◌, ◌<◌, length, refl, rules, arith, ap, sym, subst}
+use Rattle.std.proofs.Common.{◌<◌, length, refl, rules, arith}
 use Rattle.hex.proofs.HexLemmas.{decode_of-ok}
 use Rattle.script_core.specs.Words.{IsHex}
 use Rattle.script_core.proofs.HexLemmas.{empty_no_hex}

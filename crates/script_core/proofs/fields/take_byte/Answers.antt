@@ -1,7 +1,8 @@
 use Rattle.std.proofs.Common.{rules, refl}
 use Rattle.script_core.specs.Fields.{Byte, Misfit, FaultAt}
-use Rattle.script_core.proofs.FieldLemmas.{missing, misfits, handed}
+use Rattle.script_core.proofs.FieldLemmas.{missing, misfits}
 use Rattle.script_core.proofs.fields.take_byte.Goals as goal
+use Rattle.cause_core.proofs.Causes.{handed}
 
 pub returns-in_err-word-clause-err : goal.returns-in_err-word-clause-err
 returns-in_err-word-clause-err c before =

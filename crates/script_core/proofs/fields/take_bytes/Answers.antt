@@ -1,8 +1,9 @@
-use Rattle.std.proofs.Common.{rules, refl}
+use Rattle.std.proofs.Common.{rules}
 use Rattle.script_core.specs.Fields.{Bytes, Misfit, FaultAt, ForFault}
 use Rattle.script_core.specs.declared.fault.LineError.TheVariants.{Fault}
-use Rattle.script_core.proofs.FieldLemmas.{missing, misfits, handed, fault_more}
+use Rattle.script_core.proofs.FieldLemmas.{missing, misfits, fault_more}
 use Rattle.script_core.proofs.fields.take_bytes.Goals as goal
+use Rattle.cause_core.proofs.Causes.{handed}
 
 pub returns-in_err-word-clause-err : goal.returns-in_err-word-clause-err
 returns-in_err-word-clause-err c before =

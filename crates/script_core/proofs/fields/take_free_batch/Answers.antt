@@ -1,7 +1,8 @@
 use Rattle.std.proofs.Common.{rules, refl, inr}
 use Rattle.script_core.specs.Fields.{FreeBatch, Misfit, FaultAt}
-use Rattle.script_core.proofs.FieldLemmas.{free_batch, misfits, handed}
+use Rattle.script_core.proofs.FieldLemmas.{free_batch, misfits}
 use Rattle.script_core.proofs.fields.take_free_batch.Goals as goal
+use Rattle.cause_core.proofs.Causes.{handed}
 
 pub returns-in_err-batch-clause-err : goal.returns-in_err-batch-clause-err
 returns-in_err-batch-clause-err c before tells =

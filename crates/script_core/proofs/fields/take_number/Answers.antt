@@ -1,8 +1,9 @@
 use Rattle.std.proofs.Common.{rules}
 use Rattle.script_core.specs.Words.{NotNumber}
 use Rattle.script_core.specs.Fields.{Numeral, Misfit, FaultAt}
-use Rattle.script_core.proofs.FieldLemmas.{missing, misfits, handed, err_more}
+use Rattle.script_core.proofs.FieldLemmas.{missing, misfits, err_more}
 use Rattle.script_core.proofs.fields.take_number.Goals as goal
+use Rattle.cause_core.proofs.Causes.{handed}
 
 pub returns-in_err-word-clause-err : goal.returns-in_err-word-clause-err
 returns-in_err-word-clause-err c before = handed (FaultAt before (Numeral c.args.low c.args.high) c.args.words.now) c.from_residual.result c.in_err-word.field-0.0 (search rules)

@@ -1,7 +1,8 @@
 use Rattle.std.proofs.Common.{rules, refl, inr, arith}
 use Rattle.script_core.specs.Fields.{PageType, Misfit, FaultAt}
-use Rattle.script_core.proofs.FieldLemmas.{page_type, misfits, handed}
+use Rattle.script_core.proofs.FieldLemmas.{page_type, misfits}
 use Rattle.script_core.proofs.fields.take_page_type.Goals as goal
+use Rattle.cause_core.proofs.Causes.{handed}
 
 pub returns-in_err-number-clause-err : goal.returns-in_err-number-clause-err
 returns-in_err-number-clause-err c before =

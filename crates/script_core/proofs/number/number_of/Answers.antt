@@ -1,8 +1,5 @@
-use Rattle.std.proofs.Common.{◌≡◌, ◌⊎◌, ◌<◌, ◌^◌, arith, rules, inl, inr, refl, subst, sym, length, Result, Err}
-use Rattle.std.specs.Result.{OkIff}
-use Rattle.std.specs.Str.Parse.{digits_value, ParsesUnsigned}
-use Rattle.script_core.specs.Words.{IsNumeral, IsOutOfRange, NotNumber}
-use Rattle.script_core.specs.declared.fault.LineFault.TheVariants.{Number, Range}
+use Rattle.std.proofs.Common.{arith, rules, inl, inr, refl}
+use Rattle.script_core.specs.Words.{IsNumeral}
 use Rattle.script_core.proofs.NumberLemmas.{numeral_utf8, numeral_number, parse_numeral, past_u32, parsed_value}
 use Rattle.script_core.proofs.number.number_of.Goals as goal
 

@@ -1,13 +1,12 @@
-use Rattle.std.proofs.Common.{◌≡◌, ◌+◌, ◌<◌, ◌≤◌, rules, arith, sym, subst, ap, length, Some, None, [], ◌∷◌}
+use Rattle.std.proofs.Common.{◌+◌, rules, arith, subst, ap, length, [], ◌∷◌}
 use Rattle.script_core.specs.Words.{script_lines, words_of}
-use Rattle.script_core.specs.Statements.{IsStatement}
 use Rattle.script_core.specs.Scripts.{IsSkipped, IsScript, IsScriptRefusal, Excludes, IsLine}
-use Rattle.script_core.proofs.FieldLemmas.{handed}
 use Rattle.script_core.proofs.ReadingLemmas.{few_lines, gives_all, gives_skipped, gives_said, gives_end, whole_script, has_batch, refused, numbered}
 use Rattle.script_core.proofs.ScriptsOnce.{only_script, no_bad_line, excludes}
 use Rattle.script_core.proofs.PrintsBack.{prints_back}
 use Rattle.script_core.specs.declared.fault.ScriptFault.TheVariants.{TooMany}
 use Rattle.script_core.proofs.reading.read_script.Goals as goal
+use Rattle.cause_core.proofs.Causes.{handed}
 
 pub loop-line-init : goal.loop-line-init
 loop-line-init c =

@@ -1,11 +1,12 @@
 use Rattle.std.proofs.Common.{rules, refl, inl, inr}
-use Rattle.script_core.specs.Fields.{Numeral, FaultAt, ForFault}
+use Rattle.script_core.specs.Fields.{ForFault}
 use Rattle.script_core.specs.Statements.{statement_name, AreArguments, ArgumentFault, ChangesFault}
 use Rattle.script_core.specs.declared.names.StatementName.TheVariants as name
 use Rattle.script_core.specs.declared.fault.LineError.TheVariants.{Fault}
 use Rattle.script_core.proofs.LineLemmas.{passes_number}
-use Rattle.script_core.proofs.FieldLemmas.{handed, fault_more}
+use Rattle.script_core.proofs.FieldLemmas.{fault_more}
 use Rattle.script_core.proofs.statements.read_mtr.Goals as goal
+use Rattle.cause_core.proofs.Causes.{handed}
 
 pub returns-in_err-session-clause-err : goal.returns-in_err-session-clause-err
 unfolding ArgumentFault

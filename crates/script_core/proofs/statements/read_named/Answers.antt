@@ -3,8 +3,8 @@ use Rattle.script_core.specs.Fields.{ForFault}
 use Rattle.script_core.specs.Names.{fields_of}
 use Rattle.script_core.specs.Statements.{statement_name, AreArguments, ArgumentFault}
 use Rattle.script_core.specs.declared.fault.LineError.TheVariants.{Fault}
-use Rattle.script_core.proofs.FieldLemmas.{handed}
 use Rattle.script_core.proofs.statements.read_named.Goals as goal
+use Rattle.cause_core.proofs.Causes.{handed}
 
 pub returns-in_err-read_read-in-Read-clause-err : goal.returns-in_err-read_read-in-Read-clause-err
 unfolding ArgumentFault fields_of

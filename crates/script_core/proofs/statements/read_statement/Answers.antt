@@ -1,11 +1,12 @@
-use Rattle.std.proofs.Common.{◌≡◌, rules, sym, subst, ◌∙◌, ◌∷◌}
+use Rattle.std.proofs.Common.{◌≡◌, rules, sym, ◌∙◌}
 use Rattle.script_core.specs.Words.{words_of}
 use Rattle.script_core.specs.Fields.{ForFault}
 use Rattle.script_core.specs.Statements.{statement_name, AreArguments, ArgumentFault, IsStatement, IsLineFault}
 use Rattle.script_core.specs.declared.fault.LineError.TheVariants.{Fault}
-use Rattle.script_core.proofs.FieldLemmas.{handed, err_more, ok_more, fault_more}
+use Rattle.script_core.proofs.FieldLemmas.{err_more, ok_more, fault_more}
 use Rattle.script_core.proofs.StatementLemmas.{line_missing, line_unnamed, line_behind, line_whole}
 use Rattle.script_core.proofs.statements.read_statement.Goals as goal
+use Rattle.cause_core.proofs.Causes.{handed}
 
 pub returns-in_err-word-clause-err : goal.returns-in_err-word-clause-err
 returns-in_err-word-clause-err c before tells =

@@ -4,8 +4,8 @@ use Rattle.script_core.specs.Names.{fields_of}
 use Rattle.script_core.specs.Statements.{statement_name, AreArguments}
 use Rattle.script_core.specs.declared.names.StatementName.TheVariants as name
 use Rattle.script_core.proofs.LineLemmas.{onto, here, behind_number, behind_free}
-use Rattle.script_core.proofs.FieldLemmas.{handed}
 use Rattle.script_core.proofs.statements.read_take.Goals as goal
+use Rattle.cause_core.proofs.Causes.{handed}
 
 pub returns-in_err-batch-clause-err : goal.returns-in_err-batch-clause-err
 unfolding fields_of

@@ -1,8 +1,8 @@
 use Rattle.std.proofs.Common.{rules, [], ◌∷◌, ◌∙◌}
 use Rattle.script_core.specs.Fields.{Numeral, End, FaultIn}
 use Rattle.script_core.proofs.LineLemmas.{onto, here, behind_number}
-use Rattle.script_core.proofs.FieldLemmas.{handed}
 use Rattle.script_core.proofs.statements.read_u32.Goals as goal
+use Rattle.cause_core.proofs.Causes.{handed}
 
 pub returns-in_err-number-clause-err : goal.returns-in_err-number-clause-err
 returns-in_err-number-clause-err c before =

@@ -2,8 +2,9 @@ use Rattle.std.proofs.Common.{◌≡◌, ℕ, ◌+◌, ◌<◌, List, ◌∷◌,
 use Rattle.store_files.specs.Header.{are_in_order}
 use Rattle.store_form.specs.Said.{space_said}
 use Rattle.store_form.specs.declared.header.HeaderSpace.{HeaderSpace}
-use Rattle.store_form.proofs.SpaceLists.{rest_at, rest_none, order_none, order_more, order_ends}
+use Rattle.store_form.proofs.SpaceLists.{rest_at, rest_none, order_more, order_ends}
 use Rattle.store_form.proofs.space_list.are_in_order.Goals as goal
+use Rattle.store_files.proofs.SpacesInOrder.{order_none}
 
 abbrev zero_space : HeaderSpace
 zero_space = record { space = 0; pages = 0; key_id = 0 }

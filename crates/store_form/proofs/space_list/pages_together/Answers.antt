@@ -2,8 +2,9 @@ use Rattle.std.proofs.Common.{◌≡◌, ◌+◌, ◌<◌, ◌^◌, List, length
 use Rattle.store_files.specs.Header.{pages_together}
 use Rattle.store_form.specs.Said.{space_said}
 use Rattle.store_form.specs.declared.header.HeaderSpace.{HeaderSpace}
-use Rattle.store_form.proofs.SpaceLists.{rest_at, rest_none, pages_none, pages_more}
+use Rattle.store_form.proofs.SpaceLists.{rest_at, rest_none}
 use Rattle.store_form.proofs.space_list.pages_together.Goals as goal
+use Rattle.store_files.proofs.SpacesInOrder.{pages_none, pages_more}
 
 abbrev zero_space : HeaderSpace
 zero_space = record { space = 0; pages = 0; key_id = 0 }

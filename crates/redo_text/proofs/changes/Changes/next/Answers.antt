@@ -1,5 +1,4 @@
-use Rattle.std.proofs.Common.{◌≡◌, List, ℕ, ◌++◌, length, ap, sym, subst, ◌∙◌}
-use Rattle.redo_text.specs.declared.change.Change.{Change}
+use Rattle.std.proofs.Common.{List, ℕ, sym, subst, ◌∙◌}
 use Rattle.redo_text.specs.Text.{change_text}
 use Rattle.redo_text.specs.Changes.{Begins, ChangePlace, change_of}
 use Rattle.redo_text.proofs.ChangeLaws.{one_change, one_rest}

@@ -1,4 +1,4 @@
-use Rattle.std.proofs.Common.{arith, rules, ◌≤◌, subst}
+use Rattle.std.proofs.Common.{subst}
 use Rattle.script_core.specs.Batches.{HasBatch}
 use Rattle.script_core.proofs.BatchLemmas.{tells_take, tells_put, tells_other}
 use Rattle.script_core.proofs.batches.Batches.note.Goals as goal
