@@ -13,7 +13,11 @@
 //!    index, exactly where the home holds no text of the page and there is a copy. It writes nothing
 //!    else, syncs each space that it wrote, and leaves every home as its chosen text says.
 //! 4. `Failed` is answered only where the disk's count of faults rose; at Ok neither its count of
-//!    faults nor that of refused memory has moved.
+//!    faults nor that of refused memory has moved. Want of memory is answered only where no call met
+//!    a fault.
+//! 5. [`store`], [`home`] and [`restore`] say the very events that they add: the writes in order, and
+//!    one sync of each file behind its writes; at a refusal a part of these from the first one on, and
+//!    at most an attempt at the write behind it. All four say how many calls they make at most.
 //!
 //! What these calls make of the places of a store is proved in `GroupLifts` and `RestoreLifts`, for
 //! sessions and openings to use; what a page is read from in an image between `store` and `home` in
