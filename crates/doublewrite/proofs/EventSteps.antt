@@ -1,6 +1,7 @@
 -- The events of homes that are restored, one after another.
 use Rattle.std.proofs.Common.{◌≡◌, ℕ, zero, suc, ◌+◌, ◌*◌, ◌<◌, ◌≤◌, ◌≢◌, ◌⊎◌, inl, inr, ⊎_elim, Bool, true, false, is_some, if◌then◌else◌, List, [], ◌∷◌, ◌++◌, length, Option, Some, None, refl, sym, ap, subst, ◌∙◌, append_assoc, arith, Result, Ok, Err, OnErr}
 use Rattle.std.proofs.lemmas.Bool.{cases_eq}
+use Rattle.std.proofs.lemmas.List.{append-nil}
 use Rattle.disk_model.specs.Event.{Event, Write, Sync}
 use Rattle.disk_model.specs.Past.{Past, At, MayGrow, IsWrite, grow}
 use Rattle.disk_model.specs.declared.names.FileName.{FileName}
@@ -18,15 +19,11 @@ pub at_error : {T X : Type 0} {P : Type 0} (result : Result T X) → P → OnErr
 at_error (Ok v) p = tt
 at_error (Err x) p = p
 
-append_nil : (xs : List Event) → xs ≡ xs ++ []
-append_nil [] = refl
-append_nil (x ∷ xs) = ap (λ (l : List Event). x ∷ l) (append_nil xs)
-
 -- ---- a front of events
 
 -- nothing was done yet
 pub front_none : (all s : List Event) (old new : Past) → old ≡ Some s → new ≡ old → IsFront all s new
-front_none all s old new is same = Done all [] (append_nil all) (same ∙ is)
+front_none all s old new is same = Done all [] (sym (append-nil all)) (same ∙ is)
 
 -- all were done
 pub front_all : (all s : List Event) (new : Past) → new ≡ Some (all ++ s) → IsFront all s new
