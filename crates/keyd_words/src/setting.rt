@@ -8,14 +8,8 @@ use crate::command::Command;
 use crate::fault::SettingFault;
 use crate::table::{OptionName, ValueForm};
 use crate::text::NewSpace;
-use crate::value::{OptionValue, read_value};
+use crate::value::{FEWEST_PAGES, MOST_PAGES, OptionValue, read_value};
 use std::alloc::Global;
-
-// The most pages of the tablespaces of a store, together.
-const MOST_PAGES: u32 = 16_384;
-
-// The fewest pages of a tablespace.
-const FEWEST_PAGES: u32 = 2;
 
 // An option and its value, if it has one.
 #[derive(Debug, Drop)]

@@ -12,6 +12,15 @@ use disk_model::Choice;
 use key_file::KeyDigest;
 use std::alloc::Global;
 
+// The greatest id of a tablespace.
+const LAST_SPACE: u32 = 4_294_967_279;
+
+// The fewest pages of a tablespace.
+pub(crate) const FEWEST_PAGES: u32 = 2;
+
+// The most pages of the tablespaces of a store, together.
+pub(crate) const MOST_PAGES: u32 = 16_384;
+
 // The most letters of a choice.
 const MOST_CHOICES: usize = 64;
 
@@ -100,9 +109,9 @@ fn space_of(value: &str) -> Option<NewSpace>
     ensures { MatchOption result ((s : _) → value.now ≡ space_text s → IsNewSpace s → ⊥) (λ s. (value.now ≡ space_text s) × IsNewSpace s) }
 {
     let parts = parts_of(value.as_bytes())?;
-    let space = number_from(parts.space, 1, 4_294_967_279)?;
-    let pages = number_from(parts.pages, 2, 16_384)?;
-    let key_id = number_from(parts.key_id, 1, 4_294_967_295)?;
+    let space = number_from(parts.space, 1, LAST_SPACE)?;
+    let pages = number_from(parts.pages, FEWEST_PAGES, MOST_PAGES)?;
+    let key_id = number_from(parts.key_id, 1, u32::MAX)?;
     let ciphered = ciphered_of(parts.kind)?;
     Some(NewSpace {
         space,
