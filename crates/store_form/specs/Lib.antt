@@ -1,3 +1,4 @@
 pub mod Said
 pub mod Rest
 pub mod PageRead
+pub mod Contents

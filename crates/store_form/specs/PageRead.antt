@@ -1,12 +1,12 @@
 -- What reading a page of a store at rest tells, by the bytes of its home.
-use Rattle.std.specs.Prelude.{◌≡◌, ◌≢◌, ℕ, MatchBool, List, Option, None, IsSome, Result, Ok, Err}
+use Rattle.std.specs.Prelude.{◌≡◌, ◌≢◌, ℕ, false, MatchBool, List, Option, None, IsSome, Result, Ok, Err}
 use Rattle.byte_list.specs.Fields.{be32_at, be64_at}
 use Rattle.disk_model.specs.Past.{Past, At}
 use Rattle.disk_model.specs.declared.names.FileName.TheVariants.{Space}
 use Rattle.key_ring.specs.Ring.{RingEntry}
 use Rattle.page_places.specs.Texts.{page_bytes, are_zero}
 use Rattle.page_text.specs.Opening.{opening}
-use Rattle.page_text.specs.Text.{IsText, plain_of}
+use Rattle.page_text.specs.Text.{IsText, Plain, plain_of}
 use Rattle.page_text.specs.declared.key.PageKey.{PageKey}
 use Rattle.places.specs.Places.{shown}
 use Rattle.space_head.specs.declared.space.Home.{Home}
@@ -30,6 +30,15 @@ IsTextOpened s p id key bytes left (Err OutOfMemory) = ⊥
 abbrev pub IsHomeOpened : ℕ → ℕ → ℕ → Option PageKey → List ℕ → List ℕ → Result Home RestFault → Type 0
 IsHomeOpened s p id key bytes left result =
     MatchBool (are_zero bytes) ((result ≡ Ok Unused) × (left ≡ bytes)) (IsTextOpened s p id key bytes left result)
+
+-- a text was taken: its plain page is left, and its version told
+abbrev pub IsTextTaken : ℕ → Plain → List ℕ → Result Home RestFault → Type 0
+IsTextTaken version plain left result = (result ≡ Ok (Clean version)) × (plain_of left ≡ plain)
+
+-- each text of the page under the key is taken, where it isn't zero bytes
+abbrev pub TakesTexts : ℕ → ℕ → Option PageKey → List ℕ → List ℕ → Result Home RestFault → Type 0
+TakesTexts s p key bytes left result =
+    are_zero bytes ≡ false → (lsn : ℕ) (plain : Plain) → IsText page_bytes s p lsn (be32_at bytes 0) key plain bytes → IsTextTaken (be32_at bytes 0) plain left result
 
 -- The bytes of the page's home were read, those that the disk tells where it tells any, and this is what they are answered as.
 pub record IsPageRead (header : HeldHeader) (keys : List RingEntry) (salts : ℕ → List ℕ) (s p : ℕ) (past : Past) (left : List ℕ) (result : Result Home RestFault) : Type 0 where

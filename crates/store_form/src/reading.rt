@@ -1,5 +1,5 @@
 // A page of a store at rest is read and taken apart in place.
-ghost use Rattle.std.specs.Prelude.{◌≡◌, ◌≢◌, ◌≤◌, ◌*◌, true, length, All, IsSome, option_map, Ok, OnOk, IfErr, ◌⊎◌};
+ghost use Rattle.std.specs.Prelude.{◌≡◌, ◌≢◌, ℕ, ◌≤◌, ◌*◌, true, length, All, IsSome, option_map, Ok, OnOk, IfErr, ◌⊎◌};
 ghost use Rattle.byte_list.specs.Fields.{be32_at, be64_at};
 ghost use Rattle.cause_core.specs.Cause.{HasCauseOf};
 ghost use Rattle.disk_model.specs.Image.{InFile};
@@ -8,10 +8,10 @@ ghost use Rattle.disk_model.specs.declared.names.FileName.TheVariants.{Space};
 ghost use Rattle.key_ring.specs.Local.{local_key};
 ghost use Rattle.page_places.specs.Texts.{page_bytes};
 ghost use Rattle.page_text.specs.Opening.{opening};
-ghost use Rattle.page_text.specs.Text.{IsText, key_lent, plain_of};
+ghost use Rattle.page_text.specs.Text.{IsText, Plain, key_lent, plain_of};
 ghost use Rattle.places.specs.Places.{shown};
 ghost use Rattle.space_head.specs.Sizes.{IsPageSize};
-ghost use Rattle.store_form.specs.PageRead.{IsHomeOpened, IsTextOpened};
+ghost use Rattle.store_form.specs.PageRead.{IsHomeOpened, IsTextOpened, IsTextTaken, TakesTexts};
 ghost use Rattle.store_form.specs.Rest.{place_in};
 ghost use Rattle.store_form.specs.declared.fault.RestFault.TheVariants.{DiskFault, OutOfMemory};
 
@@ -85,7 +85,8 @@ fn take_apart(
     requires long { length bytes.old ≡ page_bytes }
     requires keyed { be32_at bytes.old 0 ≢ 0 → IsSome key }
     ensures value { result ≡ opening space page (key_lent key.entry) bytes.old }
-    ensures taken { result ≡ Ok tt → IsText page_bytes space page (be64_at bytes.old 16) (be32_at bytes.old 0) (key_lent key.entry) (plain_of bytes.new) bytes.old }
+    ensures accepted { result ≡ Ok tt → IsText page_bytes space page (be64_at bytes.old 16) (be32_at bytes.old 0) (key_lent key.entry) (plain_of bytes.new) bytes.old }
+    ensures taken { (lsn : ℕ) (plain : Plain) → IsText page_bytes space page lsn (be32_at bytes.old 0) (key_lent key.entry) plain bytes.old → (result ≡ Ok tt) × (plain_of bytes.new ≡ plain) }
 {
     let mut text = PageMut::of(bytes);
     unseal(&mut text, space, page, key)
@@ -101,7 +102,8 @@ fn open_text(
 ) -> Result<Home, RestFault>
     requires long { length into.old ≡ page_bytes }
     requires version { version ≡ be32_at into.old 0 }
-    ensures { IsTextOpened info.now.space page info.now.key_id key into.old into.new result }
+    ensures opened { IsTextOpened info.now.space page info.now.key_id key into.old into.new result }
+    ensures taken { (lsn : ℕ) (plain : Plain) → IsText page_bytes info.now.space page lsn (be32_at into.old 0) key plain into.old → IsTextTaken (be32_at into.old 0) plain into.new result }
 {
     if version != 0 && key.is_none() {
         return Err(RestFault::NoVersion {
@@ -128,7 +130,8 @@ pub(crate) fn open_home(
     into: &mut [u8],
 ) -> Result<Home, RestFault>
     requires { length into.old ≡ page_bytes }
-    ensures { IsHomeOpened info.now.space page info.now.key_id (option_map (λ local. record { local = local; algorithm = algorithm }) (local_key ring.now info.now.key_id (be32_at into.old 0) info.now.salt)) into.old into.new result }
+    ensures opened { IsHomeOpened info.now.space page info.now.key_id (option_map (λ local. record { local = local; algorithm = algorithm }) (local_key ring.now info.now.key_id (be32_at into.old 0) info.now.salt)) into.old into.new result }
+    ensures taken { TakesTexts info.now.space page (option_map (λ local. record { local = local; algorithm = algorithm }) (local_key ring.now info.now.key_id (be32_at into.old 0) info.now.salt)) into.old into.new result }
 {
     if are_zero(into) {
         return Ok(Home::Unused);

@@ -36,12 +36,15 @@ impl<D: Disk + Drop> Model for AtRest<D> {
 }
 
 impl<D: Disk + Drop> AtRest<D> {
-    ghost use Rattle.std.specs.Prelude.{◌≡◌, ◌≢◌, ℕ, ◌<◌, true, length, slice_index_or, [], IfOk};
+    ghost use Rattle.std.specs.Prelude.{◌≡◌, ◌≢◌, ℕ, ◌<◌, true, List, length, slice_index_or, [], IfOk};
     ghost use Rattle.space_head.specs.declared.space.Home.TheVariants.{Unused};
     ghost use Rattle.cause_core.specs.Cause.{HasCauseOf};
     ghost use Rattle.disk_model.specs.Past.{At};
     ghost use Rattle.page_places.specs.Texts.{page_bytes};
-    ghost use Rattle.store_files.specs.Pages.{has_page};
+    ghost use Rattle.crash_image.specs.Rest.{IsAtRest};
+    ghost use Rattle.store_files.specs.Pages.{has_page, pages_of};
+    ghost use Rattle.store_form.specs.Contents.{GivesPage};
+    ghost use Rattle.store_model.specs.declared.contents.SpaceContents.{SpaceContents};
     ghost use Rattle.store_form.specs.PageRead.{ReadsPage};
     ghost use Rattle.store_form.specs.Rest.{IsRestForm, ReadsAtRest, homes_of, place_in, salt_in, with_disk};
     ghost use Rattle.store_form.specs.Said.{header_said};
@@ -160,6 +163,8 @@ impl<D: Disk + Drop> AtRest<D> {
         ensures page { ReadsPage self.old.header ring.now (salt_in self.old.spaces) space page (D.past self.old.disk) into.new result }
         // It is what is known of the page.
         ensures home { IfOk result (λ home. At (λ es. home ≡ slice_index_or (homes_of self.old.spaces self.old.homes space) page Unused) (D.past self.old.disk)) }
+        // Where the store is at rest with contents under the ring's keys, it is their page.
+        ensures contents { At (λ es. (c : List SpaceContents) (next : ℕ) → IsAtRest es ring.now c next → GivesPage (pages_of c space page) into.new result) (D.past self.old.disk) }
         ensures store { self.new ≡ with_disk self.old self.new.disk }
         ensures same { D.past self.new.disk ≡ D.past self.old.disk }
         ensures later { D.is_later self.old.disk self.new.disk }
