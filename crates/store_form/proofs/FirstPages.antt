@@ -1,15 +1,16 @@
 -- The head of a space is read from the text of its page 0.
-use Rattle.std.proofs.Common.{◌≡◌, ℕ, ◌+◌, ◌-◌, ◌%◌, ◌^◌, ◌<◌, ◌≤◌, ◌==◌, not, Bool, true, false, List, ◌++◌, length, take, drop, Option, Some, None, refl, sym, ap, ◌∙◌, subst, arith, inl, inr, length-append}
+use Rattle.std.proofs.Common.{◌≡◌, ℕ, ◌+◌, ◌-◌, ◌%◌, ◌^◌, ◌<◌, ◌≤◌, ◌==◌, not, Bool, true, false, List, [], ◌∷◌, ◌++◌, length, take, drop, Option, Some, None, refl, sym, ap, ◌∙◌, subst, arith, inl, inr, lit<}
 use Rattle.std.specs.Prelude.{Result, Ok, Err, if◌then◌else◌}
 use Rattle.std.specs.Int.{to_be_bytes, w16, w32}
 use Rattle.std.proofs.lemmas.List.{take_at}
 use Rattle.bytes_core.specs.Crc.{crc32c}
-use Rattle.byte_list.specs.Bytes.{range, zeros, AreBytes}
-use Rattle.byte_list.specs.Fields.{be32_at}
-use Rattle.byte_list.proofs.FieldLaws.{be32_at-same}
+use Rattle.byte_list.specs.Bytes.{range, put, zeros, AreBytes}
+use Rattle.byte_list.proofs.PutLaws.{length-put, range-put_after, range-put_same}
+use Rattle.byte_list.specs.Fields.{be16_at, be32_at}
+use Rattle.byte_list.proofs.FieldLaws.{be16_at-written, be32_at-same}
 use Rattle.byte_list.proofs.RangeLaws.{range-range, length-zeros}
 use Rattle.page_text.specs.Parts.{body}
-use Rattle.page_text.specs.Text.{IsText, Plain, before_sum, inner}
+use Rattle.page_text.specs.Text.{IsText, Plain, plain_of}
 use Rattle.space_head.specs.Head.{IsAccepted, IsTyped, head_of, head_of_size, head_with, with_head}
 use Rattle.space_head.specs.Record.{crypt_of}
 use Rattle.space_head.specs.Sizes.{IsPageSize, page_size, record_place, pages_per_extent, size_of_code}
@@ -109,3 +110,33 @@ head_in info z bytes lz lb t same =
 -- page 0 of a space says what its text is of
 pub head_read : (s lsn : ℕ) (info : SpaceInfo) (bytes : List ℕ) → length bytes ≡ 16384 → IsTypedInfo info → IsText 16384 s 0 lsn 0 None (head_page info) bytes → head_of bytes ≡ Ok (head_of_space info)
 head_read s lsn info bytes long t text = head_in info (zeros 16384) bytes (length-zeros 16384) long t (body_of s 0 lsn (head_page info) bytes long text)
+
+-- ---- page 0 as it is created: a head in zero bytes, and the type of a page 0
+
+abbrev pub first_page : SpaceInfo → List ℕ → List ℕ
+first_page info z = put 24 (0 ∷ 8 ∷ []) (with_head (head_of_space info) z)
+
+module _ (info : SpaceInfo) (z : List ℕ) (lz : length z ≡ 16384) (t : IsTypedInfo info) where
+  head_long : length (with_head (head_of_space info) z) ≡ 16384
+  head_long = let sized : IsPageSize (length z) = inr (inr (inl lz)) in long (head_of_space info) z sized (typed info t) ∙ lz
+
+  first_long : length (first_page info z) ≡ length (with_head (head_of_space info) z)
+  first_long = length-put 24 (0 ∷ 8 ∷ []) (with_head (head_of_space info) z) (omega (arith, head_long))
+
+  first_kind : be16_at (first_page info z) 24 ≡ 8
+  first_kind = be16_at-written (first_page info z) 24 8 (range-put_same 24 (0 ∷ 8 ∷ []) (with_head (head_of_space info) z) (omega (arith, head_long)) 2 refl) (lit< tt)
+
+  first_body : body (first_page info z) ≡ body (with_head (head_of_space info) z)
+  first_body =
+      let w : List ℕ = with_head (head_of_space info) z in
+      ap (λ (n : ℕ). range 38 (n - 8 - 38) (first_page info z)) first_long ∙ range-put_after 24 (0 ∷ 8 ∷ []) w (omega (arith, head_long)) 38 (length w - 8 - 38) (omega arith)
+
+  first_plain : plain_of (first_page info z) ≡ record { kind = 8; bytes = body (with_head (head_of_space info) z) }
+  first_plain = (λ i. record { kind = first_kind i; bytes = first_body i })
+
+-- its type, and what its text is of
+pub created_kind : (info : SpaceInfo) → IsTypedInfo info → be16_at (first_page info (zeros 16384)) 24 ≡ 8
+created_kind info t = first_kind info (zeros 16384) (length-zeros 16384) t
+
+pub created_plain : (info : SpaceInfo) → IsTypedInfo info → plain_of (first_page info (zeros 16384)) ≡ head_page info
+created_plain info t = first_plain info (zeros 16384) (length-zeros 16384) t

@@ -14,6 +14,7 @@
 #![tactic(auto)]
 
 mod fault;
+mod first_page;
 mod header;
 mod lists;
 mod plan;

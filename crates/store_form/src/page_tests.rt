@@ -2,6 +2,7 @@
 ghost use Rattle.std.specs.Prelude.{◌≡◌, length};
 
 use crate::RestFault;
+use crate::first_page::fill_first_page;
 use crate::reading::open_home;
 use aes_core::Algorithm;
 use byte_list::fields::{be16_at, put};
@@ -139,4 +140,18 @@ fn a_damaged_page_is_told(rt: HostRuntime) {
             })
         )
     );
+}
+
+// Space 5 of 4 pages under key 1, ciphered from version 1 on, its salt 16 bytes 11.
+#[test]
+fn a_first_page_has_its_crypt_record(rt: HostRuntime) {
+    let mut page = [0x77; 16384];
+    fill_first_page(&mut page, &space_5());
+    assert!(rt; &page[10428..10436] == [0x73, 0x0e, 0x0c, 0x52, 0x45, 0x74, 1, 16].as_slice());
+    assert!(rt; &page[10436..10452] == [0x11; 16].as_slice());
+    assert!(rt; &page[10452..10461] == [0, 0, 0, 1, 0, 0, 0, 1, 1].as_slice());
+    assert!(rt; &page[16..24] == [0, 0, 0, 0, 0, 0, 0x20, 0].as_slice() && page[25] == 8);
+    let none = Ring::new(rt.alloc());
+    let home = open_home(&none, Algorithm::Cbc, &space_5(), 0, &mut page);
+    assert!(rt; home == Ok(Home::Clean(0)));
 }
