@@ -6,3 +6,4 @@ pub mod PageReads
 pub mod FirstPages
 pub mod RestPages
 pub mod PageContents
+pub mod HeaderWrites

@@ -2,3 +2,4 @@ pub mod Said
 pub mod Rest
 pub mod PageRead
 pub mod Contents
+pub mod HeaderParts

@@ -45,7 +45,7 @@ fn known_info(info: &SpaceInfo)
 }
 
 #[tactic(auto, unfolding(byte_list::specs::Bytes::zeros))]
-fn clear(page: &mut [u8])
+pub(crate) fn clear(page: &mut [u8])
     ensures { page.new ≡ zeros (length page.old) }
 {
     page.fill(0);

@@ -16,6 +16,7 @@
 mod fault;
 mod first_page;
 mod header;
+mod header_block;
 mod lists;
 mod plan;
 mod reading;

@@ -1,4 +1,5 @@
 // Headers by their bytes. The checksums are those of a CRC-32C bit by bit.
+use crate::header_block::fill_header;
 use crate::{HomeList, Homes, SpacePlan, SpacePlans, Spaces, read_header};
 use aes_core::Algorithm;
 use byte_list::fields::{put, put_be32};
@@ -88,5 +89,23 @@ fn plans_and_spaces_have_their_items(rt: HostRuntime) -> Result<(), Fail> {
     let spaces = Spaces::of(spaces);
     assert!(rt; spaces.len() == 1 && spaces.get(0).floor == 1);
     assert!(rt; spaces.as_slice()[0].space == 5);
+    Ok(())
+}
+
+// The bytes of the two headers whose checksums were found bit by bit.
+#[test]
+fn a_header_has_the_bytes_of_the_format(rt: HostRuntime) -> Result<(), Fail> {
+    let wanted = block_of(1, 4, 0xf721_fcef);
+    let Some(mut header) = read_header(&wanted) else {
+        return Err(Fail::new("no header"));
+    };
+    let mut block = [0xaa; 4096];
+    assert!(rt; header.blocks <= 4096);
+    fill_header(&mut block, &header);
+    assert!(rt; block.as_slice() == wanted.as_slice());
+    header.algorithm = Algorithm::Ctr;
+    header.spaces[0].pages = 16384;
+    fill_header(&mut block, &header);
+    assert!(rt; block.as_slice() == block_of(2, 16384, 0x6e5e_9b3e).as_slice());
     Ok(())
 }
