@@ -1,10 +1,9 @@
 -- The head of a space is read from the text of its page 0.
-use Rattle.std.proofs.Common.{◌≡◌, ℕ, ◌+◌, ◌-◌, ◌%◌, ◌^◌, ◌<◌, ◌≤◌, ◌==◌, not, Bool, true, false, List, [], ◌∷◌, ◌++◌, length, take, drop, Option, Some, None, refl, sym, ap, ◌∙◌, subst, arith, inl, inr, lit<}
+use Rattle.std.proofs.Common.{◌≡◌, ℕ, ◌+◌, ◌-◌, ◌%◌, ◌^◌, ◌≤◌, ◌==◌, not, Bool, true, false, List, [], ◌∷◌, length, Option, None, refl, sym, ap, ◌∙◌, arith, inl, inr, lit<}
 use Rattle.std.specs.Prelude.{Result, Ok, Err, if◌then◌else◌}
-use Rattle.std.specs.Int.{to_be_bytes, w16, w32}
+use Rattle.std.specs.Int.{to_be_bytes, w32}
 use Rattle.std.proofs.lemmas.List.{take_at}
-use Rattle.bytes_core.specs.Crc.{crc32c}
-use Rattle.byte_list.specs.Bytes.{range, put, zeros, AreBytes}
+use Rattle.byte_list.specs.Bytes.{range, put, zeros}
 use Rattle.byte_list.proofs.PutLaws.{length-put, range-put_after, range-put_same}
 use Rattle.byte_list.specs.Fields.{be16_at, be32_at}
 use Rattle.byte_list.proofs.FieldLaws.{be16_at-written, be32_at-same}

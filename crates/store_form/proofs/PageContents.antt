@@ -1,5 +1,5 @@
 -- What reading a page gives of the contents that a store is at rest with.
-use Rattle.std.proofs.Common.{◌≡◌, ℕ, ◌+◌, ◌*◌, ◌≤◌, true, List, length, slice_index_or, Option, refl, sym, ap, ◌∙◌, subst, arith}
+use Rattle.std.proofs.Common.{◌≡◌, ℕ, ◌*◌, true, List, length, slice_index_or, Option, sym, ap, ◌∙◌, subst}
 use Rattle.std.specs.Prelude.{Result, Ok}
 use Rattle.byte_list.specs.Fields.{be32_at}
 use Rattle.byte_list.proofs.RangeLaws.{length-range}
@@ -20,7 +20,7 @@ use Rattle.store_model.specs.declared.contents.SpaceContents.{SpaceContents}
 use Rattle.crash_image.specs.Rest.{IsAtRest}
 use Rattle.store_form.specs.Contents.{GivesPage}
 use Rattle.store_form.specs.PageRead.{IsHomeOpened, TakesTexts}
-use Rattle.store_form.specs.Rest.{HaveHomes, ReadsAtRest, SpaceReads, place_in, salt_in}
+use Rattle.store_form.specs.Rest.{HaveHomes, ReadsAtRest, place_in, salt_in}
 use Rattle.store_form.specs.declared.fault.RestFault.{RestFault}
 use Rattle.store_form.proofs.RestLaws.{space_found, space_reads, page_inside}
 use Rattle.store_form.proofs.RestPages.{HomeTells, rest_by, home_tells, salt_told, gives}

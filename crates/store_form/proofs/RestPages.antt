@@ -1,9 +1,8 @@
 -- What the home of a page tells of the contents that a store is at rest with.
-use Rattle.std.proofs.Common.{◌≡◌, ◌≢◌, ◌⊎◌, ℕ, zero, suc, ◌+◌, ◌<◌, ◌≤◌, Bool, true, false, true≢false, nat_eq, if◌then◌else◌, List, [], ◌∷◌, length, slice_index_or, Option, Some, None, refl, sym, ap, ◌∙◌, subst, arith, option_map, inl, inr}
-use Rattle.std.specs.Prelude.{MatchBool, Result, Ok, Err}
+use Rattle.std.proofs.Common.{◌≡◌, ◌≢◌, ℕ, ◌<◌, Bool, true, false, nat_eq, if◌then◌else◌, List, [], ◌∷◌, length, slice_index_or, Option, Some, None, refl, sym, ap, ◌∙◌, subst, arith, option_map, inl, inr}
+use Rattle.std.specs.Prelude.{MatchBool, Result, Ok}
 use Rattle.byte_list.specs.Fields.{be32_at, be64_at}
 use Rattle.disk_model.specs.Event.{Event, reads}
-use Rattle.disk_model.specs.Past.{Past, At}
 use Rattle.disk_model.specs.declared.names.FileName.TheVariants.{Log, Space}
 use Rattle.key_ring.specs.Ring.{RingEntry}
 use Rattle.key_ring.specs.Local.{local_key}
@@ -11,7 +10,7 @@ use Rattle.places.specs.Places.{place, shown}
 use Rattle.page_places.specs.Texts.{page_bytes, are_zero, held, is_page_text, text_in}
 use Rattle.page_places.specs.Views.{view}
 use Rattle.page_places.proofs.Texts.{held_is}
-use Rattle.page_text.specs.Text.{FitsPage, IsText, Plain, plain_of}
+use Rattle.page_text.specs.Text.{FitsPage, IsText, Plain}
 use Rattle.page_text.specs.declared.key.PageKey.{PageKey}
 use Rattle.redo_text.specs.declared.change.Change.{Change}
 use Rattle.space_head.specs.Head.{head_of}
@@ -21,18 +20,17 @@ use Rattle.space_head.specs.declared.record.CryptRecord.{CryptRecord}
 use Rattle.space_head.specs.declared.space.Home.{Home}
 use Rattle.space_head.specs.declared.space.Home.TheVariants as home
 use Rattle.space_head.specs.declared.space.SpaceInfo.{SpaceInfo}
-use Rattle.store_files.specs.Header.{HeldHeader, HeldSpace, header_in}
-use Rattle.store_files.specs.Pages.{Page, Head, Unused, Used, MeansPage, HasKeyBytes, IsTypedInfo, has_page, head_of_space, head_page, key_at, key_id_of, page_in, pages_of, salts_of}
+use Rattle.store_files.specs.Header.{HeldHeader, header_in}
+use Rattle.store_files.specs.Pages.{Page, Head, Unused, Used, MeansPage, has_page, head_of_space, head_page, key_at, key_id_of, pages_of, salts_of}
 use Rattle.store_image.specs.Places.{LogView}
 use Rattle.store_image.specs.Recovers as pages
-use Rattle.store_image.specs.View.{Text, Held, Holds, Zero, Bad, Logged, IsChosen, IsLive, Home as ByHome, Copy as ByCopy, Unused as ByNone}
+use Rattle.store_image.specs.View.{Text, Holds, Zero, Bad, Logged, IsChosen, IsLive, Home as ByHome, Copy as ByCopy, Unused as ByNone}
 use Rattle.store_model.specs.declared.contents.SpaceContents.{SpaceContents}
 use Rattle.crash_image.specs.Recovers.{RecoversBy}
 use Rattle.crash_image.specs.Rest.{IsAtRest, read_image}
 use Rattle.crash_image.specs.StoreTheory.{store_theory}
 use Rattle.store_form.specs.Contents.{GivesPage}
 use Rattle.store_form.specs.PageRead.{IsHomeOpened, IsTextOpened, TakesTexts}
-use Rattle.store_form.specs.Rest.{SpaceReads, salt_in}
 use Rattle.store_form.specs.declared.fault.RestFault.{RestFault}
 use Rattle.store_form.proofs.FirstPages.{head_read}
 use Rattle.page_places.proofs.Texts.{bytes_zero}

@@ -10,7 +10,7 @@
 //!    what it was made of, and take no memory. No call makes one of a disk yet but [`AtRest::new`].
 //! 4. [`AtRest::read_page`] answers a page by the bytes of its home alone: that it is unused, its plain
 //!    page, the version that the ring lacks, or the first fault of its text; and what it answers is
-//!    what is known of the page.
+//!    what is known of the page. Of a disk that is at rest with contents it gives the page of these.
 #![tactic(auto)]
 
 mod fault;

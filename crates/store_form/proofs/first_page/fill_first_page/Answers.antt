@@ -1,9 +1,6 @@
-use Rattle.std.proofs.Common.{◌≡◌, ◌∙◌, ap, subst, sym, ℕ, List, None, length}
+use Rattle.std.proofs.Common.{◌∙◌, ap, subst, ℕ, List, None}
 use Rattle.byte_list.specs.Fields.{be16_at}
-use Rattle.byte_list.specs.Bytes.{zeros}
 use Rattle.page_text.specs.Text.{IsText, Plain, plain_of}
-use Rattle.space_head.specs.Head.{head_of}
-use Rattle.store_files.specs.Pages.{head_page}
 use Rattle.store_form.proofs.FirstPages.{created_kind, created_plain, head_read}
 use Rattle.store_form.proofs.first_page.fill_first_page.Goals as goal
 

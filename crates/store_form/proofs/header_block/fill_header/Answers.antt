@@ -1,8 +1,8 @@
-use Rattle.std.proofs.Common.{rules, ◌≡◌, ◌∙◌, ℕ, ◌+◌, ◌-◌, ◌*◌, ◌<◌, ◌≤◌, List, ◌++◌, length, map, take, sym, ap, arith, length-take}
+use Rattle.std.proofs.Common.{rules, ◌≡◌, ◌∙◌, ℕ, ◌-◌, ◌*◌, ◌≤◌, List, ◌++◌, length, map, take, sym, ap, arith, length-take}
 use Rattle.std.specs.Int.{to_be_bytes, w32}
 use Rattle.byte_list.specs.Bytes.{put, zeros}
-use Rattle.store_files.specs.Header.{HeldHeader, algorithm_code, header_bytes, header_front, header_words, space_words}
-use Rattle.store_form.specs.HeaderParts.{first_words, summed}
+use Rattle.store_files.specs.Header.{algorithm_code, header_words, space_words}
+use Rattle.store_form.specs.HeaderParts.{first_words}
 use Rattle.store_form.specs.Said.{header_said, space_said}
 use Rattle.store_form.proofs.HeaderWrites.{words_put, salt_put, header_words-long, map_long, code_put, sum_put}
 use Rattle.store_form.proofs.header_block.fill_header.Goals as goal

@@ -1,10 +1,8 @@
-use Rattle.std.proofs.Common.{rules, ◌≡◌, ◌∙◌, ℕ, ◌+◌, ◌-◌, ◌*◌, ◌<◌, ◌≤◌, List, ◌++◌, length, map, take, sym, ap, arith, refl, []}
-use Rattle.std.proofs.lemmas.List.{append-nil as none_behind, take_all}
+use Rattle.std.proofs.Common.{rules, ◌≡◌, ◌∙◌, ℕ, ◌<◌, List, ◌++◌, length, sym, ap, []}
+use Rattle.std.proofs.lemmas.List.{append-nil as none_behind}
 use Rattle.byte_list.specs.Bytes.{zeros}
 use Rattle.store_files.specs.Header.{space_words}
-use Rattle.store_form.specs.Said.{space_said}
-use Rattle.store_form.proofs.HeaderWrites.{space_put, part_long}
-use Rattle.byte_list.proofs.PutLaws.{length-put}
+use Rattle.store_form.proofs.HeaderWrites.{space_put}
 use Rattle.store_form.proofs.header_block.fill_spaces.Goals as goal
 
 no_words : (w : List ℕ) → w ≡ w ++ space_words []

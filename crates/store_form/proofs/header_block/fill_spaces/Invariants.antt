@@ -1,4 +1,4 @@
-use Rattle.std.proofs.Common.{◌≡◌, ℕ, ◌+◌, ◌-◌, ◌*◌, ◌≤◌, List, ◌++◌, length, map, take}
+use Rattle.std.proofs.Common.{◌≡◌, ℕ, ◌-◌, ◌*◌, List, ◌++◌, length, map, take}
 use Rattle.byte_list.specs.Bytes.{zeros}
 use Rattle.store_files.specs.Header.{space_words}
 use Rattle.store_form.specs.Said.{space_said}

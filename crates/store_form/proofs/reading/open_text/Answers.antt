@@ -1,10 +1,8 @@
-use Rattle.std.proofs.Common.{◌≡◌, sym, subst, ap, ℕ, List, Option, Result, Ok}
+use Rattle.std.proofs.Common.{◌≡◌, sym, subst, ap, ℕ, List, Option, Ok}
 use Rattle.byte_list.specs.Fields.{be32_at}
 use Rattle.page_text.specs.Text.{IsText, Plain, key_lent}
 use Rattle.page_text.specs.declared.key.PageKey.{PageKey}
-use Rattle.space_head.specs.declared.space.Home.{Home}
 use Rattle.space_head.specs.declared.space.Home.TheVariants.{Clean}
-use Rattle.store_form.specs.declared.fault.RestFault.{RestFault}
 use Rattle.store_form.proofs.reading.open_text.Goals as goal
 
 keyed : (s p lsn version : ℕ) (key other : Option PageKey) (plain : Plain) (bytes : List ℕ) → other ≡ key → IsText 16384 s p lsn version key plain bytes → IsText 16384 s p lsn version other plain bytes

@@ -1,4 +1,4 @@
-use Rattle.std.proofs.Common.{rules, ◌≡◌, sym, subst, ℕ, List, length, ◌∙◌}
+use Rattle.std.proofs.Common.{rules, ◌≡◌, sym, subst, ℕ, List, length}
 use Rattle.byte_list.specs.Fields.{be32_at}
 use Rattle.page_text.specs.Text.{IsText, Plain, key_lent, plain_of}
 use Rattle.store_form.proofs.reading.take_apart.Goals as goal
