@@ -7,7 +7,7 @@ use Rattle.key_ring.specs.Ring.{RingEntry}
 use Rattle.binlog_text.specs.Held.{IsFront}
 use Rattle.binlog_text.specs.Events.{Found, answered, event_in, placed, placed_event}
 use Rattle.binlog_text.specs.Reading.{Holds, Keeps, Moves, Starts, is_outside_fault}
-use Rattle.binlog_text.specs.Sealed.{IsSealed, StandsSealed}
+use Rattle.binlog_text.specs.Sealed.{IsStoredEvent, StandsStored}
 use Rattle.binlog_text.specs.declared.fault.BinlogFault.{BinlogFault}
 use Rattle.binlog_text.specs.declared.stage.Position.{Position}
 use Rattle.binlog_text.specs.declared.stage.Stage.{Stage}
@@ -34,11 +34,11 @@ answered_event ring (Some file) stage position rest answer at keeps event =
 pub stands_sealed : (ring : List RingEntry) (found : Option (List ℕ)) (stage : Stage) (position : Position) (rest event : List ℕ) (r : Result (Option StageStep) BinlogFault)
     → placed found stage ≡ Ok position → Keeps found (Events position) rest
     → (IsFront rest (drop position.place (unwrap_or found []))
-    → IfOk r (λ found_step. IfSome found_step (λ s. IsSealed ring position.format position.place event (take (length event) (drop position.place (unwrap_or found []))))))
-    → IfOk r (λ found_step. IfSome found_step (λ s. StandsSealed ring found (placed found stage) (record { mark = s.mark; bytes = event })))
+    → IfOk r (λ found_step. IfSome found_step (λ s. IsStoredEvent ring position.format position.place event (take (length event) (drop position.place (unwrap_or found []))))))
+    → IfOk r (λ found_step. IfSome found_step (λ s. StandsStored ring found (placed found stage) (record { mark = s.mark; bytes = event })))
 stands_sealed ring None stage position rest event r at keeps sealed = absurd keeps
 stands_sealed ring (Some file) stage position rest event r at keeps sealed =
-    step_each r (λ s is. subst (λ (p : Result Position BinlogFault). StandsSealed ring (Some file) p (record { mark = s.mark; bytes = event })) (sym at) is) (sealed keeps.front)
+    step_each r (λ s is. subst (λ (p : Result Position BinlogFault). StandsStored ring (Some file) p (record { mark = s.mark; bytes = event })) (sym at) is) (sealed keeps.front)
 
 -- what holds behind an event
 next_holds : (found : Option (List ℕ)) (position : Position) (before rest event : List ℕ) (step : StageStep) → Keeps found (Events position) before

@@ -6,7 +6,7 @@ use Rattle.key_ring.specs.Ring.{RingEntry}
 use Rattle.binlog_text.specs.Advances.{Advances}
 use Rattle.binlog_text.specs.Events.{BinlogEvent, answered, placed}
 use Rattle.binlog_text.specs.Reading.{IsBehindEvent, Keeps, due_at, is_outside_fault, left_at, shown_step}
-use Rattle.binlog_text.specs.Sealed.{StandsSealed}
+use Rattle.binlog_text.specs.Sealed.{StandsStored}
 use Rattle.binlog_text.specs.declared.fault.BinlogFault.{BinlogFault}
 use Rattle.binlog_text.specs.declared.reader.LogReader.{LogReader}
 use Rattle.binlog_text.specs.declared.stage.Stage.{Stage}
@@ -17,7 +17,7 @@ use Rattle.binlog_text.specs.declared.stage.StageStep.{StageStep}
 pub advances_event : (ring : List RingEntry) (files : Option Files) (name : List ℕ) (old new : LogReader) (step : StageStep) (r : Result (Option StageStep) BinlogFault)
     → new.stage ≡ Events step.next → r ≡ Ok (Some step)
     → Told (λ fs. is_outside_fault r ≡ false → answered ring (fs name) old.stage ≡ shown_step new.buffer.event r) files
-    → Told (λ fs. IfOk r (λ passed. IfSome passed (λ s. StandsSealed ring (fs name) (placed (fs name) old.stage) (record { mark = s.mark; bytes = new.buffer.event })))) files
+    → Told (λ fs. IfOk r (λ passed. IfSome passed (λ s. StandsStored ring (fs name) (placed (fs name) old.stage) (record { mark = s.mark; bytes = new.buffer.event })))) files
     → IfOk r (λ passed. IfSome passed (λ s. Told (λ fs. Keeps (fs name) (Events s.next) new.buffer.rest) files))
     → IfOk r (λ passed. IfSome passed (λ s. left_at (Events s.next) < left_at old.stage))
     → IfOk r (λ passed. IfSome passed (λ s. IsBehindEvent old.stage (record { mark = s.mark; bytes = new.buffer.event }) (Events s.next)))
@@ -33,7 +33,7 @@ advances_event ring files name old new step r at is answer sealed keeps left beh
       };
       sealed = record {
         here = λ fs told.
-            subst (λ (x : Result (Option StageStep) BinlogFault). IfOk x (λ passed. IfSome passed (λ s. StandsSealed ring (fs name) (placed (fs name) old.stage) (record { mark = s.mark; bytes = new.buffer.event })))) is (sealed.here fs told);
+            subst (λ (x : Result (Option StageStep) BinlogFault). IfOk x (λ passed. IfSome passed (λ s. StandsStored ring (fs name) (placed (fs name) old.stage) (record { mark = s.mark; bytes = new.buffer.event })))) is (sealed.here fs told);
       };
       keeps =
           subst (λ (s : Stage). Told (λ fs. Keeps (fs name) s new.buffer.rest) files) (sym at)

@@ -6,7 +6,7 @@ use Rattle.io_core.specs.Told.{Told}
 use Rattle.key_ring.specs.Ring.{RingEntry}
 use Rattle.binlog_text.specs.Events.{BinlogEvent, answered, placed}
 use Rattle.binlog_text.specs.Reading.{IsAnswer, IsBehindEvent, IsStage, Keeps, due_at, is_outside_fault}
-use Rattle.binlog_text.specs.Sealed.{StandsSealed}
+use Rattle.binlog_text.specs.Sealed.{StandsStored}
 use Rattle.binlog_text.specs.declared.fault.BinlogFault.{BinlogFault}
 use Rattle.binlog_text.specs.declared.fault.BinlogFault.TheVariants.{FileFault, Missing}
 use Rattle.binlog_text.specs.declared.reader.LogReader.{LogReader}
@@ -19,7 +19,7 @@ use Rattle.binlog_text.specs.declared.stage.Stage.TheVariants.{Refused}
 -- over any library to the most bytes of an event.
 pub record Advances (ring : List RingEntry) (files : Option Files) (name : List ℕ) (old new : LogReader) (result : Result (Option BinlogEvent) BinlogFault) : Type 0 where
   pub answer : Told (λ fs. is_outside_fault result ≡ false → IsAnswer (answered ring (fs name) old.stage) new.stage result) files
-  pub sealed : Told (λ fs. IfOk result (λ found. IfSome found (StandsSealed ring (fs name) (placed (fs name) old.stage)))) files
+  pub sealed : Told (λ fs. IfOk result (λ found. IfSome found (StandsStored ring (fs name) (placed (fs name) old.stage)))) files
   pub keeps : Told (λ fs. Keeps (fs name) new.stage new.buffer.rest) files
   pub stage : IsStage old.stage new.stage result
   pub behind : IfOk result (λ found. IfSome found (λ event. IsBehindEvent old.stage event new.stage))

@@ -10,17 +10,17 @@ use Rattle.binlog_text.specs.declared.format.LogFormat.{LogFormat}
 use Rattle.binlog_text.specs.declared.stage.Position.{Position}
 
 -- as it is, or enciphered under the key of id 1 and the cipher's version, its nonce and the event's place modulo 2 ^ 32
-abbrev pub IsSealedBy : Option EventCipher → List RingEntry → ℕ → List ℕ → List ℕ → Type 0
-IsSealedBy None ring place plain stored = stored ≡ plain
-IsSealedBy (Some cipher) ring place plain stored =
+abbrev pub IsStoredBy : Option EventCipher → List RingEntry → ℕ → List ℕ → List ℕ → Type 0
+IsStoredBy None ring place plain stored = stored ≡ plain
+IsStoredBy (Some cipher) ring place plain stored =
     (key : List ℕ) × (ring_key ring 1 cipher.version ≡ Some key) × (stored ≡ enciphered_event key cipher.nonce (place % 2 ^ 32) plain)
 
 -- by what the events before it say
-pub record IsSealed (ring : List RingEntry) (format : LogFormat) (place : ℕ) (plain stored : List ℕ) : Type 0 where
-  pub by : IsSealedBy format.cipher ring place plain stored
+pub record IsStoredEvent (ring : List RingEntry) (format : LogFormat) (place : ℕ) (plain stored : List ℕ) : Type 0 where
+  pub by : IsStoredBy format.cipher ring place plain stored
 
 -- The bytes of the file at a position are an event so.
-abbrev pub StandsSealed : List RingEntry → Option (List ℕ) → Result Position BinlogFault → BinlogEvent → Type 0
-StandsSealed ring file (Err fault) event = ⊥
-StandsSealed ring None (Ok position) event = ⊥
-StandsSealed ring (Some file) (Ok position) event = IsSealed ring position.format position.place event.bytes (range position.place (length event.bytes) file)
+abbrev pub StandsStored : List RingEntry → Option (List ℕ) → Result Position BinlogFault → BinlogEvent → Type 0
+StandsStored ring file (Err fault) event = ⊥
+StandsStored ring None (Ok position) event = ⊥
+StandsStored ring (Some file) (Ok position) event = IsStoredEvent ring position.format position.place event.bytes (range position.place (length event.bytes) file)

@@ -6,7 +6,7 @@ ghost use Rattle.io_core.specs.Files.{bytes_from};
 ghost use Rattle.binlog_text.specs.Faults.{HasBinlogCauses, IsBinlogRefusal, is_outside};
 ghost use Rattle.binlog_text.specs.Header.{kind_of, least_stored, sum_length};
 ghost use Rattle.binlog_text.specs.Events.{judged_event, opened, opened_event};
-ghost use Rattle.binlog_text.specs.Sealed.{IsSealed};
+ghost use Rattle.binlog_text.specs.Sealed.{IsStoredEvent};
 
 use crate::BinlogFault;
 use crate::format::LogFormat;
@@ -100,7 +100,7 @@ impl EventBuffer {
         ensures refusal { IfErr result IsBinlogRefusal }
         ensures sum { IfOk result (λ after. 19 + sum_length after.checksum ≤ length self.old.event) }
         ensures value { opened_event position.now (opened ring.now position.now.format position.now.place self.old.event) ≡ judged_event position.now self.new.event result }
-        ensures sealed { OnOk result (IsSealed ring.now position.now.format position.now.place self.new.event self.old.event) }
+        ensures sealed { OnOk result (IsStoredEvent ring.now position.now.format position.now.place self.new.event self.old.event) }
         ensures long { length self.new.event ≡ length self.old.event }
         ensures rest { self.new.rest ≡ self.old.rest }
         ensures room { self.new.room ≡ self.old.room }

@@ -9,7 +9,7 @@
 //!    (`answered`). Each refusal comes exactly where it is the first in order, with its place and
 //!    values.
 //! 3. An event that is given is the bytes of the file at its place, or enciphers to them under the key
-//!    and nonce that the start encryption before it names (`StandsSealed`).
+//!    and nonce that the start encryption before it names (`StandsStored`).
 //! 4. After a fault of the file, which is one of the log's name and comes only where the reader holds
 //!    less than the file has (`WantsFile`), or want of memory the reader stands where it stood; after
 //!    every other refusal it answers the same again.

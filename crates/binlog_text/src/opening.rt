@@ -5,7 +5,7 @@ ghost use Rattle.binlog_text.specs.Faults.{IsBinlogRefusal};
 ghost use Rattle.binlog_text.specs.Header.{kind_of, least_of, least_stored, length_of};
 ghost use Rattle.binlog_text.specs.Cipher.{deciphered_event};
 ghost use Rattle.binlog_text.specs.Events.{opened, plain_checked};
-ghost use Rattle.binlog_text.specs.Sealed.{IsSealed};
+ghost use Rattle.binlog_text.specs.Sealed.{IsStoredEvent};
 
 use crate::BinlogFault;
 use crate::cipher::decipher_event;
@@ -47,7 +47,7 @@ pub(crate) fn open(
     ensures value { MatchResult result (λ _. opened ring.now format.now place event.old ≡ Ok event.new) (λ fault. opened ring.now format.now place event.old ≡ Err fault) }
     ensures refusal { IfErr result IsBinlogRefusal }
     ensures least { OnOk result (least_of format.now.checksum (kind_of event.new) ≤ length event.new) }
-    ensures sealed { OnOk result (IsSealed ring.now format.now place event.new event.old) }
+    ensures sealed { OnOk result (IsStoredEvent ring.now format.now place event.new event.old) }
 {
     let Some(cipher) = format.cipher else {
         return Ok(());

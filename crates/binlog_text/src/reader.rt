@@ -29,7 +29,7 @@ impl LogReader {
     ghost use Rattle.io_core.specs.Told.{Told};
     ghost use Rattle.binlog_text.specs.Faults.{HasBinlogCauses};
     ghost use Rattle.binlog_text.specs.Events.{answered, placed};
-    ghost use Rattle.binlog_text.specs.Sealed.{StandsSealed};
+    ghost use Rattle.binlog_text.specs.Sealed.{StandsStored};
     ghost use Rattle.binlog_text.specs.Reading.{FitsMark, IsBehindEvent, Keeps, StandsAt, WantsFile, due_at, is_outside_fault, left_at, marked, shown_step, viewed};
     ghost use Rattle.binlog_text.specs.Advances.{Advances, ReaderCauses};
     ghost use Rattle.binlog_text.specs.contracts.reader.LogReader.{the_row};
@@ -83,7 +83,7 @@ impl LogReader {
         ensures stage { self.new.stage ≡ self.old.stage }
         ensures left { IfOk result (λ found. IfSome found (λ step. left_at (Stage.Events step.next) < left_at self.old.stage)) }
         ensures fits { IfOk result (λ found. IfSome found (λ step. FitsMark step.mark self.new.buffer.event)) }
-        ensures sealed { Told (λ fs. IfOk result (λ found. IfSome found (λ step. StandsSealed ring.now (fs name.now) (placed (fs name.now) self.old.stage) (record { mark = step.mark; bytes = self.new.buffer.event })))) (L.files files.old) }
+        ensures sealed { Told (λ fs. IfOk result (λ found. IfSome found (λ step. StandsStored ring.now (fs name.now) (placed (fs name.now) self.old.stage) (record { mark = step.mark; bytes = self.new.buffer.event })))) (L.files files.old) }
         ensures behind { IfOk result (λ found. IfSome found (λ step. IsBehindEvent self.old.stage (record { mark = step.mark; bytes = self.new.buffer.event }) (Stage.Events step.next))) }
         ensures room { self.new.buffer.room ≤ max self.old.buffer.room 16777216 }
         ensures grown { Told (λ fs. self.new.buffer.room ≤ max self.old.buffer.room (max 65536 (due_at (fs name.now) self.old.stage))) (L.files files.old) }

@@ -9,7 +9,7 @@ ghost use Rattle.binlog_text.specs.Header.{kind_of, least_stored, sum_length};
 ghost use Rattle.binlog_text.specs.Held.{IsFront};
 ghost use Rattle.binlog_text.specs.Events.{event_in, judged_event, opened, opened_event, step_of};
 ghost use Rattle.binlog_text.specs.Reading.{Moves, Reaches, due_in, is_outside_fault, shown_step};
-ghost use Rattle.binlog_text.specs.Sealed.{IsSealed};
+ghost use Rattle.binlog_text.specs.Sealed.{IsStoredEvent};
 
 use crate::BinlogFault;
 use crate::buffer::EventBuffer;
@@ -32,7 +32,7 @@ pub(crate) fn read_plain(
     ensures refusal { IfErr result IsBinlogRefusal }
     ensures long { IfOk result (λ after. 19 + sum_length after.checksum ≤ length event.old) }
     ensures value { opened_event position.now (opened ring.now position.now.format position.now.place event.old) ≡ judged_event position.now event.new result }
-    ensures sealed { OnOk result (IsSealed ring.now position.now.format position.now.place event.new event.old) }
+    ensures sealed { OnOk result (IsStoredEvent ring.now position.now.format position.now.place event.new event.old) }
 {
     open(ring, &position.format, position.place, event)?;
     judge(&position.format, position.place, event)
@@ -53,7 +53,7 @@ pub(crate) fn read_within(
     ensures long { IfOk result (λ after. 19 + sum_length after.checksum ≤ to - at) }
     ensures value { opened_event position.now (opened ring.now position.now.format position.now.place (part_of bytes.old at to)) ≡ judged_event position.now (part_of bytes.new at to) result }
     ensures rest { drop to bytes.new ≡ drop to bytes.old }
-    ensures sealed { OnOk result (IsSealed ring.now position.now.format position.now.place (part_of bytes.new at to) (part_of bytes.old at to)) }
+    ensures sealed { OnOk result (IsStoredEvent ring.now position.now.format position.now.place (part_of bytes.new at to) (part_of bytes.old at to)) }
 {
     read_plain(ring, position, &mut bytes[at..to])
 }
@@ -115,7 +115,7 @@ fn take_event(
     ensures moves { IfOk result (λ step. IfSome step (Moves position.now buffer.new.event)) }
     ensures room { buffer.new.room ≡ buffer.old.room }
     ensures within { IfOk result (λ step. IfSome step (λ s. length buffer.new.event ≤ length buffer.old.rest)) }
-    ensures sealed { IfOk result (λ step. IfSome step (λ s. IsSealed ring.now position.now.format position.now.place buffer.new.event (take (length buffer.new.event) buffer.old.rest))) }
+    ensures sealed { IfOk result (λ step. IfSome step (λ s. IsStoredEvent ring.now position.now.format position.now.place buffer.new.event (take (length buffer.new.event) buffer.old.rest))) }
 {
     let Some(length) = whole(&position.format, position.place, buffer.rest())? else {
         return Ok(None);
@@ -177,7 +177,7 @@ pub(crate) fn read_event<L: Library>(
     ensures failed { IsErrOf result BinlogFault.FileFault → L.failed_last files.new name.now }
     ensures wanted { IsErrOf result BinlogFault.FileFault → length buffer.old.rest < position.now.size - position.now.place }
     ensures sealed { Told (λ fs. IsFront buffer.old.rest (bytes_from position.now.place name.now fs)
-        → IfOk result (λ step. IfSome step (λ s. IsSealed ring.now position.now.format position.now.place buffer.new.event (take (length buffer.new.event) (bytes_from position.now.place name.now fs))))) (L.files files.old) }
+        → IfOk result (λ step. IfSome step (λ s. IsStoredEvent ring.now position.now.format position.now.place buffer.new.event (take (length buffer.new.event) (bytes_from position.now.place name.now fs))))) (L.files files.old) }
 {
     reach(buffer, position, files, name)?;
     take_event(buffer, position, ring)

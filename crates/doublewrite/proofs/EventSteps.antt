@@ -10,7 +10,7 @@ use Rattle.disk_model.proofs.Moments.{at_each}
 use Rattle.places.specs.Batches.{From}
 use Rattle.space_head.specs.declared.space.SpaceInfo.{SpaceInfo}
 use Rattle.doublewrite.specs.Restore.{wanted, space_at, PagesFilled, IsUntouched, AreRestored}
-use Rattle.doublewrite.specs.Events.{page_write, page_writes, synced, is_any, space_events, spaces_events, calls_to, IsFront, Done, Failed}
+use Rattle.doublewrite.specs.Events.{page_write, page_writes, synced, is_any, space_events, spaces_events, calls_to, AreFirstEvents, Done, Failed}
 use Rattle.doublewrite.specs.declared.listing.Copied.{Copied}
 use Rattle.doublewrite.proofs.SpaceSteps.{same_want}
 
@@ -22,22 +22,22 @@ at_error (Err x) p = p
 -- ---- a front of events
 
 -- nothing was done yet
-pub front_none : (all s : List Event) (old new : Past) → old ≡ Some s → new ≡ old → IsFront all s new
+pub front_none : (all s : List Event) (old new : Past) → old ≡ Some s → new ≡ old → AreFirstEvents all s new
 front_none all s old new is same = Done all [] (sym (append-nil all)) (same ∙ is)
 
 -- all were done
-pub front_all : (all s : List Event) (new : Past) → new ≡ Some (all ++ s) → IsFront all s new
+pub front_all : (all s : List Event) (new : Past) → new ≡ Some (all ++ s) → AreFirstEvents all s new
 front_all all s new is = Done [] all refl is
 
 -- behind events that were done
-pub front_behind : (all before s : List Event) (new : Past) → IsFront all (before ++ s) new → IsFront (all ++ before) s new
+pub front_behind : (all before s : List Event) (new : Past) → AreFirstEvents all (before ++ s) new → AreFirstEvents (all ++ before) s new
 front_behind all before s new (Done rest done is now) =
     Done rest (done ++ before) (ap (λ (l : List Event). l ++ before) is ∙ append_assoc rest done before) (now ∙ ap (λ (l : List Event). Some l) (sym (append_assoc done before s)))
 front_behind all before s new (Failed rest done f at bytes e is kind now) =
     Failed rest (done ++ before) f at bytes e (ap (λ (l : List Event). l ++ before) is ∙ append_assoc rest (Write f at bytes bytes ∷ done) before) kind (now ∙ ap (λ (l : List Event). Some (e ∷ l)) (sym (append_assoc done before s)))
 
 -- of more events
-pub front_more : (more all s : List Event) (new : Past) → IsFront all s new → IsFront (more ++ all) s new
+pub front_more : (more all s : List Event) (new : Past) → AreFirstEvents all s new → AreFirstEvents (more ++ all) s new
 front_more more all s new (Done rest done is now) = Done (more ++ rest) done (ap (λ (l : List Event). more ++ l) is ∙ sym (append_assoc more rest done)) now
 front_more more all s new (Failed rest done f at bytes e is kind now) =
     Failed (more ++ rest) done f at bytes e (ap (λ (l : List Event). more ++ l) is ∙ sym (append_assoc more rest (Write f at bytes bytes ∷ done))) kind now
@@ -53,8 +53,8 @@ begins_same all = record { more = []; is = refl }
 begins_more : (e all first : List Event) → BeginsWith all first → BeginsWith (e ++ all) first
 begins_more e all first b = record { more = e ++ b.more; is = ap (λ (l : List Event). e ++ l) b.is ∙ sym (append_assoc e b.more first) }
 
-pub front_of : (all first s : List Event) (new : Past) → BeginsWith all first → IsFront first s new → IsFront all s new
-front_of all first s new b front = subst (λ (l : List Event). IsFront l s new) (sym b.is) (front_more b.more first s new front)
+pub front_of : (all first s : List Event) (new : Past) → BeginsWith all first → AreFirstEvents first s new → AreFirstEvents all s new
+front_of all first s new b front = subst (λ (l : List Event). AreFirstEvents l s new) (sym b.is) (front_more b.more first s new front)
 
 -- ---- the sync of a space
 
@@ -71,7 +71,7 @@ synced_begins f [] = record { more = []; is = refl }
 synced_begins f (e ∷ es) = record { more = Sync f ∷ []; is = refl }
 
 -- the part of its writes that was done is one of all
-pub synced_part : (f : FileName) (es s : List Event) (new : Past) → IsFront es s new → IsFront (synced f es) s new
+pub synced_part : (f : FileName) (es s : List Event) (new : Past) → AreFirstEvents es s new → AreFirstEvents (synced f es) s new
 synced_part f es s new front = front_of (synced f es) es s new (synced_begins f es) front
 
 any_more : (z k : ℕ) (o : Option (List ℕ)) (es : List Event) (w before : Bool) → w ≡ is_some o → before ≡ is_any es → (if w then true else before) ≡ is_any (page_write z k o ++ es)
@@ -122,17 +122,17 @@ module _ (copies : List Copied) (z : ℕ) where
     }
 
     pub page_failed : (mid new : Past) (at : ℕ) (bytes text : List ℕ) → at ≡ k * 16384 → bytes ≡ text → mid ≡ old → MayGrow (IsWrite (Space z) at bytes) mid new → At (λ es. wanted copies es z k ≡ Some text) old
-        → At (λ es. IsFront (page_write z k (wanted copies es z k)) es new) old
+        → At (λ es. AreFirstEvents (page_write z k (wanted copies es z k)) es new) old
     page_failed mid new at bytes text at_is bytes_is same may want = record { here = λ es is. part es is may }
       where
-        part : (es : List Event) → old ≡ Some es → (new ≡ mid) ⊎ ((e : Event) × IsWrite (Space z) at bytes e × (new ≡ grow e mid)) → IsFront (page_write z k (wanted copies es z k)) es new
+        part : (es : List Event) → old ≡ Some es → (new ≡ mid) ⊎ ((e : Event) × IsWrite (Space z) at bytes e × (new ≡ grow e mid)) → AreFirstEvents (page_write z k (wanted copies es z k)) es new
         part es is (inl stays) = front_none (page_write z k (wanted copies es z k)) es old new is (stays ∙ same)
         part es is (inr (e, kind, more)) =
             Failed [] [] (Space z) (k * 16384) text e (ap (page_write z k) (want.here es is))
             (subst (λ (l : List ℕ). IsWrite (Space z) (k * 16384) l e) bytes_is (subst (λ (p : ℕ). IsWrite (Space z) p bytes e) at_is kind)) (more ∙ ap (grow e) (same ∙ is))
 
     -- nothing was done
-    pub page_unread : (new : Past) → new ≡ old → At (λ es. IsFront (page_write z k (wanted copies es z k)) es new) old
+    pub page_unread : (new : Past) → new ≡ old → At (λ es. AreFirstEvents (page_write z k (wanted copies es z k)) es new) old
     page_unread new same = record { here = λ es is. front_none (page_write z k (wanted copies es z k)) es old new is same }
 
 -- what is wanted of the next page is what was wanted of it at first
@@ -153,11 +153,11 @@ module _ (copies : List Copied) (info : SpaceInfo) (k : ℕ) (first mid : Past) 
       (λ s is. is ∙ ap (λ (l : List Event). Some l) (sym (append_assoc (page_write z k (wanted copies s z k)) (page_writes copies s z k) s) ∙ ap (λ (l : List Event). l ++ s) (sym (pages_more copies z s k))))
       (behind_pages (λ o es. new ≡ Some (page_write z k o ++ es)) now)
 
-  pub next_part : (new : Past) (n : ℕ) → k < n → At (λ es. IsFront (page_write z k (wanted copies es z k)) es new) mid → At (λ s. IsFront (page_writes copies s z n) s new) first
+  pub next_part : (new : Past) (n : ℕ) → k < n → At (λ es. AreFirstEvents (page_write z k (wanted copies es z k)) es new) mid → At (λ s. AreFirstEvents (page_writes copies s z n) s new) first
   next_part new n lt now = at_each
       (λ s front. front_of (page_writes copies s z n) (page_writes copies s z (k + 1)) s new (pages_begin_with copies z s (k + 1) n (omega (arith, lt)))
-      (subst (λ (l : List Event). IsFront l s new) (sym (pages_more copies z s k)) (front_behind (page_write z k (wanted copies s z k)) (page_writes copies s z k) s new front)))
-      (behind_pages (λ o es. IsFront (page_write z k o) es new) now)
+      (subst (λ (l : List Event). AreFirstEvents l s new) (sym (pages_more copies z s k)) (front_behind (page_write z k (wanted copies s z k)) (page_writes copies s z k) s new front)))
+      (behind_pages (λ o es. AreFirstEvents (page_write z k o) es new) now)
 
   pub next_told : (w before after : Bool) → after ≡ (if w then true else before) → At (λ s. before ≡ is_any (page_writes copies s z k)) first → At (λ es. w ≡ is_some (wanted copies es z k)) mid
       → At (λ s. after ≡ is_any (page_writes copies s z (k + 1))) first
@@ -204,11 +204,11 @@ module _ (copies : List Copied) (spaces : List SpaceInfo) where
         (λ s is. is ∙ ap (λ (l : List Event). Some l) (sym (append_assoc (space_events copies s info) (spaces_events copies s spaces k) s) ∙ ap (λ (l : List Event). l ++ s) (sym (spaces_more s k))))
         (behind_spaces (λ l es. new ≡ Some (l ++ es)) now)
 
-    pub next_space_part : (new : Past) → At (λ es. IsFront (space_events copies es info) es new) mid → At (λ s. IsFront (spaces_events copies s spaces (length spaces)) s new) first
+    pub next_space_part : (new : Past) → At (λ es. AreFirstEvents (space_events copies es info) es new) mid → At (λ s. AreFirstEvents (spaces_events copies s spaces (length spaces)) s new) first
     next_space_part new now = at_each
         (λ s front. front_of (spaces_events copies s spaces (length spaces)) (spaces_events copies s spaces (k + 1)) s new (spaces_begin_with s (k + 1) (length spaces) (omega (arith, more)))
-        (subst (λ (l : List Event). IsFront l s new) (sym (spaces_more s k)) (front_behind (space_events copies s info) (spaces_events copies s spaces k) s new front)))
-        (behind_spaces (λ l es. IsFront l es new) now)
+        (subst (λ (l : List Event). AreFirstEvents l s new) (sym (spaces_more s k)) (front_behind (space_events copies s info) (spaces_events copies s spaces k) s new front)))
+        (behind_spaces (λ l es. AreFirstEvents l es new) now)
 
 pub calls_none : (spaces : List SpaceInfo) → calls_to spaces 0 ≡ 0
 unfolding calls_to

@@ -46,6 +46,6 @@ calls_to spaces zero = 0
 calls_to spaces (suc k) = calls_to spaces k + ((space_at spaces k).pages * 2 + 1)
 
 -- Of all these events those that come first were done since s, and no other. The one behind them, where it is a write, may have failed.
-pub data IsFront (all s : List Event) (new : Past) : Type 0 where
-  Done : (rest done : List Event) → all ≡ rest ++ done → new ≡ Some (done ++ s) → IsFront all s new
-  Failed : (rest done : List Event) (f : FileName) (at : ℕ) (bytes : List ℕ) (e : Event) → all ≡ rest ++ Write f at bytes bytes ∷ done → IsWrite f at bytes e → new ≡ Some (e ∷ done ++ s) → IsFront all s new
+pub data AreFirstEvents (all s : List Event) (new : Past) : Type 0 where
+  Done : (rest done : List Event) → all ≡ rest ++ done → new ≡ Some (done ++ s) → AreFirstEvents all s new
+  Failed : (rest done : List Event) (f : FileName) (at : ℕ) (bytes : List ℕ) (e : Event) → all ≡ rest ++ Write f at bytes bytes ∷ done → IsWrite f at bytes e → new ≡ Some (e ∷ done ++ s) → AreFirstEvents all s new

@@ -8,7 +8,7 @@ ghost use Rattle.disk_model.specs.declared.names.FileName.TheVariants.{Double};
 ghost use Rattle.places.specs.Batches.{From};
 ghost use Rattle.places.specs.Places.{HasPlaces};
 ghost use Rattle.page_places.specs.Texts.{slots};
-ghost use Rattle.doublewrite.specs.Events.{space_events, spaces_events, restore_events, calls_to, IsFront};
+ghost use Rattle.doublewrite.specs.Events.{space_events, spaces_events, restore_events, calls_to, AreFirstEvents};
 ghost use Rattle.doublewrite.specs.Restore.{AreSpacesApart, AreRestored, HaveAll, IsRestoreEvent, HomesRestored, HomesRestoring, SpacesFilling, SpacesRestored, space_at};
 ghost use Rattle.store_image.specs.Places.{log_of};
 ghost use Rattle.store_image.specs.View.{View};
@@ -40,7 +40,7 @@ fn restore_next<D: Disk>(
     ensures does { (first : Past) → At (From (AreRestored copies.now spaces.now i) first) (D.past disk.old) → Does (From (SpacesFilling copies.now spaces.now) first) (IsRestoreEvent spaces.now) (From (AreRestored copies.now spaces.now (i + 1)) first) (D.past disk.old) (D.past disk.new) result }
     ensures size { length page.new ≡ 16384 }
     ensures exact { OnOk result (At (λ s. D.past disk.new ≡ Some (space_events copies.now s (space_at spaces.now i) ++ s)) (D.past disk.old)) }
-    ensures part { OnErr result (At (λ s. IsFront (space_events copies.now s (space_at spaces.now i)) s (D.past disk.new)) (D.past disk.old)) }
+    ensures part { OnErr result (At (λ s. AreFirstEvents (space_events copies.now s (space_at spaces.now i)) s (D.past disk.new)) (D.past disk.old)) }
     ensures later { D.is_later disk.old disk.new }
     ensures calls { D.clock disk.new ≤ D.clock disk.old + ((space_at spaces.now i).pages * 2 + 1) }
     ensures cause { HasDiskCause (D.faults disk.old) (D.faults disk.new) result }
@@ -63,7 +63,7 @@ fn restore_spaces<D: Disk>(
     requires places { At (HaveAll spaces.now) (D.past disk.old) }
     ensures does { Does (From (SpacesFilling copies.now spaces.now) (D.past disk.old)) (IsRestoreEvent spaces.now) (From (SpacesRestored copies.now spaces.now) (D.past disk.old)) (D.past disk.old) (D.past disk.new) result }
     ensures exact { OnOk result (At (λ s. D.past disk.new ≡ Some (spaces_events copies.now s spaces.now (length spaces.now) ++ s)) (D.past disk.old)) }
-    ensures part { OnErr result (At (λ s. IsFront (spaces_events copies.now s spaces.now (length spaces.now)) s (D.past disk.new)) (D.past disk.old)) }
+    ensures part { OnErr result (At (λ s. AreFirstEvents (spaces_events copies.now s spaces.now (length spaces.now)) s (D.past disk.new)) (D.past disk.old)) }
     ensures later { D.is_later disk.old disk.new }
     ensures calls { D.clock disk.new ≤ D.clock disk.old + calls_to spaces.now (length spaces.now) }
     ensures cause { HasDiskCause (D.faults disk.old) (D.faults disk.new) result }
@@ -89,7 +89,7 @@ fn restore_from_copies<D: Disk>(
     requires places { At (HaveAll spaces.now) (D.past disk.old) }
     ensures does { Does (From (HomesRestoring spaces.now) (D.past disk.old)) (IsRestoreEvent spaces.now) (From (HomesRestored spaces.now) (D.past disk.old)) (D.past disk.old) (D.past disk.new) result }
     ensures exact { OnOk result (At (λ s. D.past disk.new ≡ Some (restore_events spaces.now s ++ s)) (D.past disk.old)) }
-    ensures part { OnErr result (At (λ s. IsFront (restore_events spaces.now s) s (D.past disk.new)) (D.past disk.old)) }
+    ensures part { OnErr result (At (λ s. AreFirstEvents (restore_events spaces.now s) s (D.past disk.new)) (D.past disk.old)) }
     ensures later { D.is_later disk.old disk.new }
     ensures calls { D.clock disk.new ≤ D.clock disk.old + (64 + calls_to spaces.now (length spaces.now)) }
     ensures cause { HasDiskCause (D.faults disk.old) (D.faults disk.new) result }
@@ -115,7 +115,7 @@ fn restore_or_refuse<D: Disk>(
     ensures does { Does (From (HomesRestoring spaces.now) (D.past disk.old)) (IsRestoreEvent spaces.now) (From (HomesRestored spaces.now) (D.past disk.old)) (D.past disk.old) (D.past disk.new) result }
     ensures refuses { IfErr result IsDiskRefuse }
     ensures exact { OnOk result (At (λ s. D.past disk.new ≡ Some (restore_events spaces.now s ++ s)) (D.past disk.old)) }
-    ensures part { OnErr result (At (λ s. IsFront (restore_events spaces.now s) s (D.past disk.new)) (D.past disk.old)) }
+    ensures part { OnErr result (At (λ s. AreFirstEvents (restore_events spaces.now s) s (D.past disk.new)) (D.past disk.old)) }
     ensures later { D.is_later disk.old disk.new }
     ensures calls { D.clock disk.new ≤ D.clock disk.old + (64 + calls_to spaces.now (length spaces.now)) }
     ensures cause { HasCauseOf DiskFault (D.faults disk.old) (D.faults disk.new) result }
@@ -149,7 +149,7 @@ pub fn restore<D: Disk>(alloc: Global, disk: &mut D, spaces: &[SpaceInfo]) -> Re
     ensures chosen { (v : View (Unit {0})) → At (IsReadAs (λ l. l ≡ log_of v) v) (D.past disk.old) → Does (ChosenMay v) (IsRestoreEvent spaces.now) (ChosenHold v spaces.now) (D.past disk.old) (D.past disk.new) result }
     ensures refuses { IfErr result IsDiskRefuse }
     ensures exact { OnOk result (At (λ s. D.past disk.new ≡ Some (restore_events spaces.now s ++ s)) (D.past disk.old)) }
-    ensures part { OnErr result (At (λ s. IsFront (restore_events spaces.now s) s (D.past disk.new)) (D.past disk.old)) }
+    ensures part { OnErr result (At (λ s. AreFirstEvents (restore_events spaces.now s) s (D.past disk.new)) (D.past disk.old)) }
     ensures later { D.is_later disk.old disk.new }
     ensures calls { D.clock disk.new ≤ D.clock disk.old + (64 + calls_to spaces.now (length spaces.now)) }
     ensures cause { HasCauseOf DiskFault (D.faults disk.old) (D.faults disk.new) result }

@@ -8,7 +8,7 @@ ghost use Rattle.disk_model.specs.declared.names.DiskError.TheVariants.{NoMemory
 ghost use Rattle.disk_model.specs.declared.names.FileName.TheVariants.{Space};
 ghost use Rattle.places.specs.Batches.{From};
 ghost use Rattle.places.specs.Places.{shown};
-ghost use Rattle.doublewrite.specs.Events.{page_write, page_writes, is_any, space_events, IsFront};
+ghost use Rattle.doublewrite.specs.Events.{page_write, page_writes, is_any, space_events, AreFirstEvents};
 ghost use Rattle.doublewrite.specs.Restore.{HasPages, IsSpaceEvent, PagesFilled, PagesFilling, PagesRestored, newer, newest, wanted};
 
 use crate::reading::is_page_text;
@@ -81,7 +81,7 @@ fn restore_page<D: Disk>(
     ensures same { result ≡ Ok false → D.past disk.new ≡ D.past disk.old }
     ensures size { length page.new ≡ 16384 }
     ensures exact { OnOk result (At (λ s. D.past disk.new ≡ Some (page_write info.now.space number (wanted copies.now s info.now.space number) ++ s)) (D.past disk.old)) }
-    ensures part { OnErr result (At (λ s. IsFront (page_write info.now.space number (wanted copies.now s info.now.space number)) s (D.past disk.new)) (D.past disk.old)) }
+    ensures part { OnErr result (At (λ s. AreFirstEvents (page_write info.now.space number (wanted copies.now s info.now.space number)) s (D.past disk.new)) (D.past disk.old)) }
     ensures told { IfOk result (λ w. At (λ s. w ≡ is_some (wanted copies.now s info.now.space number)) (D.past disk.old)) }
     ensures later { D.is_later disk.old disk.new }
     ensures calls { D.clock disk.new ≤ D.clock disk.old + 2 }
@@ -116,7 +116,7 @@ fn restore_pages<D: Disk>(
     ensures same { result ≡ Ok false → D.past disk.new ≡ D.past disk.old }
     ensures size { length page.new ≡ 16384 }
     ensures exact { OnOk result (At (λ s. D.past disk.new ≡ Some (page_writes copies.now s info.now.space info.now.pages ++ s)) (D.past disk.old)) }
-    ensures part { OnErr result (At (λ s. IsFront (page_writes copies.now s info.now.space info.now.pages) s (D.past disk.new)) (D.past disk.old)) }
+    ensures part { OnErr result (At (λ s. AreFirstEvents (page_writes copies.now s info.now.space info.now.pages) s (D.past disk.new)) (D.past disk.old)) }
     ensures told { IfOk result (λ w. At (λ s. w ≡ is_any (page_writes copies.now s info.now.space info.now.pages)) (D.past disk.old)) }
     ensures later { D.is_later disk.old disk.new }
     ensures calls { D.clock disk.new ≤ D.clock disk.old + info.now.pages * 2 }
@@ -163,7 +163,7 @@ pub(crate) fn restore_space<D: Disk>(
     ensures does { Does (From (PagesFilling copies.now info.now) (D.past disk.old)) (IsSpaceEvent info.now) (From (PagesRestored copies.now info.now) (D.past disk.old)) (D.past disk.old) (D.past disk.new) result }
     ensures size { length page.new ≡ 16384 }
     ensures exact { OnOk result (At (λ s. D.past disk.new ≡ Some (space_events copies.now s info.now ++ s)) (D.past disk.old)) }
-    ensures part { OnErr result (At (λ s. IsFront (space_events copies.now s info.now) s (D.past disk.new)) (D.past disk.old)) }
+    ensures part { OnErr result (At (λ s. AreFirstEvents (space_events copies.now s info.now) s (D.past disk.new)) (D.past disk.old)) }
     ensures later { D.is_later disk.old disk.new }
     ensures calls { D.clock disk.new ≤ D.clock disk.old + (info.now.pages * 2 + 1) }
     ensures cause { HasDiskCause (D.faults disk.old) (D.faults disk.new) result }

@@ -27,7 +27,7 @@ use Rattle.image_reader.specs.HeaderSpaces.{IsSpaceAt, IsPageAt, IsHeaderInfo}
 use Rattle.image_reader.specs.Homes.{AreHomesRight, HasHomeFault}
 use Rattle.image_reader.specs.Lengths.{IsLengthFault}
 use Rattle.image_reader.specs.PageRefusals.{IsPageRefusal, IsSpaceRefusal, IsSpacesRefusal, AtHead, AtInfo, AtPage, NoMemory}
-use Rattle.image_reader.specs.Refusals.{HasFiles, HasLog, HasRun, HasHomes, HasNoContents, HasHead, IsReadUnder, IsHeaderFault, IsRefusalOf, log_refusal}
+use Rattle.image_reader.specs.Refusals.{HasFiles, HasLog, HasStoreRun, HasHomes, HasNoContents, HasHead, IsReadUnder, IsHeaderFault, IsRefusalOf, log_refusal}
 use Rattle.image_reader.specs.Spaces.{HeadHolds}
 use Rattle.image_reader.specs.declared.refusal.Refusal.{Refusal}
 use Rattle.image_reader.specs.declared.refusal.Refusal.TheVariants.{NoHeader, Length, NoCheckpoint, NoKey, NoChanges, OtherPages, Mixed, NotChosen, NoText, Head, Slot, LateBlock, OutOfMemory}
@@ -109,7 +109,7 @@ module _ (image : Image) (keys : List RingEntry) where
   log_refused header is (log.NoChanges first at) fault = (header, is, fault)
   log_refused header is log.OutOfMemory fault = tt
 
-module _ (files : ImageFiles) (keys : List RingEntry) (header : HeldHeader) (text : LogView (List Change)) (run : HasRun (image_of files) keys header text) where
+module _ (files : ImageFiles) (keys : List RingEntry) (header : HeldHeader) (text : LogView (List Change)) (run : HasStoreRun (image_of files) keys header text) where
   order : are_in_order 0 header.spaces ≡ true
   order = header_order (place 4096 0 files.log) header run.log.files.is_header
 

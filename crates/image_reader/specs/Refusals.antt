@@ -48,13 +48,13 @@ module _ (image : Image) (keys : List RingEntry) where
     pub is : IsLogOf header keys (image.bytes Log) text
 
   -- and its changes are of the store's pages
-  pub record HasRun (header : HeldHeader) (text : LogView (List Change)) : Type 0 where
+  pub record HasStoreRun (header : HeldHeader) (text : LogView (List Change)) : Type 0 where
     pub log : HasLog header text
     pub of_store : RunIsOfStore header.spaces text.run
 
   -- and no home has the text of another page, and each page is read from something
   pub record HasHomes (header : HeldHeader) (text : LogView (List Change)) : Type 0 where
-    pub run : HasRun header text
+    pub run : HasStoreRun header text
     pub placed : (s p : ℕ) → has_page header.spaces s p ≡ true → IsPlaced p (place 16384 p (image.bytes (Space s)))
     pub chosen : (s p : ℕ) → has_page header.spaces s p ≡ true → (o : Option Text) × IsChosen (view text image) s p o
 
@@ -122,8 +122,8 @@ module _ (image : Image) (keys : List RingEntry) where
   IsRefusalOf (NoKey number version) = (header : HeldHeader) × HasFiles header × IsLogTextFault header keys (image.bytes Log) (log.NoKey number version)
   IsRefusalOf (NoChanges first at) = (header : HeldHeader) × HasFiles header × IsLogTextFault header keys (image.bytes Log) (log.NoChanges first at)
   IsRefusalOf (OtherPages first) = (header : HeldHeader) × (text : LogView (List Change)) × HasLog header text × IsFirstForeign header.spaces text.run first
-  IsRefusalOf (Mixed s p) = (header : HeldHeader) × (text : LogView (List Change)) × HasRun header text × (has_page header.spaces s p ≡ true) × (IsPlaced p (place 16384 p (image.bytes (Space s))) → ⊥)
-  IsRefusalOf (NotChosen s p) = (header : HeldHeader) × (text : LogView (List Change)) × HasRun header text × (has_page header.spaces s p ≡ true) × ((o : Option Text) → IsChosen (view text image) s p o → ⊥)
+  IsRefusalOf (Mixed s p) = (header : HeldHeader) × (text : LogView (List Change)) × HasStoreRun header text × (has_page header.spaces s p ≡ true) × (IsPlaced p (place 16384 p (image.bytes (Space s))) → ⊥)
+  IsRefusalOf (NotChosen s p) = (header : HeldHeader) × (text : LogView (List Change)) × HasStoreRun header text × (has_page header.spaces s p ≡ true) × ((o : Option Text) → IsChosen (view text image) s p o → ⊥)
   IsRefusalOf (NoText s p fault) = (header : HeldHeader) × (text : LogView (List Change)) × HasTextFault header text s p fault
   IsRefusalOf (Head s) = (header : HeldHeader) × (text : LogView (List Change)) × HasOtherHead header text s
   IsRefusalOf (Slot s p i) = (header : HeldHeader) × (text : LogView (List Change)) × HasOtherSlot header text s p i

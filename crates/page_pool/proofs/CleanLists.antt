@@ -10,7 +10,7 @@ use Rattle.store_model.specs.declared.contents.PlainPage.{PlainPage}
 use Rattle.page_pool.specs.declared.names.PageName.{PageName}
 use Rattle.page_pool.specs.Pages.{IsCleanList, is_name}
 use Rattle.page_pool.specs.Changes.{admitted}
-use Rattle.page_pool.specs.Slots.{AreSlots, Held, held_in}
+use Rattle.page_pool.specs.Slots.{AreSlots, SlotContents, held_in}
 use Rattle.page_pool.proofs.Cleans.{absent_lookup, gone, same_name}
 use Rattle.page_pool.proofs.Slots.{held_most}
 
@@ -80,7 +80,7 @@ apart_promoted name es apart = by (lookup_entry (is_name name) es) refl
         (apart_removed (is_name name) es apart)
 
 -- the pages of slots, where they are apart
-pub clean_in : (es : List (ℕ × Held)) → AreSlots es → AreApart (held_in es) → IsCleanList (held_in es)
+pub clean_in : (es : List (ℕ × SlotContents)) → AreSlots es → AreApart (held_in es) → IsCleanList (held_in es)
 clean_in es slots apart = let most = held_most es in record { most = omega (arith, most, slots.all); apart = apart }
 
 -- nothing is removed of a page that isn't there

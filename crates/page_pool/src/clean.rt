@@ -6,7 +6,7 @@ ghost use Rattle.std.specs.Map.{lookup, remove_entry};
 ghost use Rattle.lru.specs.LruCache.{promoted};
 ghost use Rattle.page_pool.specs.Changes.{admitted};
 ghost use Rattle.page_pool.specs.Pages.{IsCleanList, is_name, plain_page};
-ghost use Rattle.page_pool.specs.Slots.{AreSlots, emptied, empty_slots, held_in, slot_of};
+ghost use Rattle.page_pool.specs.Slots.{AreSlots, emptied, empty_slots, held_in, slot_holding};
 
 use crate::frame::Frame;
 use crate::names::PageName;
@@ -20,13 +20,13 @@ use std::num::NonZeroUsize;
 pub const MOST_CLEAN: usize = 64;
 
 // What a slot holds.
-type Held = Option<(PageName, Frame)>;
+type SlotContents = Option<(PageName, Frame)>;
 
 // The clean pages. Each of 64 slots has its entry in the cache from the beginning, those that hold a
 // page before the others, so that no call but `new` takes memory.
 #[derive(Drop)]
 pub(crate) struct CleanPages {
-    slots: LruCache<usize, Held>,
+    slots: LruCache<usize, SlotContents>,
 }
 
 impl Model for CleanPages {
@@ -44,7 +44,7 @@ impl Model for CleanPages {
 }
 
 // Adds a slot without a page.
-fn add_slot(slots: &mut LruCache<usize, Held>, slot: usize) -> Result<(), OutOfMemory>
+fn add_slot(slots: &mut LruCache<usize, SlotContents>, slot: usize) -> Result<(), OutOfMemory>
     requires { (slots.old.entries ≡ empty_slots slot) × (slots.old.cap ≡ 64) × (slot < 64) }
     ensures { OnOk result ((slots.new.entries ≡ empty_slots (slot + 1)) × (slots.new.cap ≡ 64)) }
 {
@@ -55,7 +55,7 @@ fn add_slot(slots: &mut LruCache<usize, Held>, slot: usize) -> Result<(), OutOfM
 }
 
 // Slots without a page.
-fn empty_slots(alloc: Global) -> Result<LruCache<usize, Held>, OutOfMemory>
+fn empty_slots(alloc: Global) -> Result<LruCache<usize, SlotContents>, OutOfMemory>
     ensures { IfOk result (λ slots. slots.entries ≡ empty_slots 64) }
 {
     let mut slots = LruCache::new(alloc, NonZeroUsize::new(MOST_CLEAN).unwrap())?;
@@ -66,8 +66,8 @@ fn empty_slots(alloc: Global) -> Result<LruCache<usize, Held>, OutOfMemory>
 }
 
 // The slot that holds a page.
-fn slot_of(slots: &LruCache<usize, Held>, name: PageName) -> Option<usize>
-    ensures { result ≡ slot_of name slots.now.entries }
+fn slot_of(slots: &LruCache<usize, SlotContents>, name: PageName) -> Option<usize>
+    ensures { result ≡ slot_holding name slots.now.entries }
 {
     for (slot, held) in slots.iter() {
         if let Some((page, _)) = held {
@@ -80,7 +80,7 @@ fn slot_of(slots: &LruCache<usize, Held>, name: PageName) -> Option<usize>
 }
 
 // The page of a name among those in slots.
-fn page_in(slots: &LruCache<usize, Held>, name: PageName) -> Option<&Frame>
+fn page_in(slots: &LruCache<usize, SlotContents>, name: PageName) -> Option<&Frame>
     ensures { option_map (λ frame. frame.now) result ≡ lookup (is_name name) (held_in slots.now.entries) }
 {
     for (_, held) in slots.iter() {
@@ -94,7 +94,7 @@ fn page_in(slots: &LruCache<usize, Held>, name: PageName) -> Option<&Frame>
 }
 
 // Takes out what a slot holds. The slot is then behind all others.
-fn empty_slot(slots: &mut LruCache<usize, Held>, slot: usize) -> Held
+fn empty_slot(slots: &mut LruCache<usize, SlotContents>, slot: usize) -> SlotContents
     requires { is_some (lookup (nat_eq slot) slots.old.entries) ≡ true }
     ensures held { Some result ≡ lookup (nat_eq slot) slots.old.entries }
     ensures rest { slots.new.entries ≡ emptied slot slots.old.entries }
@@ -105,7 +105,7 @@ fn empty_slot(slots: &mut LruCache<usize, Held>, slot: usize) -> Held
 }
 
 // Puts a page into the last slot, which is the first one then.
-fn fill_slot(slots: &mut LruCache<usize, Held>, name: PageName, frame: Frame)
+fn fill_slot(slots: &mut LruCache<usize, SlotContents>, name: PageName, frame: Frame)
     requires { AreSlots slots.old.entries }
     ensures slots { AreSlots slots.new.entries }
     ensures held { held_in slots.new.entries ≡ admitted name frame (held_in slots.old.entries) }

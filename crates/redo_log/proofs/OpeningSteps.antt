@@ -11,7 +11,7 @@ use Rattle.redo_text.specs.declared.change.Change.{Change}
 use Rattle.redo_log.specs.Blocks.{Keys, redo_form}
 use Rattle.redo_log.specs.Check.{check_bytes}
 use Rattle.redo_log.specs.Events.{CheckWriting, CheckSettled}
-use Rattle.redo_log.specs.Opening.{IsOpening, IsOpened}
+use Rattle.redo_log.specs.Opening.{IsOpening, IsOpenedLog}
 use Rattle.redo_log.proofs.CheckLaws.{made_check}
 use Rattle.redo_log.proofs.FormLaws.{form_laws}
 
@@ -28,7 +28,7 @@ module _ (keys : Keys) (N sequence end : ℕ) (found : LogView (List Change)) (i
   pub to_opening : CheckWriting N (sequence + 1) (end + N) s m → IsOpening N F found m
   to_opening w = opening_writing N F (form_laws keys) (omega (arith, least)) sequence found (bytes found.end) check_is s m at (subst (λ (e : ℕ). CheckWriting N (sequence + 1) (e + N) s m) (sym is) w)
 
-  pub to_opened : CheckSettled N (sequence + 1) (end + N) s m → IsOpened N F sequence found m
+  pub to_opened : CheckSettled N (sequence + 1) (end + N) s m → IsOpenedLog N F sequence found m
   to_opened t =
       let here = subst (λ (e : ℕ). CheckSettled N (sequence + 1) (e + N) s m) (sym is) t in
       record {

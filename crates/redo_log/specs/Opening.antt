@@ -21,6 +21,6 @@ module _ {M : Type 0} (N : ℕ) (F : Form M) where
       → (IsRingLog N F (image.bytes LogFile) found ⊎ IsRingLog N F (image.bytes LogFile) (log_behind N F found)) × IsRingClear N F (image.bytes LogFile) found.end
 
   -- The log is the one behind it, and a session may begin there, whatever its blocks will be.
-  pub record IsOpened (sequence : ℕ) (found : LogView M) (es : List Event) : Type 0 where
+  pub record IsOpenedLog (sequence : ℕ) (found : LogView M) (es : List Event) : Type 0 where
     pub log : IsRingLog N F (reads LogFile es) (log_behind N F found)
     pub ready : (block : ℕ → List ℕ) → RingReady N F (opened_ring N sequence found.end (shown LogFile 4096 0 es) block) es

@@ -17,7 +17,7 @@ ghost use Rattle.redo_log.specs.Check.{check_bytes};
 ghost use Rattle.places.specs.Writes.{IsPart};
 ghost use Rattle.redo_log.specs.Events.{side_batch, CheckWriting, CheckWrote, CheckSettled, IsCheckEvent, check_event};
 ghost use Rattle.redo_log.specs.Fresh.{fresh_ring, IsFresh};
-ghost use Rattle.redo_log.specs.Opening.{IsOpening, IsOpened};
+ghost use Rattle.redo_log.specs.Opening.{IsOpening, IsOpenedLog};
 ghost use Rattle.redo_log.specs.Log.{IsOpen, durable, checked, with_checkpoint, FitsRing};
 
 use crate::Log;
@@ -120,7 +120,7 @@ pub fn write_opening_checkpoint<D: Disk>(
     requires high { end + blocks ≤ 2 ^ 50 }
     requires places { At (HasPlaces LogFile (file_layout blocks)) (D.past disk.old) }
     // Each lucky image of each moment has the log that was found or the one behind it, and at Ok a session may begin there.
-    ensures opens { (keys : Keys) (found : LogView (List Change)) → found.end ≡ end → At (IsFound blocks (redo_form keys) sequence found) (D.past disk.old) → Does (IsOpening blocks (redo_form keys) found) (IsCheckEvent (sequence + 1) (end + blocks)) (IsOpened blocks (redo_form keys) sequence found) (D.past disk.old) (D.past disk.new) result }
+    ensures opens { (keys : Keys) (found : LogView (List Change)) → found.end ≡ end → At (IsFound blocks (redo_form keys) sequence found) (D.past disk.old) → Does (IsOpening blocks (redo_form keys) found) (IsCheckEvent (sequence + 1) (end + blocks)) (IsOpenedLog blocks (redo_form keys) sequence found) (D.past disk.old) (D.past disk.new) result }
     ensures exact { OnOk result (D.past disk.new ≡ grow (Sync LogFile) (grow (check_event (sequence + 1) (end + blocks)) (D.past disk.old))) }
     ensures part { OnErr result (IsPart LogFile 4096 (side_batch (sequence + 1) (end + blocks)) 1 (D.past disk.old) (D.past disk.new)) }
     ensures places { At (HasPlaces LogFile (file_layout blocks)) (D.past disk.new) }

@@ -5,7 +5,7 @@ use Rattle.disk_model.proofs.Moments.{at_both}
 use Rattle.disk_model.specs.Does.{Does}
 use Rattle.places.specs.Batches.{From}
 use Rattle.places.proofs.Batches.{does_failed, from_known}
-use Rattle.doublewrite.specs.Events.{spaces_events, restore_events, IsFront}
+use Rattle.doublewrite.specs.Events.{spaces_events, restore_events, AreFirstEvents}
 use Rattle.doublewrite.proofs.EventSteps.{at_error, front_none}
 use Rattle.doublewrite.specs.Restore.{SpacesFilling, SpacesRestored, IsRestoreEvent}
 use Rattle.doublewrite.specs.declared.listing.Copied.{Copied}
@@ -49,7 +49,7 @@ returns-clause-part g c =
     let old = g.D.Disk.past c.args.disk.now in
     let new = g.D.Disk.past c.restore_spaces.new.disk in
     on_err_weaker c.restore_spaces.result
-    (λ (part : At (λ s. IsFront (spaces_events copies s spaces (length spaces)) s new) (g.D.Disk.past c.copies.new.disk)).
-    at_both (λ s listed front. subst (λ (cs : List Copied). IsFront (spaces_events cs s spaces (length spaces)) s new) listed front) c.in_ok-copies.ensures.copies
-    (subst (At (λ s. IsFront (spaces_events copies s spaces (length spaces)) s new)) c.in_ok-copies.ensures.same part))
+    (λ (part : At (λ s. AreFirstEvents (spaces_events copies s spaces (length spaces)) s new) (g.D.Disk.past c.copies.new.disk)).
+    at_both (λ s listed front. subst (λ (cs : List Copied). AreFirstEvents (spaces_events cs s spaces (length spaces)) s new) listed front) c.in_ok-copies.ensures.copies
+    (subst (At (λ s. AreFirstEvents (spaces_events copies s spaces (length spaces)) s new)) c.in_ok-copies.ensures.same part))
     c.restore_spaces.ensures.part

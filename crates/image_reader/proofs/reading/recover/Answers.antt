@@ -14,7 +14,7 @@ use Rattle.image_reader.specs.Files.{ImageFiles, image_of}
 use Rattle.image_log.specs.Late.{IsLateBlock}
 use Rattle.image_log.specs.declared.blocks.LateBlock.{LateBlock as Late}
 use Rattle.image_reader.specs.Homes.{AreHomesRight}
-use Rattle.image_reader.specs.Refusals.{HasLog, HasRun, HasContents, IsRefusalOf}
+use Rattle.image_reader.specs.Refusals.{HasLog, HasStoreRun, HasContents, IsRefusalOf}
 use Rattle.image_reader.specs.Spaces.{AllGive}
 use Rattle.image_reader.specs.declared.refusal.Refusal.{Refusal}
 use Rattle.image_reader.specs.declared.refusal.Refusal.TheVariants.{OtherPages, LateBlock, OutOfMemory as NoMemory}
@@ -29,10 +29,10 @@ log_of files keys header text bytes is long same run = record { files = record {
 clear_same : (a b : ℕ) (f g : List ℕ) (n m : ℕ) → a ≡ b → f ≡ g → n ≡ m → IsClear a f n → IsClear b g m
 clear_same a b f g n m ab fg nm clear = subst (λ (k : ℕ). IsClear b g k) nm (subst (λ (h : List ℕ). IsClear b h n) fg (subst (λ (k : ℕ). IsClear k f n) ab clear))
 
-run_of : (files : ImageFiles) (keys : List RingEntry) (header : HeldHeader) (text : LogView (List Change)) (bytes : List ℕ) → HasHeader (image_of files) header → AreLong (image_of files) header → bytes ≡ files.log → IsLogOf header keys bytes text → RunIsOfStore header.spaces text.run → HasRun (image_of files) keys header text
+run_of : (files : ImageFiles) (keys : List RingEntry) (header : HeldHeader) (text : LogView (List Change)) (bytes : List ℕ) → HasHeader (image_of files) header → AreLong (image_of files) header → bytes ≡ files.log → IsLogOf header keys bytes text → RunIsOfStore header.spaces text.run → HasStoreRun (image_of files) keys header text
 run_of files keys header text bytes is long same run of_store = record { log = log_of files keys header text bytes is long same run; of_store = of_store }
 
-contents_of : (files : ImageFiles) (keys : List RingEntry) (header : HeldHeader) (text : LogView (List Change)) (xs : List SpaceContents) → HasRun (image_of files) keys header text → AreHomesRight files header.spaces → AllGive header keys text files header.spaces xs → HasContents (image_of files) keys header text xs
+contents_of : (files : ImageFiles) (keys : List RingEntry) (header : HeldHeader) (text : LogView (List Change)) (xs : List SpaceContents) → HasStoreRun (image_of files) keys header text → AreHomesRight files header.spaces → AllGive header keys text files header.spaces xs → HasContents (image_of files) keys header text xs
 contents_of files keys header text xs run homes all = record { homes = homes_of files keys header text run homes; spaces = spaces_of header keys text files header.spaces xs all; pages = view_recovers header keys text files xs all }
 
 abbrev Never : ImageFiles → List RingEntry → Refusal → Type 0

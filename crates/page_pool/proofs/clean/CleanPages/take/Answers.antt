@@ -5,17 +5,17 @@ use Rattle.lru.proofs.Pairs.{lookup-lookup_entry}
 use Rattle.store_model.specs.declared.contents.PlainPage.{PlainPage}
 use Rattle.page_pool.specs.declared.names.PageName.{PageName}
 use Rattle.page_pool.specs.Pages.{is_name}
-use Rattle.page_pool.specs.Slots.{AreSlots, Held, held_in}
+use Rattle.page_pool.specs.Slots.{AreSlots, SlotContents, held_in}
 use Rattle.page_pool.proofs.CleanLists.{AreApart, apart_removed, clean_in, not_removed}
 use Rattle.page_pool.proofs.Slots.{IsAt, found, not_found, taken_held, taken_slots}
 use Rattle.page_pool.proofs.clean.CleanPages.take.Goals as goal
 use Rattle.page_pool.proofs.clean.CleanPages.take.Goals.{in-Some-empty_slot, in-None-empty_slot}
 
 -- what stands in the slot
-in_slot : (k : ℕ) (name : PageName) (page : PageName × PlainPage) (es : List (ℕ × Held)) → IsAt k name page es → lookup (nat_eq k) es ≡ Some (Some page)
-in_slot k name page es at = sym (lookup-lookup_entry (nat_eq k) es) ∙ ap (option_map (λ (e : ℕ × Held). e.1)) at.entry
+in_slot : (k : ℕ) (name : PageName) (page : PageName × PlainPage) (es : List (ℕ × SlotContents)) → IsAt k name page es → lookup (nat_eq k) es ≡ Some (Some page)
+in_slot k name page es at = sym (lookup-lookup_entry (nat_eq k) es) ∙ ap (option_map (λ (e : ℕ × SlotContents). e.1)) at.entry
 
-as_held : (k : ℕ) (name : PageName) (page : PageName × PlainPage) (es : List (ℕ × Held)) → IsAt k name page es → lookup (is_name name) (held_in es) ≡ Some page.1
+as_held : (k : ℕ) (name : PageName) (page : PageName × PlainPage) (es : List (ℕ × SlotContents)) → IsAt k name page es → lookup (is_name name) (held_in es) ≡ Some page.1
 as_held k name page es at = sym (lookup-lookup_entry (is_name name) (held_in es)) ∙ ap (option_map (λ (e : PageName × PlainPage). e.1)) at.held
 
 pub empty_slot-requires : goal.empty_slot-requires
@@ -35,12 +35,12 @@ held_there : (c : goal.Joined-empty_slot) → option_map (λ (p : PageName × Pl
 held_there c =
     let at = found c.args.name c.self.inside.slots.entries c.in-Some.slot c.len-count.ensures.valid.0 (sym c.slot_of.ensures ∙ c.in-Some.is) in
     let there : Some c.empty_slot.result ≡ Some (Some at.0) = c.empty_slot.ensures.held ∙ in_slot c.in-Some.slot c.args.name at.0 c.self.inside.slots.entries at.1 in
-    let page : c.empty_slot.result ≡ Some at.0 = ap (λ (o : Option Held). option_flat o) there in
+    let page : c.empty_slot.result ≡ Some at.0 = ap (λ (o : Option SlotContents). option_flat o) there in
     ap (option_map (λ (p : PageName × PlainPage). p.1)) page
     ∙ sym (as_held c.in-Some.slot c.args.name at.0 c.self.inside.slots.entries at.1)
     ∙ ap (lookup (is_name c.args.name)) c.self.view_is
   where
-    option_flat : Option Held → Held
+    option_flat : Option SlotContents → SlotContents
     option_flat (Some h) = h
     option_flat None = None
 
