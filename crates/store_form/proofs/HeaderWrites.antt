@@ -8,7 +8,7 @@ use Rattle.byte_list.proofs.PutLaws.{put_at}
 use Rattle.byte_list.proofs.RangeLaws.{length-zeros}
 use Rattle.redo_text.proofs.BlockWrites.{zeros-add}
 use Rattle.store_files.specs.Header.{HeldHeader, HeldSpace, algorithm_code, header_bytes, header_front, header_words, space_words}
-use Rattle.store_form.specs.HeaderParts.{first_words, space_part, summed}
+use Rattle.store_form.specs.HeaderParts.{first_words, space_part, with_checksum}
 use Rattle.store_form.specs.Said.{space_said}
 use Rattle.store_form.specs.declared.header.HeaderSpace.{HeaderSpace}
 
@@ -135,7 +135,7 @@ module _ (h : HeldHeader) (long : length h.salt ≡ 16) (few : length h.spaces �
       let f = length-append code (zeros 3848) in
       omega (arith, a, b, c, d, e, f)
 
-  pub sum_put : (o : List ℕ) → o ≡ header_front h ++ zeros 4 → summed o ≡ header_bytes h
+  pub sum_put : (o : List ℕ) → o ≡ header_front h ++ zeros 4 → with_checksum o ≡ header_bytes h
   unfolding header_bytes zeros
   sum_put o is =
       let sum : List ℕ = to_be_bytes w32 (crc32c (header_front h)) in

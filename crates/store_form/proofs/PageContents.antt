@@ -18,7 +18,7 @@ use Rattle.store_files.specs.Pages.{has_page, head_of_space, key_at, key_id_of, 
 use Rattle.store_files.proofs.PageLaws.{has_head_page}
 use Rattle.store_model.specs.declared.contents.SpaceContents.{SpaceContents}
 use Rattle.crash_image.specs.Rest.{IsAtRest}
-use Rattle.store_form.specs.Contents.{GivesPage}
+use Rattle.store_form.specs.Contents.{IsReadOfPage}
 use Rattle.store_form.specs.PageRead.{IsHomeOpened, TakesTexts}
 use Rattle.store_form.specs.Rest.{HaveHomes, ReadsAtRest, place_in, salt_in}
 use Rattle.store_form.specs.declared.fault.RestFault.{RestFault}
@@ -44,7 +44,7 @@ module _ (header : HeldHeader) (keys : List RingEntry) (ss : List SpaceInfo) (os
 
   pub page_given : (c : List SpaceContents) (n : ℕ) → IsAtRest es keys c n → (bytes left : List ℕ) (result : Result Home RestFault) → length bytes ≡ 16384 → bytes ≡ shown (Space s) page_bytes p es
       → IsHomeOpened s p (key_id_of header.spaces s) (key_at header keys (salt_in ss) s (be32_at bytes 0)) bytes left result → TakesTexts s p (key_at header keys (salt_in ss) s (be32_at bytes 0)) bytes left result
-      → GivesPage (pages_of c s p) left result
+      → IsReadOfPage (pages_of c s p) left result
   page_given c n at_rest bytes left result long is opened takes =
       let by = rest_by es keys c n header at_rest rest.is_header in
       let tells : HomeTells header keys (salts_of c) (pages_of c) s p bytes = subst (λ (b : List ℕ). HomeTells header keys (salts_of c) (pages_of c) s p b) (sym is) (home_tells es keys c header by s p has) in

@@ -29,7 +29,7 @@ use Rattle.store_model.specs.declared.contents.SpaceContents.{SpaceContents}
 use Rattle.crash_image.specs.Recovers.{RecoversBy}
 use Rattle.crash_image.specs.Rest.{IsAtRest, read_image}
 use Rattle.crash_image.specs.StoreTheory.{store_theory}
-use Rattle.store_form.specs.Contents.{GivesPage}
+use Rattle.store_form.specs.Contents.{IsReadOfPage}
 use Rattle.store_form.specs.PageRead.{IsHomeOpened, IsTextOpened, TakesTexts}
 use Rattle.store_form.specs.declared.fault.RestFault.{RestFault}
 use Rattle.store_form.proofs.FirstPages.{head_read}
@@ -176,12 +176,12 @@ module _ (header : HeldHeader) (keys : List RingEntry) (salts : ℕ → List ℕ
   key_told : key_at header keys salts s (be32_at bytes 0) ≡ key_at header keys told s (be32_at bytes 0)
   key_told = ap (λ (x : List ℕ). option_map (λ local. record { local = local; algorithm = header.algorithm }) (local_key keys (key_id_of header.spaces s) (be32_at bytes 0) x)) salt
 
-  gives_text : (x : Page) → MeansPage header keys salts s p (clear_text bytes) x → GivesPage x left result
+  gives_text : (x : Page) → MeansPage header keys salts s p (clear_text bytes) x → IsReadOfPage x left result
   gives_text Unused means = elim means [ ]
   gives_text (Used page) (some, key, text) =
       let moved = subst (λ (k : Option PageKey). IsText 16384 s p (be64_at bytes 16) (be32_at bytes 0) k (record { kind = page.kind; bytes = page.body }) bytes) key_told text in
       let taken = takes (text_not_zero 16384 s p (be64_at bytes 16) (be32_at bytes 0) _ _ bytes (omega (arith, long)) moved) (be64_at bytes 16) _ moved in
-      subst (λ (r : Result Home RestFault). GivesPage (Used page) left r) (sym taken.0) (be32_at bytes 0, refl, taken.1)
+      subst (λ (r : Result Home RestFault). IsReadOfPage (Used page) left r) (sym taken.0) (be32_at bytes 0, refl, taken.1)
   gives_text (Head info) (first, space, typed, text) =
       let at_0 = subst (λ (n : ℕ). IsText 16384 s 0 (be64_at bytes 16) (be32_at bytes 0) None (head_page info) bytes) first text in
       let version : be32_at bytes 0 ≡ 0 = clear_version 16384 s (be64_at bytes 16) (be32_at bytes 0) None (head_page info) bytes text in
@@ -190,11 +190,11 @@ module _ (header : HeldHeader) (keys : List RingEntry) (salts : ℕ → List ℕ
       let here = subst (λ (n : ℕ). IsText 16384 s n (be64_at bytes 16) 0 (key_at header keys told s (be32_at bytes 0)) (head_page info) bytes) (sym first) under in
       let moved = subst (λ (v : ℕ). IsText 16384 s p (be64_at bytes 16) v (key_at header keys told s (be32_at bytes 0)) (head_page info) bytes) (sym version) here in
       let taken = takes (text_not_zero 16384 s p (be64_at bytes 16) (be32_at bytes 0) _ _ bytes (omega (arith, long)) moved) (be64_at bytes 16) _ moved in
-      subst (λ (r : Result Home RestFault). GivesPage (Head info) left r) (sym (taken.0 ∙ ap (λ (v : ℕ). Ok (home.Clean v)) version)) (refl, taken.1)
+      subst (λ (r : Result Home RestFault). IsReadOfPage (Head info) left r) (sym (taken.0 ∙ ap (λ (v : ℕ). Ok (home.Clean v)) version)) (refl, taken.1)
 
-  pub gives : (c : ℕ → ℕ → Page) → IsHomeOpened s p (key_id_of header.spaces s) (key_at header keys told s (be32_at bytes 0)) bytes left result → HomeTells header keys salts c s p bytes → GivesPage (c s p) left result
+  pub gives : (c : ℕ → ℕ → Page) → IsHomeOpened s p (key_id_of header.spaces s) (key_at header keys told s (be32_at bytes 0)) bytes left result → HomeTells header keys salts c s p bytes → IsReadOfPage (c s p) left result
   gives c opened (Blank unused isnt is) =
       let both : (result ≡ Ok home.Unused) × (left ≡ bytes) =
       subst (λ (b : Bool). MatchBool b ((result ≡ Ok home.Unused) × (left ≡ bytes)) (IsTextOpened s p (key_id_of header.spaces s) (key_at header keys told s (be32_at bytes 0)) bytes left result)) unused opened in
-      subst (λ (x : Page). GivesPage x left result) (sym is) (subst (λ (r : Result Home RestFault). GivesPage Unused left r) (sym both.0) (refl, ap are_zero both.1 ∙ unused))
+      subst (λ (x : Page). IsReadOfPage x left result) (sym is) (subst (λ (r : Result Home RestFault). IsReadOfPage Unused left r) (sym both.0) (refl, ap are_zero both.1 ∙ unused))
   gives c opened (Means means) = gives_text (c s p) means

@@ -9,11 +9,11 @@ use Rattle.store_form.specs.declared.fault.RestFault.{RestFault}
 use Rattle.store_form.specs.declared.fault.RestFault.TheVariants.{NoVersion, Damaged, DiskFault, OutOfMemory}
 
 -- What a page of the contents is answered as, and what is left: zero bytes of an unused page, and else its plain page, that of page 0 being its space's head. The disk may refuse, and there is no other refusal.
-abbrev pub GivesPage : Page → List ℕ → Result Home RestFault → Type 0
-GivesPage x left (Err DiskFault) = Unit {0}
-GivesPage x left (Err OutOfMemory) = Unit {0}
-GivesPage x left (Err (NoVersion id version)) = ⊥
-GivesPage x left (Err (Damaged s p fault)) = ⊥
-GivesPage Unused left (Ok told) = (told ≡ home.Unused) × (are_zero left ≡ true)
-GivesPage (Used page) left (Ok told) = (version : ℕ) × (told ≡ home.Clean version) × (plain_of left ≡ record { kind = page.kind; bytes = page.body })
-GivesPage (Head info) left (Ok told) = (told ≡ home.Clean 0) × (plain_of left ≡ head_page info)
+abbrev pub IsReadOfPage : Page → List ℕ → Result Home RestFault → Type 0
+IsReadOfPage x left (Err DiskFault) = Unit {0}
+IsReadOfPage x left (Err OutOfMemory) = Unit {0}
+IsReadOfPage x left (Err (NoVersion id version)) = ⊥
+IsReadOfPage x left (Err (Damaged s p fault)) = ⊥
+IsReadOfPage Unused left (Ok told) = (told ≡ home.Unused) × (are_zero left ≡ true)
+IsReadOfPage (Used page) left (Ok told) = (version : ℕ) × (told ≡ home.Clean version) × (plain_of left ≡ record { kind = page.kind; bytes = page.body })
+IsReadOfPage (Head info) left (Ok told) = (told ≡ home.Clean 0) × (plain_of left ≡ head_page info)

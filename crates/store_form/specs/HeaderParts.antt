@@ -14,5 +14,5 @@ unfoldable pub space_part : HeldSpace → List ℕ
 space_part s = to_be_bytes w32 s.space ++ (to_be_bytes w32 s.pages ++ to_be_bytes w32 s.key_id)
 
 -- a block with the checksum of all before its last four bytes in these
-abbrev pub summed : List ℕ → List ℕ
-summed block = put (length block - 4) (to_be_bytes w32 (crc32c (take (length block - 4) block))) block
+abbrev pub with_checksum : List ℕ → List ℕ
+with_checksum block = put (length block - 4) (to_be_bytes w32 (crc32c (take (length block - 4) block))) block

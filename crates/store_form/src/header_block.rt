@@ -2,7 +2,7 @@
 ghost use Rattle.std.specs.Prelude.{◌≡◌, ℕ, List, ◌+◌, ◌-◌, ◌*◌, ◌≤◌, ◌<◌, ◌++◌, [], ◌∷◌, length, map};
 ghost use Rattle.byte_list.specs.Bytes.{put, zeros};
 ghost use Rattle.store_files.specs.Header.{algorithm_code, header_bytes, space_words};
-ghost use Rattle.store_form.specs.HeaderParts.{first_words, summed, space_part};
+ghost use Rattle.store_form.specs.HeaderParts.{first_words, with_checksum, space_part};
 ghost use Rattle.store_form.specs.Said.{header_said, space_said};
 
 use crate::first_page::clear;
@@ -69,7 +69,7 @@ fn fill_spaces(block: &mut [u8], spaces: &[HeaderSpace])
 // The checksum of all bytes before it.
 fn fill_sum(block: &mut [u8])
     requires { length block.old ≡ 4096 }
-    ensures { block.new ≡ summed block.old }
+    ensures { block.new ≡ with_checksum block.old }
 {
     let end = block.len() - 4;
     let sum = crc32c(&block[..end]);

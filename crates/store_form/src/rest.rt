@@ -43,7 +43,7 @@ impl<D: Disk + Drop> AtRest<D> {
     ghost use Rattle.page_places.specs.Texts.{page_bytes};
     ghost use Rattle.crash_image.specs.Rest.{IsAtRest};
     ghost use Rattle.store_files.specs.Pages.{has_page, pages_of};
-    ghost use Rattle.store_form.specs.Contents.{GivesPage};
+    ghost use Rattle.store_form.specs.Contents.{IsReadOfPage};
     ghost use Rattle.store_model.specs.declared.contents.SpaceContents.{SpaceContents};
     ghost use Rattle.store_form.specs.PageRead.{ReadsPage};
     ghost use Rattle.store_form.specs.Rest.{IsRestForm, ReadsAtRest, homes_of, place_in, salt_in, with_disk};
@@ -164,7 +164,7 @@ impl<D: Disk + Drop> AtRest<D> {
         // It is what is known of the page.
         ensures home { IfOk result (λ home. At (λ es. home ≡ slice_index_or (homes_of self.old.spaces self.old.homes space) page Unused) (D.past self.old.disk)) }
         // Where the store is at rest with contents under the ring's keys, it is their page.
-        ensures contents { At (λ es. (c : List SpaceContents) (next : ℕ) → IsAtRest es ring.now c next → GivesPage (pages_of c space page) into.new result) (D.past self.old.disk) }
+        ensures contents { At (λ es. (c : List SpaceContents) (next : ℕ) → IsAtRest es ring.now c next → IsReadOfPage (pages_of c space page) into.new result) (D.past self.old.disk) }
         ensures store { self.new ≡ with_disk self.old self.new.disk }
         ensures same { D.past self.new.disk ≡ D.past self.old.disk }
         ensures later { D.is_later self.old.disk self.new.disk }

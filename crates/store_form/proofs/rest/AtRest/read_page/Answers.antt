@@ -11,7 +11,7 @@ use Rattle.byte_list.specs.Fields.{be32_at}
 use Rattle.space_head.specs.declared.space.Home.TheVariants.{Unused}
 use Rattle.crash_image.specs.Rest.{IsAtRest}
 use Rattle.store_model.specs.declared.contents.SpaceContents.{SpaceContents}
-use Rattle.store_form.specs.Contents.{GivesPage}
+use Rattle.store_form.specs.Contents.{IsReadOfPage}
 use Rattle.store_form.proofs.PageContents.{page_given, takes_found}
 use Rattle.store_form.proofs.PageReads.{page_read, home_known, key_found, opened_found}
 use Rattle.store_form.proofs.RestLaws.{IsInfo, space_found, info_found, space_reads, page_inside, page_known}
@@ -69,7 +69,7 @@ returns-clause-contents g c =
     let key = key_found (header_said c.self.inside.header) c.args.ring.now c.self.inside.spaces c.args.space c.args.page (be32_at c.read_home.new.into 0) c.get.result.now c.self.inside.header.algorithm info refl in
     let opened = opened_found c.args.space c.args.page _ _ c.args.page _ _ _ c.read_home.new.into c.open_home.new.into c.open_home.result info.space refl info.key_id key c.open_home.ensures.opened in
     let takes = takes_found c.args.space c.args.page _ c.args.page _ _ c.read_home.new.into c.open_home.new.into c.open_home.result info.space refl key c.open_home.ensures.taken in
-    subst (λ (r : StoreAtRest _). At (λ es. (contents : List SpaceContents) (next : ℕ) → IsAtRest es c.args.ring.now contents next → GivesPage (pages_of contents c.args.space c.args.page) c.open_home.new.into c.open_home.result) (g.D.Disk.past r.disk)) c.self.view_is
+    subst (λ (r : StoreAtRest _). At (λ es. (contents : List SpaceContents) (next : ℕ) → IsAtRest es c.args.ring.now contents next → IsReadOfPage (pages_of contents c.args.space c.args.page) c.open_home.new.into c.open_home.result) (g.D.Disk.past r.disk)) c.self.view_is
     (record {
       here = λ es is contents next at_rest.
           page_given (header_said c.self.inside.header) c.args.ring.now c.self.inside.spaces c.self.inside.homes c.self.inside.next c.self.inside.sequence es c.args.space c.args.page c.get.result.now
