@@ -74,6 +74,7 @@ pub record StoreAtRest (D : Type 0) : Type 0 where
   pub next : ℕ
   pub sequence : ℕ
 
+-- codes of these records, which the type of a store at rest is to have
 abbrev pub held_space_code : Coded HeldSpace
 held_space_code = code_by (ℕ × (ℕ × ℕ)) (coded× coded_ℕ (coded× coded_ℕ coded_ℕ)) (λ s. (s.space, (s.pages, s.key_id))) (λ p. record { space = p.0; pages = p.1.0; key_id = p.1.1 }) (λ _. refl)
 
