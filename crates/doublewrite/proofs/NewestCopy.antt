@@ -3,6 +3,7 @@ use Rattle.std.proofs.Common.{◌≡◌, ◌≢◌, ℕ, zero, suc, ◌<◌, ◌
 use Rattle.std.proofs.lemmas.Bool.{cases_lt}
 use Rattle.std.proofs.lemmas.Bool.Decides.{nat_tests}
 use Rattle.std.specs.Option.{option_map}
+use Rattle.std.proofs.lemmas.Option.{same_Some, none-some}
 use Rattle.disk_model.specs.Event.{Event}
 use Rattle.disk_model.specs.declared.names.FileName.TheVariants.{Double, Space}
 use Rattle.places.specs.Places.{shown, May, IsWritten, MayRead, Whole, IsTorn}
@@ -42,9 +43,6 @@ module _ (es : List Event) (z p : ℕ) where
   Best n None = (j : ℕ) (u : Text) → j < n → IsSlotOf j u → ⊥
   Best n (Some c) = IsBest n c
 
-  same_slot : (x y : Slot) → Some x ≡ Some y → x ≡ y
-  same_slot x y is = cc
-
   up_to : (n j : ℕ) → j < suc n → (j < n) ⊎ (j ≡ n)
   up_to n j lt = ⊎_elim (λ (l : j < n). inl l) (λ (ge : n ≤ j). inr (omega (arith, lt, ge))) (cases_lt j n)
 
@@ -62,7 +60,7 @@ module _ (es : List Event) (z p : ℕ) where
   }
 
   one_text : (n : ℕ) (t u : Text) → IsSlotOf n t → IsSlotOf n u → t ≡ u
-  one_text n t u a b = ap (λ (x : Slot). x.text) (same_slot _ _ (sym a ∙ b))
+  one_text n t u a b = ap (λ (x : Slot). x.text) (same_Some _ _ (sym a ∙ b))
 
   -- a slot of the page
   taken : (n : ℕ) (t : Text) → IsSlotOf n t → (o : Option Copied) → Best n o → Best (suc n) (newer (record { index = n; space = z; page = p; lsn = t.lsn; version = t.version; text = t.bytes }) o)
@@ -111,8 +109,8 @@ module _ (es : List Event) (z p : ℕ) where
     where
       of : (x : Slot) → slot n ≡ Some x → (a b : Bool) → nat_eq x.space z ≡ a → nat_eq x.page p ≡ b
           → Best (suc n) (if a && b then newer (record { index = n; space = x.space; page = x.page; lsn = x.text.lsn; version = x.text.version; text = x.text.bytes }) o else o)
-      of x is false b sa sb = skipped n (λ u here. let e : x.space ≡ z = ap (λ (y : Slot). y.space) (same_slot _ _ (sym is ∙ here)) in true≢false (grind (arith, nat_tests))) o best
-      of x is true false sa sb = skipped n (λ u here. let e : x.page ≡ p = ap (λ (y : Slot). y.page) (same_slot _ _ (sym is ∙ here)) in true≢false (grind (arith, nat_tests))) o best
+      of x is false b sa sb = skipped n (λ u here. let e : x.space ≡ z = ap (λ (y : Slot). y.space) (same_Some _ _ (sym is ∙ here)) in true≢false (grind (arith, nat_tests))) o best
+      of x is true false sa sb = skipped n (λ u here. let e : x.page ≡ p = ap (λ (y : Slot). y.page) (same_Some _ _ (sym is ∙ here)) in true≢false (grind (arith, nat_tests))) o best
       of x is true true sa sb =
           let e : x.space ≡ z = grind (arith, nat_tests) in
           let f : x.page ≡ p = grind (arith, nat_tests) in
@@ -169,21 +167,15 @@ module _ {M : Type 0} (v : View M) (s : List Event) (info : SpaceInfo) (p : ℕ)
   wanted_chosen : (bytes : List ℕ) → wanted (copies_to 64 s) s z p ≡ Some bytes → (t : Text) × IsChosen v z p (Some t) × (held p bytes ≡ Holds t) × ((u : Text) → v.home z p ≢ Holds u)
   wanted_chosen bytes is = by (is_page_text p (shown (Space z) 16384 p s)) refl
     where
-      none_some : None ≡ Some bytes → ⊥
-      none_some e = cc
-
-      same : (x : List ℕ) → Some x ≡ Some bytes → x ≡ bytes
-      same x e = cc
-
       of : is_page_text p (shown (Space z) 16384 p s) ≡ false → (o : Option Copied) → newest (copies_to 64 s) z p ≡ o → Best s z p 64 o → (t : Text) × IsChosen v z p (Some t) × (held p bytes ≡ Holds t) × ((u : Text) → v.home z p ≢ Holds u)
-      of torn None e b = absurd (none_some (sym (want_copy None torn e) ∙ is))
+      of torn None e b = absurd (none-some bytes (sym (want_copy None torn e) ∙ is))
       of torn (Some c) e b =
           let valid = slot_is (shown Double 16896 c.index s) (record { space = z; page = p; text = b.text }) b.is in
-          let here : bytes ≡ b.text.bytes = sym (same c.text (sym (want_copy (Some c) torn e) ∙ is)) ∙ b.bytes in
+          let here : bytes ≡ b.text.bytes = sym (same_Some c.text bytes (sym (want_copy (Some c) torn e) ∙ is)) ∙ b.bytes in
           (b.text, copy_chosen c torn b, ap (held p) here ∙ held-text p b.text.bytes valid.0 ∙ ap Holds valid.1, no_text torn)
 
       by : (b : Bool) → is_page_text p (shown (Space z) 16384 p s) ≡ b → (t : Text) × IsChosen v z p (Some t) × (held p bytes ≡ Holds t) × ((u : Text) → v.home z p ≢ Holds u)
-      by true text = absurd (none_some (sym (want_text text) ∙ is))
+      by true text = absurd (none-some bytes (sym (want_text text) ∙ is))
       by false torn = of torn (newest (copies_to 64 s) z p) refl best
 
   -- What a home may hold at each moment inside: what it could before, or its chosen copy, or it is torn.

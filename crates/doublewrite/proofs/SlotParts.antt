@@ -8,14 +8,7 @@ use Rattle.disk_model.specs.Event.{put, zeros}
 use Rattle.page_places.specs.Texts.{slot_words, slot_front, slot_bytes}
 use Rattle.byte_list.proofs.RangeLaws.{length-zeros}
 use Rattle.page_places.proofs.Texts.{length-front, length-words}
-
--- a part behind what is there
-put_next : (at : ℕ) (a b y : List ℕ) → length a ≡ at → put at b (a ++ y) ≡ a ++ (b ++ drop (length b) y)
-put_next at a b y is =
-    ap (λ (l : List ℕ). l ++ b ++ drop (at + length b) (a ++ y)) (take_at a y at is)
-    ∙ ap (λ (k : ℕ). a ++ b ++ drop (k + length b) (a ++ y)) (sym is)
-    ∙ ap (λ (l : List ℕ). a ++ b ++ l) (drop-append-add a y (length b))
-    ∙ append_assoc a b (drop (length b) y)
+use Rattle.byte_list.proofs.PutLaws.{put_next}
 
 -- the head, once it is written
 pub front_built : (space page batch : ℕ) (x : List ℕ) → put 24 (zeros 484) (put 0 (slot_words space page batch) x) ≡ slot_front space page batch ++ drop 484 (drop 24 x)

@@ -13,6 +13,7 @@ use Rattle.space_head.specs.declared.record.CryptRecord.{CryptRecord}
 use Rattle.page_pool.specs.Pages.{plain_page}
 use Rattle.page_pool.specs.Changes.{body_written, page_changed_by}
 use Rattle.page_pool.proofs.Bodies.{plain_written}
+use Rattle.space_head.proofs.Places.{place_16384}
 
 -- ---- page 0
 
@@ -33,10 +34,6 @@ part_put at a x y z w same fits =
     regrouped : (t b m e d : List ℕ) → t ++ ((b ++ (m ++ e)) ++ d) ≡ (t ++ b) ++ (m ++ (e ++ d))
     regrouped t b m e d = simp append_assoc
 
-place_is : record_place 16384 ≡ 10428
-unfolding record_place pages_per_extent
-place_is = refl
-
 -- the page with the fields of a head but for its record
 with_fields : SpaceHead → List ℕ → List ℕ
 with_fields head page = put 54 (to_be_bytes w32 head.flags) (put 46 (to_be_bytes w32 head.pages) (put 38 (to_be_bytes w32 head.space) page))
@@ -55,7 +52,7 @@ length-record r salt =
 
 length_with_record : (page : List ℕ) (head : SpaceHead) (r : CryptRecord) → length page ≡ 16384 → length r.salt ≡ 16 → length (put (record_place (length page)) (record_bytes r) (with_fields head page)) ≡ 16384
 length_with_record page head r long salt =
-    let at : record_place (length page) ≡ 10428 = ap record_place long ∙ place_is in
+    let at : record_place (length page) ≡ 10428 = ap record_place long ∙ place_16384 in
     let fits : record_place (length page) + length (record_bytes r) ≤ length (with_fields head page) = omega (arith, at, length-record r salt, length-with_fields head page long) in
     length-put (record_place (length page)) (record_bytes r) (with_fields head page) fits ∙ length-with_fields head page long
 
@@ -64,7 +61,7 @@ unfolding with_fields
 length_with_head page head long salt = by head.crypt salt
   where
     at : record_place (length page) ≡ 10428
-    at = ap record_place long ∙ place_is
+    at = ap record_place long ∙ place_16384
 
     by : (o : Option CryptRecord) → IfSome o (λ r. length r.salt ≡ 16) → length (put (record_place (length page)) (crypt_bytes o) (with_fields head page)) ≡ 16384
     by None none = length-put (record_place (length page)) (crypt_bytes None) (with_fields head page) (let size : length (crypt_bytes None) ≡ 33 = refl in omega (arith, at, size, length-with_fields head page long)) ∙ length-with_fields head page long
@@ -112,7 +109,7 @@ encrypt_put place r w at long salt =
 -- ---- the head of a page
 
 place_of_page : (page : List ℕ) → length page ≡ 16384 → record_place (length page) ≡ 10428
-place_of_page page long = ap record_place long ∙ place_is
+place_of_page page long = ap record_place long ∙ place_16384
 
 -- The head with this least version, as `write_head` writes it, is the one before with a floor.
 pub floor_as_head : (page : List ℕ) (head : SpaceHead) (r : CryptRecord) (s v : ℕ) → length page ≡ 16384 → head.crypt ≡ Some r → length r.salt ≡ 16
@@ -126,7 +123,7 @@ floor_as_head page head r s v long crypt salt =
     let moved : put (record_place (length page) + 24) (to_be_bytes w32 v) before ≡ put (record_place 16384 + 24) (to_be_bytes w32 v) (with_head head page) =
     ap (put (record_place (length page) + 24) (to_be_bytes w32 v)) same ∙ ap (λ (n : ℕ). put (record_place n + 24) (to_be_bytes w32 v) (with_head head page)) long in
     ap plain_page (floor_put (record_place (length page)) r v (with_fields head page) (place_of_page page long) (length-with_fields head page long) salt ∙ moved)
-    ∙ plain_written (record_place 16384 + 24) (to_be_bytes w32 v) (with_head head page) sized (omega (arith, place_is)) (omega (arith, place_is))
+    ∙ plain_written (record_place 16384 + 24) (to_be_bytes w32 v) (with_head head page) sized (omega (arith, place_16384)) (omega (arith, place_16384))
 
 -- The head with its record on is the one before made a ciphered one.
 pub encrypt_as_head : (page : List ℕ) (head : SpaceHead) (r : CryptRecord) (s : ℕ) → length page ≡ 16384 → head.crypt ≡ Some r → length r.salt ≡ 16
@@ -138,10 +135,10 @@ encrypt_as_head page head r s long crypt salt =
     let same : before ≡ with_head head page = sym (ap (λ (x : Option CryptRecord). put (record_place (length page)) (crypt_bytes x) (with_fields head page)) crypt) in
     let sized : length (with_head head page) ≡ 16384 = ap length (sym same) ∙ length_with_record page head r long salt in
     let inner : List ℕ = put (record_place 16384 + 6) (1 ∷ []) (with_head head page) in
-    let inner_sized : length inner ≡ 16384 = length-put (record_place 16384 + 6) (1 ∷ []) (with_head head page) (omega (arith, sized, place_is)) ∙ sized in
+    let inner_sized : length inner ≡ 16384 = length-put (record_place 16384 + 6) (1 ∷ []) (with_head head page) (omega (arith, sized, place_16384)) ∙ sized in
     let moved : put (record_place (length page) + 32) (1 ∷ []) (put (record_place (length page) + 6) (1 ∷ []) before) ≡ put (record_place 16384 + 32) (1 ∷ []) inner =
     ap (λ (l : List ℕ). put (record_place (length page) + 32) (1 ∷ []) (put (record_place (length page) + 6) (1 ∷ []) l)) same
     ∙ ap (λ (n : ℕ). put (record_place n + 32) (1 ∷ []) (put (record_place n + 6) (1 ∷ []) (with_head head page))) long in
     ap plain_page (encrypt_put (record_place (length page)) r (with_fields head page) (place_of_page page long) (length-with_fields head page long) salt ∙ moved)
-    ∙ plain_written (record_place 16384 + 32) (1 ∷ []) inner inner_sized (omega (arith, place_is)) (omega (arith, place_is))
-    ∙ ap (body_written (record_place 16384 + 32) (1 ∷ [])) (plain_written (record_place 16384 + 6) (1 ∷ []) (with_head head page) sized (omega (arith, place_is)) (omega (arith, place_is)))
+    ∙ plain_written (record_place 16384 + 32) (1 ∷ []) inner inner_sized (omega (arith, place_16384)) (omega (arith, place_16384))
+    ∙ ap (body_written (record_place 16384 + 32) (1 ∷ [])) (plain_written (record_place 16384 + 6) (1 ∷ []) (with_head head page) sized (omega (arith, place_16384)) (omega (arith, place_16384)))
