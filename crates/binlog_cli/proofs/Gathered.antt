@@ -3,27 +3,8 @@ use Rattle.std.proofs.Common.{◌≡◌, ◌+◌, ℕ, min, List, [], ◌++◌, 
 use Rattle.std.proofs.Math.Seq.{take-append-add}
 use Rattle.std.proofs.lemmas.List.{append-nil, take-append-le, take_at, take_min}
 use Rattle.io_core.specs.Stream.{IsPartlyGiven, extended}
-use Rattle.io_core.proofs.Streams.{given_then}
+use Rattle.io_core.proofs.Streams.{given_then, front_given, part_given}
 use Rattle.binlog_cli.specs.Printed.{IsPrinted}
-
-pub extended-nil : (given : Option (List ℕ)) → given ≡ extended [] given
-extended-nil None = refl
-extended-nil (Some front) = ap Some (sym (append-nil front))
-
--- a front of the text was given whole
-pub front_given : (a b text : List ℕ) (before now : Option (List ℕ)) → text ≡ a ++ b → now ≡ extended a before → IsPartlyGiven text before now
-front_given a b text before now is given =
-    (length a, given ∙ ap (λ (t : List ℕ). extended t before) (sym (ap (take (length a)) is ∙ take_at a b (length a) refl)))
-
--- a front was given whole, and then a part of what follows
-pub part_given : (a b c text : List ℕ) (before mid now : Option (List ℕ)) → text ≡ a ++ (b ++ c) → mid ≡ extended a before → IsPartlyGiven b mid now
-    → IsPartlyGiven text before now
-part_given a b c text before mid now is first part =
-    let k = part.0 in
-    let j = min k (length b) in
-    let here : take (length a + j) text ≡ a ++ take k b =
-    ap (take (length a + j)) is ∙ take-append-add a (b ++ c) j ∙ ap (λ (t : List ℕ). a ++ t) (take-append-le j b c (omega arith) ∙ take_min k b) in
-    (length a + j, given_then before mid now a (take k b) first part.1 ∙ ap (λ (t : List ℕ). extended t before) (sym here))
 
 -- a part of a text is a part of one that goes on
 pub part_of_more : (a t text : List ℕ) (before now : Option (List ℕ)) → text ≡ a ++ t → IsPartlyGiven a before now → IsPartlyGiven text before now

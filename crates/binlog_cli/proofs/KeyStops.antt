@@ -18,6 +18,7 @@ use Rattle.binlog_cli.specs.Keys.{IsOneLoad}
 use Rattle.binlog_cli.specs.Stops.{FileCauses, IsKeyStop, IsListStop, key_stop, log_stop}
 use Rattle.binlog_cli.specs.declared.status.ListStatus.{ListStatus}
 use Rattle.binlog_cli.specs.declared.status.ListStatus.TheVariants.{FileFault, Key, Log, OutFault, OutOfMemory}
+use Rattle.cause_core.proofs.Counts.{rose_before}
 
 -- ---- key files
 
@@ -109,9 +110,6 @@ log_no_key (log.Scheme number) other e = cc
 log_no_key (log.MissingKey version) other e = cc
 log_no_key (log.Checksum at stored computed) other e = cc
 
-rose_earlier : (a b c : ℕ) → a ≤ b → Rose b c → Rose a c
-rose_earlier a b c first rose = omega (arith, first, rose)
-
 not_refused : (stage : Stage) (fault : BinlogFault) (end : ℕ) → stage ≡ Refused fault → StandsAt stage end → ⊥
 not_refused stage fault end is stands = subst (λ (s : Stage). StandsAt s end) is stands
 
@@ -124,11 +122,11 @@ pub log_causes : {S T : Type 0} (stage : Stage) (end : ℕ) (fault : BinlogFault
 log_causes stage end fault r f0 f1 f2 a0 a1 a2 stands faults absences causes (inl is) = record {
   faults_later = omega (arith, faults, causes.faults_later);
   absences_later = omega (arith, absences, causes.absences_later);
-  fault = λ e. rose_earlier f0 f1 f2 faults (causes.failed (ap Err (log_file_fault fault (status_in _ _ (sym is ∙ e)))));
+  fault = λ e. rose_before f0 f1 f2 faults (causes.failed (ap Err (log_file_fault fault (status_in _ _ (sym is ∙ e)))));
   missing = λ e.
       elim (causes.missing (ap Err (log_missing fault (status_in _ _ (sym is ∙ e))))) [
         | inl refused ↦ absurd (not_refused stage log.Missing end refused stands)
-        | inr rose ↦ rose_earlier a0 a1 a2 absences rose
+        | inr rose ↦ rose_before a0 a1 a2 absences rose
       ];
   missing_key = λ name e. absurd (log_no_key fault (key.Missing name) (status_in _ _ (sym is ∙ e)));
 }

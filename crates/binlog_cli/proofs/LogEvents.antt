@@ -1,6 +1,6 @@
 -- Every log has a list of events, and then its end or a refusal.
 use Rattle.std.proofs.Common.{◌≡◌, ℕ, zero, suc, ◌+◌, ◌-◌, ◌<◌, ◌≤◌, ◌==◌, ◌||◌, nat_lt, Bool, true, false, cond, List, [], ◌∷◌, length, take, drop, refl, ap, ◌∙◌, arith, length-drop, length-take, Option, Some, None, Result, Ok, Err}
-use Rattle.std.proofs.lemmas.Bool.{eqb-false, ltb-false}
+use Rattle.std.proofs.lemmas.Bool.{eqb-false, ltb-false, or_parts}
 use Rattle.key_ring.specs.Ring.{RingEntry, ring_key}
 use Rattle.binlog_text.specs.Header.{framed, is_bad_length, kind_of, least_for, least_of, least_stored, length_of, sum_length, whole_of}
 use Rattle.binlog_text.specs.Events.{BinlogEvent, Found, Lists, answered, event_at, event_in, first_position, is_log, judged, judged_event, opened, opened_by, opened_event, placed_event, taken_event, unlocked}
@@ -34,17 +34,13 @@ by_tests false true c e f n long h = absurd (cc)
 by_tests false false true e f n long h = absurd (cc)
 by_tests false false false e f n long h = (refl, refl, cc)
 
-or_left : (a b : Bool) → (a || b) ≡ false → a ≡ false
-or_left true b h = absurd (cc)
-or_left false b h = refl
-
 framed_some : (format : LogFormat) (place : ℕ) (bytes : List ℕ) (long : ℕ) → framed format place bytes ≡ Ok (Some long) → (0 < length bytes) × (19 ≤ long)
 unfolding framed
 framed_some format place bytes long h =
     let tests = by_tests (length bytes == 0) (nat_lt (length bytes) 19) (is_bad_length (least_stored format (kind_of bytes)) (length_of bytes))
     (ShortEvent place 19 (length bytes)) (BadLength place (length_of bytes)) (length_of bytes) long h in
     let some = eqb-false (length bytes) 0 tests.0 in
-    let least = ltb-false (length_of bytes) (least_stored format (kind_of bytes)) (or_left _ _ tests.1) in
+    let least = ltb-false (length_of bytes) (least_stored format (kind_of bytes)) (or_parts _ _ tests.1).0 in
     let header = least_for-least format.cipher format.checksum (kind_of bytes) in
     (omega (arith, some), omega (arith, least, header, tests.2))
 

@@ -21,8 +21,9 @@ use Rattle.binlog_cli.specs.Stops.{IsListStop, list_status_of, log_stop}
 use Rattle.binlog_cli.specs.Listing.{AgreesWith, HasLogListing, IsLogListing, IsRefusedAt, Listing, PrintsSome, lines_of_events, listing_of, place_behind, refused_place}
 use Rattle.binlog_cli.specs.declared.status.ListStatus.{ListStatus}
 use Rattle.binlog_cli.specs.declared.status.ListStatus.TheVariants.{Done, FileFault, Key, Log, OutFault, OutOfMemory, Usage}
-use Rattle.binlog_cli.proofs.Gathered.{extended-nil, front_given, gathered_none, part_of_more}
+use Rattle.binlog_cli.proofs.Gathered.{gathered_none, part_of_more}
 use Rattle.binlog_cli.proofs.LogEvents.{log_events}
+use Rattle.io_core.proofs.Streams.{extended-nil, front_given}
 
 -- ---- the events up to a stage
 

@@ -17,8 +17,8 @@ use Rattle.binlog_cli.specs.Words.{IsAskedBy, IsDueAt, IsKeyedListing, IsRefused
 use Rattle.binlog_cli.specs.declared.status.ListStatus.{ListStatus}
 use Rattle.binlog_cli.specs.declared.status.ListStatus.TheVariants.{Done, FileFault, Key, Log, OutFault, OutOfMemory, Usage}
 use Rattle.binlog_cli.specs.declared.words.ListRequest.{ListRequest}
-use Rattle.binlog_cli.proofs.Gathered.{extended-nil}
 use Rattle.binlog_cli.proofs.OneList.{SameKeys, lists_one}
+use Rattle.io_core.proofs.Streams.{extended-nil}
 
 -- ---- there is one
 

@@ -15,11 +15,6 @@ pub command_is_free : is_simple_and_free list_command ≡ true
 unfolding clap_on_literals
 command_is_free = refl
 
--- what holds of an error holds of the one that is handed on
-pub if_err_is : {T E : Type 0} (r : Result T E) (e : E) (P : E → Type 0) → IsErrAnd r (λ x. x ≡ e) → P e → IfErr r P
-if_err_is (Ok x) e P is p = tt
-if_err_is (Err x) e P is p = subst P (sym is) p
-
 pub record HasValues {Z : Type 0} (m : ArgMatches) (words : List (String Z)) : Type 0 where
   pub first : (id : List ℕ) → first_value (found_of m) id ≡ (list_values_in words).first id
   pub all : (id : List ℕ) → unwrap_or (option_map raw_values (matched_of (found_of m) id)) [] ≡ (list_values_in words).all id

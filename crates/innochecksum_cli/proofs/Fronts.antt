@@ -7,30 +7,11 @@ use Rattle.innochecksum_cli.specs.Inspection.{Agrees, Report}
 use Rattle.innochecksum_cli.specs.Stops.{IsOutsideStatus}
 use Rattle.innochecksum_cli.specs.declared.status.CheckStatus.{CheckStatus}
 use Rattle.innochecksum_cli.specs.declared.status.CheckStatus.TheVariants.{Done, FileFault, Head, Mismatch, Missing, OutFault, OutOfMemory, Short, Truncated, Usage}
-use Rattle.io_core.proofs.Streams.{given_then}
-
-pub extended-nil : (given : Option (List ℕ)) → given ≡ extended [] given
-extended-nil None = refl
-extended-nil (Some front) = ap Some (sym (append-nil front))
+use Rattle.io_core.proofs.Streams.{given_then, extended-nil}
 
 -- nothing was given yet
 pub none_given : (text : List ℕ) (given : Option (List ℕ)) → IsPartlyGiven text given given
 none_given text given = (0, extended-nil given)
-
--- a front of the text was given whole
-pub front_given : (a b text : List ℕ) (before now : Option (List ℕ)) → text ≡ a ++ b → now ≡ extended a before → IsPartlyGiven text before now
-front_given a b text before now is given =
-    (length a, given ∙ ap (λ (t : List ℕ). extended t before) (sym (ap (take (length a)) is ∙ take_at a b (length a) refl)))
-
--- a front was given whole, and then a part of what follows
-pub part_given : (a b c text : List ℕ) (before mid now : Option (List ℕ)) → text ≡ a ++ (b ++ c) → mid ≡ extended a before → IsPartlyGiven b mid now
-    → IsPartlyGiven text before now
-part_given a b c text before mid now is first part =
-    let k = part.0 in
-    let j = min k (length b) in
-    let here : take (length a + j) text ≡ a ++ take k b =
-    ap (take (length a + j)) is ∙ take-append-add a (b ++ c) j ∙ ap (λ (t : List ℕ). a ++ t) (take-append-le j b c (omega arith) ∙ take_min k b) in
-    (length a + j, given_then before mid now a (take k b) first part.1 ∙ ap (λ (t : List ℕ). extended t before) (sym here))
 
 -- a fact that holds at hand holds at an error
 pub at_err : {T E : Type 0} (r : Result T E) (P : Type 0) → P → OnErr r P

@@ -11,11 +11,6 @@ command_is_simple : is_simple command ≡ true
 unfolding clap_on_literals
 command_is_simple = refl
 
--- what holds of an error holds of the one that is handed on
-pub if_err_is : {T E : Type 0} (r : Result T E) (e : E) (P : E → Type 0) → IsErrAnd r (λ x. x ≡ e) → P e → IfErr r P
-if_err_is (Ok x) e P is p = tt
-if_err_is (Err x) e P is p = subst P (sym is) p
-
 pub values_are : {Z : Type 0} (m : ArgMatches) (app : App) (words : List (String Z)) → app ≡ command → HasMatchesOf app (map string_bytes words) m
     → ◌≡◌ {A = Values} (first_value (found_of m)) (values_in words)
 values_are m app words is has =

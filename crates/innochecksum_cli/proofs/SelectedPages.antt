@@ -5,7 +5,7 @@ use Rattle.std.proofs.lemmas.List.Sums.{length-filter}
 use Rattle.std.proofs.Math.Nat.{mul-le-mul_left}
 use Rattle.std.proofs.lemmas.List.FromFn.{get_or-map-range_with_len, length-map-range_with_len}
 use Rattle.io_core.specs.Stream.{IsPartlyGiven, extended}
-use Rattle.io_core.proofs.Streams.{given_then}
+use Rattle.io_core.proofs.Streams.{given_then, extended-nil, front_given, part_given}
 use Rattle.innochecksum_cli.specs.Pages.{FilePage, is_mismatch, nth_page, whole_pages}
 use Rattle.innochecksum_cli.specs.Lines.{line_of_page, stopped_line}
 use Rattle.innochecksum_cli.specs.Looks.{IsPageScan}
@@ -15,7 +15,6 @@ use Rattle.innochecksum_cli.specs.declared.options.Options.{Options}
 use Rattle.innochecksum_cli.specs.declared.tally.Tally.{Tally}
 use Rattle.innochecksum_cli.specs.declared.looks.PageScan.{PageScan}
 use Rattle.innochecksum_cli.specs.declared.status.CheckStatus.TheVariants.{Mismatch}
-use Rattle.innochecksum_cli.proofs.Fronts.{extended-nil, front_given, part_given}
 use Rattle.innochecksum_cli.proofs.Reports.{few_push, lines, lines_push, report_after, report_front, report_stop}
 
 pub length-whole_pages : (size : ℕ) (file : List ℕ) → length (whole_pages size file) ≡ length file / size

@@ -3,7 +3,7 @@ use Rattle.std.proofs.Common.{◌≡◌, ◌≤◌, ◌<◌, ◌/◌, ◌%◌, �
 use Rattle.std.proofs.lemmas.Bool.{le-ltb, lt-ltb}
 use Rattle.std.proofs.lemmas.List.{append-nil}
 use Rattle.io_core.specs.Stream.{IsPartlyGiven, extended}
-use Rattle.io_core.proofs.Streams.{given_then}
+use Rattle.io_core.proofs.Streams.{given_then, extended-nil, front_given, part_given}
 use Rattle.byte_list.specs.Fields.{be32_at}
 use Rattle.space_head.specs.Sizes.{page_size}
 use Rattle.space_head.specs.declared.fault.HeadFault.{HeadFault}
@@ -16,7 +16,7 @@ use Rattle.innochecksum_cli.specs.declared.options.Options.{Options}
 use Rattle.innochecksum_cli.specs.declared.looks.PageScan.{PageScan}
 use Rattle.innochecksum_cli.specs.declared.status.CheckStatus.{CheckStatus}
 use Rattle.innochecksum_cli.specs.declared.status.CheckStatus.TheVariants.{Done, Head, Missing, Short, Truncated}
-use Rattle.innochecksum_cli.proofs.Fronts.{extended-nil, front_given, none_given, part_given, stop_agrees_by}
+use Rattle.innochecksum_cli.proofs.Fronts.{none_given, stop_agrees_by}
 use Rattle.innochecksum_cli.proofs.Reports.{lines, report_end}
 
 pub sized_short : (o : Options) (file : List ℕ) (size : ℕ) → length file < size → sized_report o file size ≡ refused (Short (length file))

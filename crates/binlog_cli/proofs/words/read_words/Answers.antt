@@ -3,13 +3,14 @@ use Rattle.std.proofs.lemmas.Bool.{and_from, and_parts, le-leb, leb-true}
 use Rattle.std.proofs.lemmas.List.{length-map}
 use Rattle.clap.specs.Words.{App, app_of, fault_of, is_simple_and_free, takes}
 use Rattle.binlog_cli.specs.Words.{asked_digest, digest_by_name, is_true_text, key_names_of, list_values_in}
-use Rattle.binlog_cli.proofs.WordsMatches.{command_is_free, has_values, if_err_is}
+use Rattle.binlog_cli.proofs.WordsMatches.{command_is_free, has_values}
 use Rattle.binlog_cli.proofs.words.read_words.Goals as goal
+use Rattle.cause_core.proofs.Causes.{handed}
 
 pub returns-in_err-matches-clause-refused : goal.returns-in_err-matches-clause-refused
 returns-in_err-matches-clause-refused c =
     let is_own : IsErrAnd c.from_residual-in_err-matches.result (λ e. e ≡ c.in_err-matches.field-0.0) = search rules in
-    if_err_is c.from_residual-in_err-matches.result c.in_err-matches.field-0.0 _ is_own
+    handed _ c.from_residual-in_err-matches.result c.in_err-matches.field-0.0 is_own
     (λ taken within. c.in_err-matches.ensures.passes (ap (λ (a : App). takes a (map string_bytes c.args.words.now)) c.in_ok-command.ensures ∙ taken))
 
 pub returns-in_err-digest-clause-refused : goal.returns-in_err-digest-clause-refused
@@ -18,7 +19,7 @@ returns-in_err-digest-clause-refused c =
     let values = has_values c.in_ok-matches.matches (app_of c.in_ok-command.field-0) c.args.words.now c.in_ok-command.ensures c.in_ok-matches.ensures.matches in
     let digest = c.digest_in.ensures ∙ ap (λ (o : Option (List ℕ)). digest_by_name (unwrap_or o [])) (values.first (codes "digest")) in
     let names = c.in_ok-key_files.ensures ∙ values.all (codes "key-file") in
-    if_err_is c.from_residual-in_err-digest.result c.in_err-digest.field-0.0 _ is_own
+    handed _ c.from_residual-in_err-digest.result c.in_err-digest.field-0.0 is_own
     (λ taken within.
     let parts = and_parts (is_some (asked_digest (list_values_in c.args.words.now))) (nat_le (length (key_names_of (list_values_in c.args.words.now))) 64) within in
     let few = leb-true (length (key_names_of (list_values_in c.args.words.now))) 64 parts.1 in

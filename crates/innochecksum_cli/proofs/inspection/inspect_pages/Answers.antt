@@ -5,9 +5,9 @@ use Rattle.innochecksum_cli.specs.Stops.{IsOutsideStatus, status_of}
 use Rattle.innochecksum_cli.specs.Inspection.{Agrees, refused, report_of, selected, sized_report}
 use Rattle.innochecksum_cli.specs.declared.status.CheckStatus.{CheckStatus}
 use Rattle.innochecksum_cli.specs.declared.status.CheckStatus.TheVariants.{Done, Short, Truncated}
-use Rattle.innochecksum_cli.proofs.Fronts.{extended-nil}
 use Rattle.innochecksum_cli.proofs.WholeReports.{agrees_same, ending_given, ending_partly, give_agrees, looked_partly, sized_count, sized_pages, sized_short, status_is, stopped_status}
 use Rattle.innochecksum_cli.proofs.inspection.inspect_pages.Goals as goal
+use Rattle.io_core.proofs.Streams.{extended-nil}
 
 pub returns-then-bytes-size-clause-answer : goal.returns-then-bytes-size-clause-answer
 returns-then-bytes-size-clause-answer g c = record {

@@ -2,8 +2,9 @@ use Rattle.std.proofs.Common.{◌≡◌, ℕ, List, ap, subst, ◌∙◌}
 use Rattle.io_core.specs.Stream.{IsPartlyGiven, extended}
 use Rattle.innochecksum_cli.specs.Lines.{line_of_page}
 use Rattle.innochecksum_cli.proofs.StateLemmas.{bad_line, no_line}
-use Rattle.innochecksum_cli.proofs.Fronts.{at_err, extended-nil, none_given}
+use Rattle.innochecksum_cli.proofs.Fronts.{at_err, none_given}
 use Rattle.innochecksum_cli.proofs.looks.look_at.Goals as goal
+use Rattle.io_core.proofs.Streams.{extended-nil}
 
 pub returns-in_err-line-clause-err : goal.returns-in_err-line-clause-err
 returns-in_err-line-clause-err g c = at_err _ _ (none_given _ _)
