@@ -1,5 +1,6 @@
 -- A log's file that was made, and one that a crash left.
 use Rattle.std.proofs.Common.{◌≡◌, ◌∷◌, List, length, Some, None, sym, ap, subst, ◌∙◌}
+use Rattle.std.proofs.lemmas.Option.{same_Some, none-some}
 use Rattle.disk_model.specs.Crash.{IsCrash, crash_image}
 use Rattle.disk_model.specs.Event.{Event, Make}
 use Rattle.disk_model.specs.Past.{Past, At, grow}
@@ -8,14 +9,13 @@ use Rattle.disk_model.specs.declared.names.FileName.{FileName}
 use Rattle.disk_model.specs.declared.names.FileName.TheVariants.{Log as LogFile}
 use Rattle.places.specs.Places.{Layout, AreWhole, HasPlaces}
 use Rattle.places.proofs.Left.{image_size}
-use Rattle.ring_log.proofs.RingSteps.{some_same, none_some}
 use Rattle.redo_log.specs.Fresh.{IsFresh}
 use Rattle.redo_log.proofs.FreshLog.{fresh_make}
 
 -- a file that was made is fresh
 pub fresh_made : (old new : Past) → new ≡ grow (Make LogFile 143360) old → At (IsFresh 32) new
-fresh_made None new is = record { here = λ es e. absurd (none_some es (sym is ∙ e)) }
-fresh_made (Some os) new is = record { here = λ es e. subst (IsFresh 32) (some_same (Make LogFile 143360 ∷ os) es (sym is ∙ e)) (fresh_make 32 os) }
+fresh_made None new is = record { here = λ es e. absurd (none-some es (sym is ∙ e)) }
+fresh_made (Some os) new is = record { here = λ es e. subst (IsFresh 32) (same_Some (Make LogFile 143360 ∷ os) es (sym is ∙ e)) (fresh_make 32 os) }
 
 -- a crash leaves a file its places
 pub places_crashed : (f : FileName) (layout : Layout) (choices : List Choice) (es after : List Event) → HasPlaces f layout es → IsCrash choices es after → HasPlaces f layout after

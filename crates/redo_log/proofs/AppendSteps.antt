@@ -1,7 +1,6 @@
 -- The blocks of a mini-transaction behind the pending ones.
-use Rattle.std.proofs.Common.{◌≡◌, ◌≢◌, ℕ, zero, suc, ◌+◌, ◌-◌, ◌*◌, ◌<◌, ◌≤◌, ⊎_elim, true, false, nat_eq, List, [], ◌∷◌, ◌++◌, length, take, drop, refl, sym, ap, subst, ◌∙◌, arith, length-append, length-drop}
-use Rattle.std.proofs.lemmas.Bool.{cases_lt}
-use Rattle.std.proofs.lemmas.Bool.Decides.{nat_tests}
+use Rattle.std.proofs.Common.{◌≡◌, ℕ, zero, suc, ◌+◌, ◌-◌, ◌*◌, ◌<◌, ◌≤◌, ⊎_elim, true, nat_eq, List, [], ◌∷◌, ◌++◌, length, take, drop, refl, sym, ap, subst, ◌∙◌, arith, length-append, length-drop}
+use Rattle.std.proofs.lemmas.Bool.{cases_lt, eq-eqb, ne_eqb}
 use Rattle.std.proofs.lemmas.List.{drop_all, drop-append-le, take-append-le}
 use Rattle.std.proofs.Math.Seq.{drop-append-add, take-append_seam}
 use Rattle.aes_core.specs.declared.algorithm.Algorithm.{Algorithm}
@@ -27,12 +26,6 @@ use Rattle.redo_log.specs.Append.{appended, taken_back, IsEntry, HasLast, with_p
 use Rattle.redo_log.specs.Append.{IsRedoKey}
 use Rattle.redo_log.proofs.PendingSteps.{pending_front, pending_back}
 use Rattle.redo_log.proofs.TextFacts.{IsNth, nth_is}
-
-eq_true : (a b : ℕ) → a ≡ b → nat_eq a b ≡ true
-eq_true a b is = grind (arith, nat_tests)
-
-eq_false : (a b : ℕ) → a ≢ b → nat_eq a b ≡ false
-eq_false a b is = grind (arith, nat_tests)
 
 -- places of a list, with other bytes before or behind them
 pub place_front : (j : ℕ) (a b : List ℕ) → j * 4096 + 4096 ≤ length a → place 4096 j (a ++ b) ≡ place 4096 j a
@@ -65,12 +58,12 @@ module _ (key : RedoKey) (number : ℕ) (text : List ℕ) (some : 0 < length tex
       some = omega (arith, some);
       most = omega (arith, few);
       valid = λ m low high. let r = read_back m low high in subst (λ (n : ℕ). is_ring_block n (block m) ≡ true) r.2 (ap (is_ring_block (number + r.0)) r.3 ∙ (nth r.0 r.1).valid);
-      first = let r = read_back number (omega arith) (omega (arith, some)) in ap (λ (b : List ℕ). is_first (block_flags b)) r.3 ∙ first_at r.0 r.1 ∙ eq_true r.0 0 (omega (arith, r.2));
-      others = λ m gt high. let r = read_back m (omega (arith, gt)) high in ap (λ (b : List ℕ). is_first (block_flags b)) r.3 ∙ first_at r.0 r.1 ∙ eq_false r.0 0 (λ e. omega (arith, e, r.2, gt));
-      before = λ m low high. let r = read_back m low (omega (arith, high)) in ap (λ (b : List ℕ). is_last (block_flags b)) r.3 ∙ last_at r.0 r.1 ∙ eq_false (r.0 + 1) count (λ e. omega (arith, e, r.2, high));
+      first = let r = read_back number (omega arith) (omega (arith, some)) in ap (λ (b : List ℕ). is_first (block_flags b)) r.3 ∙ first_at r.0 r.1 ∙ eq-eqb r.0 0 (omega (arith, r.2));
+      others = λ m gt high. let r = read_back m (omega (arith, gt)) high in ap (λ (b : List ℕ). is_first (block_flags b)) r.3 ∙ first_at r.0 r.1 ∙ ne_eqb r.0 0 (λ e. omega (arith, e, r.2, gt));
+      before = λ m low high. let r = read_back m low (omega (arith, high)) in ap (λ (b : List ℕ). is_last (block_flags b)) r.3 ∙ last_at r.0 r.1 ∙ ne_eqb (r.0 + 1) count (λ e. omega (arith, e, r.2, high));
       last = λ m is.
           let r = read_back m (omega (arith, is, some)) (omega (arith, is)) in
-          ap (λ (b : List ℕ). is_last (block_flags b)) r.3 ∙ last_at r.0 r.1 ∙ eq_true (r.0 + 1) count (omega (arith, r.2, is));
+          ap (λ (b : List ℕ). is_last (block_flags b)) r.3 ∙ last_at r.0 r.1 ∙ eq-eqb (r.0 + 1) count (omega (arith, r.2, is));
     }
 
     texts_from : (r j : ℕ) → j + r ≡ count → AreTexts keys.header keys.ring (listed_blocks N (redo_form keys) block (number + j) r) (drop (4076 * j) text)
@@ -179,11 +172,11 @@ module _ (old : LogState) (mtr : List Change) (key : RedoKey) (is : IsOpen old) 
     some = omega (arith, some);
     within = omega (arith, total);
     first = let e : pending_count new - needed ≡ pending_count old + 0 = omega (arith, total) in
-        ap (λ (i : ℕ). is_first (block_flags (pending_at new i))) e ∙ ap (λ (b : List ℕ). is_first (block_flags b)) (back_at 0) ∙ (nth 0 (omega (arith, some))).first_is ∙ eq_true 0 0 refl;
+        ap (λ (i : ℕ). is_first (block_flags (pending_at new i))) e ∙ ap (λ (b : List ℕ). is_first (block_flags b)) (back_at 0) ∙ (nth 0 (omega (arith, some))).first_is ∙ eq-eqb 0 0 refl;
     others = λ j gt lt.
         let e : j ≡ pending_count old + (j - pending_count old) = omega (arith, gt, total) in
         ap (λ (i : ℕ). is_first (block_flags (pending_at new i))) e ∙ ap (λ (b : List ℕ). is_first (block_flags b)) (back_at (j - pending_count old)) ∙ (nth (j - pending_count old) (omega (arith, lt, gt, total))).first_is
-        ∙ eq_false (j - pending_count old) 0 (λ n. omega (arith, n, gt, total));
+        ∙ ne_eqb (j - pending_count old) 0 (λ n. omega (arith, n, gt, total));
   }
 
   pub appended_fits : (r : RingState) → FitsRing r old → FitsRing (with_pending r new) new

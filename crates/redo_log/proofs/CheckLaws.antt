@@ -1,8 +1,10 @@
 -- What a valid checkpoint says, and what is read of one that was made.
-use Rattle.std.proofs.Common.{◌≡◌, ℕ, ◌+◌, ◌^◌, ◌<◌, ◌≤◌, Bool, true, false, true≢false, nat_eq, nat_le, if◌then◌else◌, List, length, codes, Some, None, refl, sym, ap, ◌∙◌, arith, length-append}
+use Rattle.std.proofs.Common.{◌≡◌, ℕ, ◌+◌, ◌^◌, ◌<◌, ◌≤◌, Bool, true, false, nat_eq, nat_le, List, length, codes, Some, None, refl, sym, ap, ◌∙◌, arith, length-append}
 use Rattle.std.proofs.lemmas.Slice.Eq.{bytes_eq-Decides}
 use Rattle.std.specs.Str.{bytes_eq}
 use Rattle.std.specs.Int.{to_be_bytes, w32}
+use Rattle.std.proofs.lemmas.Option.{none-some, same_Some}
+use Rattle.std.proofs.lemmas.Bool.{cond-true, cond-false, eq-eqb}
 use Rattle.bytes_core.specs.Crc.{crc32c}
 use Rattle.byte_list.specs.Bytes.{range}
 use Rattle.byte_list.specs.Fields.{be64_at}
@@ -12,10 +14,9 @@ use Rattle.page_places.proofs.Sums.{and_left, and_right, and_both, torn_page}
 use Rattle.store_image.specs.Checkpoint.{HeldCheckpoint, side_of}
 use Rattle.store_files.specs.Checkpoint.{is_checkpoint, checkpoint_in, IsWritableCheckpoint}
 use Rattle.store_files.proofs.CheckpointsWritten.{checkpoint_back, checkpoint_sum}
-use Rattle.ring_log.proofs.RingSteps.{some_same, none_some}
 use Rattle.redo_log.specs.Check.{check_bytes}
 use Rattle.redo_log.proofs.CheckParts.{check_front, check_sealed, length-check_front}
-use Rattle.redo_log.proofs.SumLaws.{eq_of, of_eq, le_of, of_le}
+use Rattle.redo_log.proofs.SumLaws.{eq_of, le_of, of_le}
 
 pub record IsCheck (i : ℕ) (b : List ℕ) : Type 0 where
   pub sums : ends_in_sum b ≡ true
@@ -44,32 +45,24 @@ check_is i b is =
 pub is_check_of : (i : ℕ) (b : List ℕ) → IsCheck i b → is_checkpoint i b ≡ true
 unfolding is_checkpoint
 is_check_of i b is =
-    and_both _ _ is.sums (and_both _ _ ((bytes_eq-Decides _ _).1 is.magic) (and_both _ _ (of_eq _ _ is.at) (and_both _ _ (of_le _ _ is.some) (and_both _ _ (of_le _ _ is.order) (of_le _ _ is.most)))))
-
-by_true : {A : Type 0} (b : Bool) (x y : A) → b ≡ true → (if b then x else y) ≡ x
-by_true true x y is = refl
-by_true false x y is = absurd (true≢false (sym is))
-
-by_false : {A : Type 0} (b : Bool) (x y : A) → b ≡ false → (if b then x else y) ≡ y
-by_false true x y is = absurd (true≢false is)
-by_false false x y is = refl
+    and_both _ _ is.sums (and_both _ _ ((bytes_eq-Decides _ _).1 is.magic) (and_both _ _ (eq-eqb _ _ is.at) (and_both _ _ (of_le _ _ is.some) (and_both _ _ (of_le _ _ is.order) (of_le _ _ is.most)))))
 
 pub checkpoint_some : (i : ℕ) (b : List ℕ) → is_checkpoint i b ≡ true → checkpoint_in i b ≡ Some (record { sequence = be64_at b 8; from = be64_at b 16 })
 unfolding checkpoint_in
-checkpoint_some i b is = by_true (is_checkpoint i b) _ _ is
+checkpoint_some i b is = cond-true (is_checkpoint i b) _ _ is
 
 pub checkpoint_none : (i : ℕ) (b : List ℕ) → is_checkpoint i b ≡ false → checkpoint_in i b ≡ None
 unfolding checkpoint_in
-checkpoint_none i b is = by_false (is_checkpoint i b) _ _ is
+checkpoint_none i b is = cond-false (is_checkpoint i b) _ _ is
 
 pub checkpoint_is : (i : ℕ) (b : List ℕ) (c : HeldCheckpoint) → checkpoint_in i b ≡ Some c → (is_checkpoint i b ≡ true) × (c.sequence ≡ be64_at b 8) × (c.from ≡ be64_at b 16)
 checkpoint_is i b c is = by (is_checkpoint i b) refl
   where
     by : (t : Bool) → is_checkpoint i b ≡ t → (is_checkpoint i b ≡ true) × (c.sequence ≡ be64_at b 8) × (c.from ≡ be64_at b 16)
     by true e =
-        let same : c ≡ record { sequence = be64_at b 8; from = be64_at b 16 } = some_same _ _ (sym is ∙ checkpoint_some i b e) in
+        let same : c ≡ record { sequence = be64_at b 8; from = be64_at b 16 } = same_Some _ _ (sym is ∙ checkpoint_some i b e) in
         (e, ap (λ (d : HeldCheckpoint). d.sequence) same, ap (λ (d : HeldCheckpoint). d.from) same)
-    by false e = absurd (none_some c (sym (checkpoint_none i b e) ∙ is))
+    by false e = absurd (none-some c (sym (checkpoint_none i b e) ∙ is))
 
 module _ (sequence from : ℕ) (some : 1 ≤ sequence) (order : sequence < from) (most : from ≤ 2 ^ 50) where
   abbrev c : HeldCheckpoint

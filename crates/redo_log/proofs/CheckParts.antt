@@ -1,7 +1,6 @@
 -- A checkpoint is put together part by part.
-use Rattle.std.proofs.Common.{◌≡◌, ℕ, ◌+◌, List, [], ◌++◌, length, take, drop, refl, sym, ap, ◌∙◌, arith, length-append, length-drop, append_assoc}
+use Rattle.std.proofs.Common.{◌≡◌, ℕ, List, [], ◌++◌, length, take, drop, refl, sym, ap, ◌∙◌, arith, length-append, length-drop, append_assoc}
 use Rattle.std.proofs.lemmas.List.{take_at, drop_all, append-nil}
-use Rattle.std.proofs.Math.Seq.{drop-append-add}
 use Rattle.std.specs.Int.{to_be_bytes, w32, w64}
 use Rattle.std.specs.Prelude.{codes}
 use Rattle.bytes_core.specs.Crc.{crc32c}
@@ -9,6 +8,7 @@ use Rattle.byte_list.specs.Bytes.{put, zeros}
 use Rattle.byte_list.proofs.RangeLaws.{length-zeros}
 use Rattle.store_files.specs.Checkpoint.{checkpoint_front, checkpoint_bytes}
 use Rattle.redo_log.specs.Check.{check_words, check_bytes}
+use Rattle.byte_list.proofs.PutLaws.{put_next}
 
 -- the bytes before the checksum, as they are written
 unfoldable pub check_front : ℕ → ℕ → List ℕ
@@ -23,14 +23,6 @@ front_is sequence from =
 pub check_sealed : (sequence from : ℕ) → check_bytes sequence from ≡ check_front sequence from ++ to_be_bytes w32 (crc32c (check_front sequence from))
 unfolding checkpoint_bytes
 check_sealed sequence from = ap (λ (l : List ℕ). l ++ to_be_bytes w32 (crc32c l)) (sym (front_is sequence from))
-
--- a part behind what is there
-put_next : (at : ℕ) (a b y : List ℕ) → length a ≡ at → put at b (a ++ y) ≡ a ++ (b ++ drop (length b) y)
-put_next at a b y is =
-    ap (λ (l : List ℕ). l ++ b ++ drop (at + length b) (a ++ y)) (take_at a y at is)
-    ∙ ap (λ (k : ℕ). a ++ b ++ drop (k + length b) (a ++ y)) (sym is)
-    ∙ ap (λ (l : List ℕ). a ++ b ++ l) (drop-append-add a y (length b))
-    ∙ append_assoc a b (drop (length b) y)
 
 length-words : (sequence from : ℕ) → length (check_words sequence from) ≡ 24
 unfolding check_words

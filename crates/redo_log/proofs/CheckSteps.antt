@@ -1,19 +1,19 @@
 -- What each device call of a checkpoint does to its place.
-use Rattle.std.proofs.Common.{◌≡◌, ◌≢◌, ℕ, ◌+◌, ◌*◌, ◌%◌, ◌^◌, ◌<◌, ◌≤◌, inl, inr, Bool, true, false, true≢false, nat_eq, if◌then◌else◌, List, ◌∷◌, Option, Some, None, refl, sym, ap, subst, ◌∙◌, arith}
-use Rattle.std.proofs.lemmas.Bool.Decides.{nat_tests}
+use Rattle.std.proofs.Common.{◌≡◌, ◌≢◌, ℕ, ◌+◌, ◌*◌, ◌%◌, ◌^◌, ◌<◌, ◌≤◌, inl, inr, nat_eq, List, ◌∷◌, Option, Some, None, refl, sym, ap, subst, ◌∙◌, arith}
 use Rattle.disk_model.specs.Event.{Event, Sync}
 use Rattle.disk_model.specs.Past.{Past, At, IsWrite}
 use Rattle.disk_model.specs.Does.{Does}
 use Rattle.disk_model.specs.declared.names.FileName.TheVariants.{Log as LogFile}
 use Rattle.disk_model.proofs.Moments.{at_each}
 use Rattle.std.specs.Prelude.{Result}
+use Rattle.std.proofs.lemmas.Option.{none-some, same_Some}
+use Rattle.std.proofs.lemmas.Bool.{eq-eqb, ne_eqb, cond-true, cond-false}
 use Rattle.places.specs.Places.{HasPlaces, May}
 use Rattle.places.specs.Batches.{From, IsNext}
 use Rattle.places.proofs.Batches.{wrote_none, writing_more, next_each, next_wrote, last_sync, fact_of_settled, at_start, lift_from}
 use Rattle.ring_log.specs.Ring.{Form, RingState, IsBehind, IsSynced, IsOther, RingAt, Ringed, RingReady}
 use Rattle.store_image.specs.Checkpoint.{side_of}
 use Rattle.ring_log.specs.Batches.{check_batch, checking, checkpointed}
-use Rattle.ring_log.proofs.RingSteps.{some_same, none_some}
 use Rattle.ring_log.proofs.Events.{ready_checking, ready_checked}
 use Rattle.redo_text.specs.declared.change.Change.{Change}
 use Rattle.redo_log.specs.State.{LogState}
@@ -56,25 +56,11 @@ module _ (blocks sequence from : ℕ) where
 
 -- ---- the ring
 
-if_same : {A : Type 0} (b : Bool) (x y : A) → b ≡ true → x ≡ (if b then x else y)
-if_same true x y is = refl
-if_same false x y is = absurd (true≢false (sym is))
-
-if_other : {A : Type 0} (b : Bool) (x y : A) → b ≡ false → y ≡ (if b then x else y)
-if_other true x y is = absurd (true≢false is)
-if_other false x y is = refl
-
-eq_true : (a b : ℕ) → a ≡ b → nat_eq a b ≡ true
-eq_true a b is = grind (arith, nat_tests)
-
-eq_false : (a b : ℕ) → a ≢ b → nat_eq a b ≡ false
-eq_false a b is = grind (arith, nat_tests)
-
 pub checked_same : (r : RingState) (f : ℕ) → f ≡ r.from → r ≡ checked r f
-checked_same r f is = if_same (nat_eq f r.from) r (checkpointed r f) (eq_true f r.from is)
+checked_same r f is = sym (cond-true (nat_eq f r.from) r (checkpointed r f) (eq-eqb f r.from is))
 
 pub checked_other : (r : RingState) (f : ℕ) → f ≢ r.from → checkpointed r f ≡ checked r f
-checked_other r f is = if_other (nat_eq f r.from) r (checkpointed r f) (eq_false f r.from is)
+checked_other r f is = sym (cond-false (nat_eq f r.from) r (checkpointed r f) (ne_eqb f r.from is))
 
 module _ (keys : Keys) (log : LogState) (r : RingState) (is : IsOpen log) (fits : FitsRing r log) (f : ℕ) where
   abbrev N : ℕ
@@ -108,7 +94,7 @@ module _ (keys : Keys) (log : LogState) (r : RingState) (is : IsOpen log) (fits 
 
     pub to_checked : (s m : List Event) → RingReady N F r s → CheckSettled N (log.sequence + 1) f s m → RingReady N F (checked r f) m
     to_checked s m ready t =
-        subst (λ (q : RingState). RingReady N F q m) (if_other (nat_eq f r.from) r (checkpointed r f) (eq_false f r.from (λ e. let from = fits.from in omega (arith, e, from, gt))))
+        subst (λ (q : RingState). RingReady N F q m) (checked_other r f (λ e. let from = fits.from in omega (arith, e, from, gt)))
         (ready_checked N F (form_laws keys) r s m ready f (check_bytes (log.sequence + 1) f) low_is (high_is s ready) check_is
         (settled_same LogFile (file_layout N) (side_batch (log.sequence + 1) f) (check_batch r (check_bytes (log.sequence + 1) f)) 1 place_same (λ j lt. refl) s m t))
 
@@ -120,7 +106,7 @@ module _ (keys : Keys) (log : LogState) (r : RingState) (is : IsOpen log) (fits 
   -- and where it begins at the old one
   module _ (same : f ≡ log.from) where
     pub checked_none : (s : List Event) → RingReady N F r s → RingReady N F (checked r f) s
-    checked_none s ready = subst (λ (q : RingState). RingReady N F q s) (if_same (nat_eq f r.from) r (checkpointed r f) (eq_true f r.from (same ∙ sym fits.from))) ready
+    checked_none s ready = subst (λ (q : RingState). RingReady N F q s) (checked_same r f (same ∙ sym fits.from)) ready
 
     pub checking_none : (s : List Event) → RingReady N F r s → Ringed N F (checking r f) s
     checking_none s ready = record {
@@ -134,7 +120,7 @@ module _ (keys : Keys) (log : LogState) (r : RingState) (is : IsOpen log) (fits 
           later = λ g e.
               let began = a.is.began in
               let from = fits.from in
-              let one = some_same f g e in
+              let one = same_Some f g e in
               (omega (arith, one, same, from), omega (arith, one, same, from, began));
           valid = a.is.valid;
         };
@@ -156,7 +142,7 @@ module _ (keys : Keys) (log : LogState) (r : RingState) (is : IsOpen log) (fits 
         aside : (x : Option (List ℕ)) → IsOther N F r x → IsOther N F (checking r f) x
         aside None o = tt
         aside (Some b) (inl older) = inl older
-        aside (Some b) (inr (g, e, c)) = absurd (none_some g (sym ready.none ∙ e))
+        aside (Some b) (inr (g, e, c)) = absurd (none-some g (sym ready.none ∙ e))
 
         behind : (n : ℕ) (x : Option (List ℕ)) → IsBehind N F r n x → IsBehind N F (checking r f) n x
         behind n None b = tt

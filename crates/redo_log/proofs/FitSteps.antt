@@ -1,11 +1,11 @@
 -- The log in memory after its calls.
-use Rattle.std.proofs.Common.{[], ◌≡◌, ◌≢◌, ℕ, ◌+◌, ◌^◌, ◌<◌, ◌≤◌, Bool, true, false, true≢false, nat_eq, if◌then◌else◌, refl, sym, ap, subst, ◌∙◌, arith, None, List}
-use Rattle.std.proofs.lemmas.Bool.Decides.{nat_tests}
+use Rattle.std.proofs.Common.{[], ◌≡◌, ◌≢◌, ℕ, ◌+◌, ◌^◌, ◌<◌, ◌≤◌, Bool, true, false, nat_eq, if◌then◌else◌, refl, sym, ap, subst, ◌∙◌, arith, None, List}
+use Rattle.std.proofs.lemmas.Bool.{cond-true, cond-false, eq-eqb, ne_eqb}
+use Rattle.std.proofs.lemmas.Option.{none-some}
 use Rattle.ring_log.specs.Ring.{RingState, IsBound, IsRingJournal}
 use Rattle.ring_log.proofs.Journals.{journal_settled, journal_moved}
 use Rattle.store_image.specs.View.{Logged}
 use Rattle.redo_text.specs.declared.change.Change.{Change}
-use Rattle.ring_log.proofs.RingSteps.{none_some}
 use Rattle.redo_log.specs.Blocks.{Keys, redo_form}
 use Rattle.ring_log.specs.Batches.{settle, checkpointed}
 use Rattle.redo_log.specs.State.{LogState}
@@ -36,7 +36,7 @@ empty_journal blocks from keys r begins settled written none = record {
   entries = refl;
   written = omega (arith, written);
   from = record { before = []; behind = []; parts = refl; left = sym begins };
-  newer = λ f is. absurd (none_some f (sym none ∙ is));
+  newer = λ f is. absurd (none-some f (sym none ∙ is));
   settled = record { before = []; behind = []; parts = refl; left = sym settled };
 }
 
@@ -93,26 +93,12 @@ moved_fits old f low r fits = subst (λ (q : RingState). FitsRing q (next_check 
 pub kept_fits : (log : LogState) (f : ℕ) → f ≡ log.from → (r : RingState) → FitsRing r log → FitsRing (checked r f) log
 kept_fits log f same r fits = subst (λ (q : RingState). FitsRing q log) (checked_same r f (same ∙ sym fits.from)) fits
 
-if_true : {A : Type 0} (b : Bool) (x y : A) → b ≡ true → (if b then x else y) ≡ x
-if_true true x y is = refl
-if_true false x y is = absurd (true≢false (sym is))
-
-if_false : {A : Type 0} (b : Bool) (x y : A) → b ≡ false → (if b then x else y) ≡ y
-if_false true x y is = absurd (true≢false is)
-if_false false x y is = refl
-
 -- what a checkpoint makes of the log
 pub with_checkpoint_same : (log : LogState) (f : ℕ) → f ≡ log.from → log ≡ with_checkpoint log f
-with_checkpoint_same log f same = sym (if_true (nat_eq f log.from) log (next_check log f) (eq_true f log.from same))
-  where
-    eq_true : (a b : ℕ) → a ≡ b → nat_eq a b ≡ true
-    eq_true a b is = grind (arith, nat_tests)
+with_checkpoint_same log f same = sym (cond-true (nat_eq f log.from) log (next_check log f) (eq-eqb f log.from same))
 
 pub with_checkpoint_other : (log : LogState) (f : ℕ) → f ≢ log.from → next_check log f ≡ with_checkpoint log f
-with_checkpoint_other log f other = sym (if_false (nat_eq f log.from) log (next_check log f) (eq_false f log.from other))
-  where
-    eq_false : (a b : ℕ) → a ≢ b → nat_eq a b ≡ false
-    eq_false a b is = grind (arith, nat_tests)
+with_checkpoint_other log f other = sym (cond-false (nat_eq f log.from) log (next_check log f) (ne_eqb f log.from other))
 
 -- the journal of a ring after a write out and after a checkpoint
 pub settled_journal : (old : LogState) → IsOpen old → (keys : Keys) (r : RingState) (start : ℕ) (journal : List (Logged (List Change))) → FitsRing r old → r.written ≡ r.settled → IsRingJournal old.blocks (redo_form keys) r start journal old.next

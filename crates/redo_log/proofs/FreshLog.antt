@@ -1,7 +1,8 @@
 -- A log that was made is a ring with nothing in it.
-use Rattle.std.proofs.Common.{◌≡◌, ◌≢◌, ℕ, ◌+◌, ◌-◌, ◌*◌, ◌<◌, ◌≤◌, inl, inr, List, ◌∷◌, length, take, drop, replicate, Option, Some, refl, sym, ap, subst, ◌∙◌, arith}
-use Rattle.std.proofs.lemmas.List.{drop-replicate, take-replicate, length-replicate}
+use Rattle.std.proofs.Common.{◌≡◌, ◌≢◌, ℕ, ◌+◌, ◌-◌, ◌*◌, ◌<◌, ◌≤◌, inl, inr, List, ◌∷◌, take, drop, replicate, Option, Some, refl, sym, ap, subst, ◌∙◌, arith}
+use Rattle.std.proofs.lemmas.List.{drop-replicate, take-replicate}
 use Rattle.std.specs.Int.{from_be_bytes, w64}
+use Rattle.std.proofs.lemmas.Option.{none-some}
 use Rattle.disk_model.specs.Event.{Event, Make}
 use Rattle.disk_model.specs.declared.names.FileName.TheVariants.{Log as LogFile}
 use Rattle.byte_list.specs.Bytes.{range, zeros}
@@ -10,16 +11,12 @@ use Rattle.places.specs.Places.{place, May}
 use Rattle.places.proofs.Apart.{before}
 use Rattle.places.proofs.Steps.{places_make}
 use Rattle.ring_log.specs.Ring.{place_in_ring, HasNoBlockFrom, IsBehind, IsSynced, IsOther, RingReady}
-use Rattle.ring_log.proofs.RingSteps.{none_some}
 use Rattle.store_files.proofs.RingBlocks.{block_number}
 use Rattle.redo_log.specs.Blocks.{Keys, redo_form, file_layout}
 use Rattle.redo_log.specs.Events.{CheckSettled}
 use Rattle.redo_log.specs.Fresh.{IsFresh, fresh_ring}
 use Rattle.redo_log.proofs.CheckLaws.{check_is, checkpoint_is, made_check}
-
-length-zeros : (n : ℕ) → length (zeros n) ≡ n
-unfolding zeros
-length-zeros n = length-replicate {A = ℕ} n 0
+use Rattle.byte_list.proofs.RangeLaws.{length-zeros}
 
 -- a place of zero bytes
 zero_at : (n size i at : ℕ) → i * size + size ≤ n → at + 8 ≤ size → range at 8 (place size i (zeros n)) ≡ replicate 8 0
@@ -67,7 +64,7 @@ module _ (keys : Keys) (blocks : ℕ) (least : 32 ≤ blocks) (s m : List Event)
           began = omega arith;
           order = omega arith;
           room = omega arith;
-          later = λ f is. absurd (none_some f is);
+          later = λ f is. absurd (none-some f is);
           valid = λ n low high. absurd (omega (arith, low, high));
         };
         header = λ x may. others 0 (λ e. omega (arith, e)) x may;

@@ -3,6 +3,7 @@ use Rattle.std.proofs.Common.{◌≡◌, ℕ, ◌-◌, ◌≤◌, Bool, true, fa
 use Rattle.std.proofs.lemmas.Bool.Decides.{nat_tests}
 use Rattle.std.proofs.lemmas.List.{take_all}
 use Rattle.std.specs.Int.{from_be_bytes, w32}
+use Rattle.std.proofs.lemmas.Bool.{eq-eqb}
 use Rattle.byte_list.specs.Bytes.{AreBytes}
 use Rattle.byte_list.specs.Fields.{be32_at}
 use Rattle.bytes_core.specs.Crc.{crc32c}
@@ -13,9 +14,6 @@ use Rattle.redo_text.specs.Reading.{stored_block_sum, computed_block_sum}
 
 pub eq_of : (a b : ℕ) → nat_eq a b ≡ true → a ≡ b
 eq_of a b is = grind (arith, nat_tests)
-
-pub of_eq : (a b : ℕ) → a ≡ b → nat_eq a b ≡ true
-of_eq a b is = grind (arith, nat_tests)
 
 pub le_of : (a b : ℕ) → nat_le a b ≡ true → a ≤ b
 le_of a b is = grind (arith, nat_tests)
@@ -48,5 +46,5 @@ module _ (b : List ℕ) (long : length b ≡ 4096) where
   sum_test are = by (ends_in_sum b) refl
     where
       by : (t : Bool) → ends_in_sum b ≡ t → nat_eq (stored_block_sum b) (computed_block_sum b) ≡ ends_in_sum b
-      by true e = of_eq _ _ (sum_there e) ∙ sym e
+      by true e = eq-eqb _ _ (sum_there e) ∙ sym e
       by false e = not_true _ (λ t. true≢false (sym (sum_here are (eq_of _ _ t)) ∙ e)) ∙ sym e

@@ -1,6 +1,6 @@
 -- The blocks that redo_text makes, as blocks of a ring: their text comes back.
 use Rattle.std.proofs.Common.{◌≡◌, ℕ, ◌+◌, ◌-◌, ◌*◌, ◌^◌, ◌<◌, ◌≤◌, ⊎_elim, true, false, true≢false, nat_eq, List, length, drop, sym, ap, ◌∙◌, arith, length-drop}
-use Rattle.std.proofs.lemmas.Bool.{cases_lt}
+use Rattle.std.proofs.lemmas.Bool.{cases_lt, eq-eqb}
 use Rattle.std.proofs.lemmas.List.{take_all, length-take-le}
 use Rattle.byte_list.specs.Bytes.{AreBytes}
 use Rattle.byte_list.proofs.ByteLaws.{bytes_take, bytes_drop}
@@ -10,7 +10,6 @@ use Rattle.redo_text.specs.Reading.{block_version, block_flags, is_first, is_las
 use Rattle.store_files.specs.RingBlock.{is_ring_block, block_text}
 use Rattle.store_files.proofs.RingBlocks.{ring_block_back, ring_block_text}
 use Rattle.redo_log.specs.Append.{IsRedoKey}
-use Rattle.redo_log.proofs.SumLaws.{of_eq}
 
 -- block k of a text
 pub record IsNth (key : RedoKey) (first : ℕ) (text : List ℕ) (k : ℕ) (b : List ℕ) : Type 0 where
@@ -41,7 +40,7 @@ part_long text k lt = ⊎_elim
 
     further : nat_eq (k + 1) (block_count text) ≡ false → 4076 * k + 4076 < length text
     further ne =
-        let other : k + 1 ≡ block_count text → ⊥ = λ e. true≢false (sym (of_eq (k + 1) (block_count text) e) ∙ ne) in
+        let other : k + 1 ≡ block_count text → ⊥ = λ e. true≢false (sym (eq-eqb (k + 1) (block_count text) e) ∙ ne) in
         let more : k + 1 < block_count text = omega (arith, lt, other) in
         omega (arith, more)
 

@@ -1,6 +1,7 @@
 -- The checkpoint of an opening: while it is written each lucky image has the log that was found, or the one behind it; once it is synced, the one behind it.
 use Rattle.std.proofs.Common.{◌≡◌, ◌≢◌, ℕ, ◌+◌, ◌%◌, ◌<◌, ◌≤◌, ◌⊎◌, inl, inr, ⊎_elim, Bool, true, false, true≢false, List, Option, Some, None, refl, sym, ap, subst, ◌∙◌, arith}
 use Rattle.std.proofs.lemmas.Bool.{cases_eq}
+use Rattle.std.proofs.lemmas.Option.{none-some, same_Some}
 use Rattle.disk_model.specs.Event.{Event, reads}
 use Rattle.disk_model.specs.Image.{Image, IsImage, IsLucky}
 use Rattle.disk_model.specs.declared.names.FileName.{FileName}
@@ -15,7 +16,6 @@ use Rattle.ring_log.specs.Ring.{Form, IsForm, layout, read_in, IsRingLog, IsRing
 use Rattle.ring_log.proofs.Entries.{whole_agree, entries_agree}
 use Rattle.ring_log.proofs.Numbers.{two_sides, no_side, two_on}
 use Rattle.ring_log.proofs.Rests.{started, ready_start, clear_start}
-use Rattle.ring_log.proofs.RingSteps.{some_same, none_some}
 use Rattle.ring_log.proofs.Standing.{place_or_torn}
 
 module _ {M : Type 0} (N : ℕ) (F : Form M) (L : IsForm F) (some : 0 < N) (sequence : ℕ) (l : LogView M) where
@@ -62,7 +62,7 @@ module _ {M : Type 0} (N : ℕ) (F : Form M) (L : IsForm F) (some : 0 < N) (sequ
       where
         most : (i : ℕ) (c : HeldCheckpoint) → checkpoint i (place block_bytes i new) ≡ Some c → c.sequence ≤ sequence + 1
         most i c is = ⊎_elim
-            (λ (e : i ≡ side). let at : c.sequence ≡ sequence + 1 = ap (λ (k : HeldCheckpoint). k.sequence) (some_same c next_check (sym (subst (λ (k : ℕ). checkpoint k (place block_bytes k new) ≡ Some c) e is) ∙ here)) in omega (arith, at))
+            (λ (e : i ≡ side). let at : c.sequence ≡ sequence + 1 = ap (λ (k : HeldCheckpoint). k.sequence) (same_Some c next_check (sym (subst (λ (k : ℕ). checkpoint k (place block_bytes k new) ≡ Some c) e is) ∙ here)) in omega (arith, at))
             (λ (ne : i ≢ side). let le = log.newest i c (ap (checkpoint i) (sym (same i ne)) ∙ is) in omega (arith, le, newest))
             (cases_eq i side)
 
@@ -89,8 +89,8 @@ module _ {M : Type 0} (N : ℕ) (F : Form M) (L : IsForm F) (some : 0 < N) (sequ
 
         others : (i : ℕ) → i ≢ side → place block_bytes i file ≡ place block_bytes i (reads Log s)
         others i ne = ⊎_elim
-            (λ (may : May Log block_bytes i m (Some (place block_bytes i file))). some_same _ _ (elsewhere i _ ne may))
-            (λ (t : May Log block_bytes i m None × (passes (place block_bytes i file) ≡ false)). absurd (none_some _ (elsewhere i None ne t.0)))
+            (λ (may : May Log block_bytes i m (Some (place block_bytes i file))). same_Some _ _ (elsewhere i _ ne may))
+            (λ (t : May Log block_bytes i m None × (passes (place block_bytes i file) ≡ false)). absurd (none-some _ (elsewhere i None ne t.0)))
             (at i)
 
         stay : ((c : HeldCheckpoint) → checkpoint side (place block_bytes side file) ≡ Some c → c.sequence ≤ sequence) → IsRingLog N F file l
@@ -100,14 +100,14 @@ module _ {M : Type 0} (N : ℕ) (F : Form M) (L : IsForm F) (some : 0 < N) (sequ
         at_side (inr torn) = inl (stay (λ c is. absurd (true≢false (sym (L.check_passes side _ c is) ∙ torn.1))))
         at_side (inl may) = ⊎_elim
             (λ (could : Could Log block_bytes side s (Some (place block_bytes side file))).
-            let old : place block_bytes side file ≡ place block_bytes side (reads Log s) = some_same _ _ (could_shown side _ could) in
+            let old : place block_bytes side file ≡ place block_bytes side (reads Log s) = same_Some _ _ (could_shown side _ could) in
             inl (stay (λ c is. let le = found.log.newest side c (ap (checkpoint side) (sym old) ∙ is) in omega (arith, le, found.is_newest))))
             (λ (one : IsOneOf (opening_batch sequence bytes) 1 side (Some (place block_bytes side file))). written one.left)
             (writing.may side _ may)
           where
             written : IsWritten bytes (Some (place block_bytes side file)) → IsRingLog N F file l ⊎ IsRingLog N F file (log_behind N F l)
-            written (inl is) = inr (moves (reads Log s) file found.log found.is_newest found.clear others (ap (checkpoint side) (some_same _ _ is) ∙ check))
-            written (inr none) = absurd (none_some _ (sym none))
+            written (inl is) = inr (moves (reads Log s) file found.log found.is_newest found.clear others (ap (checkpoint side) (same_Some _ _ is) ∙ check))
+            written (inr none) = absurd (none-some _ (sym none))
 
     module _ (settled : BatchSettled Log (layout N F) (opening_batch sequence bytes) 1 s m) where
       shown_others : (i : ℕ) → i ≢ side → shown Log block_bytes i m ≡ shown Log block_bytes i s

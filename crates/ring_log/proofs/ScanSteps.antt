@@ -1,18 +1,11 @@
 -- The run is read block by block.
 use Rattle.std.proofs.Common.{◌≡◌, ◌≢◌, ℕ, zero, suc, ◌+◌, ◌<◌, ◌≤◌, ⊎_elim, Bool, true, false, true≢false, nat_eq, if◌then◌else◌, List, [], ◌∷◌, ◌++◌, refl, sym, ap, subst, ◌∙◌, arith}
-use Rattle.std.proofs.lemmas.Bool.{cases_lt, cases_eq}
-use Rattle.std.proofs.lemmas.Bool.Decides.{nat_tests}
+use Rattle.std.proofs.lemmas.Bool.{cases_lt, cases_eq, eq-eqb, ne_eqb}
 use Rattle.store_image.specs.View.{Logged}
 use Rattle.store_image.specs.Places.{LogView}
 use Rattle.ring_log.specs.Ring.{Form, IsWholeMtr, AreWholeEntries, read_in, IsRingLog}
 use Rattle.ring_log.specs.Scans.{AreWholeMtrs, IsRingRun, IsScanned, Goes, Stops}
 use Rattle.ring_log.proofs.Entries.{same_end, number_up}
-
-eq_true : (a b : ℕ) → a ≡ b → nat_eq a b ≡ true
-eq_true a b is = grind (arith, nat_tests)
-
-eq_false : (a b : ℕ) → a ≢ b → nat_eq a b ≡ false
-eq_false a b is = grind (arith, nat_tests)
 
 module _ {M : Type 0} (N : ℕ) (F : Form M) (read : ℕ → List ℕ) (from : ℕ) where
   open F use {is_block, starts, ends}
@@ -41,11 +34,11 @@ module _ {M : Type 0} (N : ℕ) (F : Form M) (read : ℕ → List ℕ) (from : �
       valid_up m low high = ⊎_elim (λ (lt : m < n). r.valid m low lt) (λ (ge : n ≤ m). let e : m ≡ n = omega (arith, high, ge) in subst (λ (i : ℕ). is_block i (read i) ≡ true) (sym e) valid) (cases_lt m n)
 
       first_up : starts (read end) ≡ true
-      first_up = ⊎_elim (λ (lt : end < n). r.first lt) (λ (ge : n ≤ end). let order = r.order in let e : end ≡ n = omega arith in ap (λ (i : ℕ). starts (read i)) e ∙ starts_is ∙ eq_true end n e) (cases_lt end n)
+      first_up = ⊎_elim (λ (lt : end < n). r.first lt) (λ (ge : n ≤ end). let order = r.order in let e : end ≡ n = omega arith in ap (λ (i : ℕ). starts (read i)) e ∙ starts_is ∙ eq-eqb end n e) (cases_lt end n)
 
       others_up : (m : ℕ) → end < m → m < n + 1 → starts (read m) ≡ false
       others_up m gt high = ⊎_elim (λ (lt : m < n). r.others m gt lt)
-          (λ (ge : n ≤ m). let e : m ≡ n = omega (arith, high, ge) in ap (λ (i : ℕ). starts (read i)) e ∙ starts_is ∙ eq_false end n (λ same. omega (arith, same, e, gt))) (cases_lt m n)
+          (λ (ge : n ≤ m). let e : m ≡ n = omega (arith, high, ge) in ap (λ (i : ℕ). starts (read i)) e ∙ starts_is ∙ ne_eqb end n (λ same. omega (arith, same, e, gt))) (cases_lt m n)
 
       by : (b : Bool) → ends (read n) ≡ b → next ≡ (if b then n + 1 else end) → IsScanned N F read from next (n + 1)
       by true last is = subst (λ (i : ℕ). IsScanned N F read from i (n + 1)) (sym is) (record {
@@ -92,8 +85,8 @@ module _ {M : Type 0} (N : ℕ) (F : Form M) (read : ℕ → List ℕ) (from : �
   }
     where
       start : (z : ℕ) → IsWholeMtr N F read end z → n < z → starts (read n) ≡ nat_eq end n
-      start z w lt = ⊎_elim (λ (e : end ≡ n). ap (λ (i : ℕ). starts (read i)) (sym e) ∙ w.first ∙ sym (eq_true end n e))
-          (λ (ne : end ≢ n). let order = r.order in w.others n (omega (arith, ne)) lt ∙ sym (eq_false end n ne)) (cases_eq end n)
+      start z w lt = ⊎_elim (λ (e : end ≡ n). ap (λ (i : ℕ). starts (read i)) (sym e) ∙ w.first ∙ sym (eq-eqb end n e))
+          (λ (ne : end ≢ n). let order = r.order in w.others n (omega (arith, ne)) lt ∙ sym (ne_eqb end n ne)) (cases_eq end n)
 
   -- or where all blocks were read
   pub read_all : (end n : ℕ) → n ≡ from + N → IsScanned N F read from end n → IsRingRun N F read from end

@@ -1,18 +1,11 @@
-use Rattle.std.proofs.Common.{◌≡◌, ℕ, List, Bool, true, false, true≢false, not, if◌then◌else◌, refl, sym, ap, ◌∙◌, arith}
+use Rattle.std.proofs.Common.{◌≡◌, ℕ, List, Bool, true, false, true≢false, not, refl, sym, ap, ◌∙◌, arith}
 use mathlib.Core.Bool.{beq}
 use Rattle.std.specs.Result.{is_ok}
+use Rattle.std.proofs.lemmas.Bool.{cond-true, cond-false}
 use Rattle.redo_text.specs.Reading.{block_flags, is_first, is_last}
 use Rattle.store_files.proofs.RingBlocks.{block_read, read_is_block}
 use Rattle.redo_log.proofs.run.next_of.Goals as goal
 use Rattle.redo_log.proofs.run.next_of.Goals.{then-last, else-last}
-
-if_true : (b : Bool) (x y : ℕ) → b ≡ true → x ≡ (if b then x else y)
-if_true true x y is = refl
-if_true false x y is = absurd (true≢false (sym is))
-
-if_false : (b : Bool) (x y : ℕ) → b ≡ false → y ≡ (if b then x else y)
-if_false true x y is = absurd (true≢false is)
-if_false false x y is = refl
 
 pub returns-in_default-clause-none : goal.returns-in_default-clause-none
 returns-in_default-clause-none c = λ keys n few valid starts. true≢false (ap is_ok (sym (block_read c.args.number c.args.block.now valid) ∙ c.in_default.ensures.fault))
@@ -31,5 +24,5 @@ returns-clause-some c = λ keys n.
       c.requires.few,
       read_is_block c.args.number c.args.block.now c.requires.size (λ i. omega (arith, c.type_inv.block i)) c.in-Ok.ensures.view.1,
       sym first ∙ same_bool _ _ c.if-first-begins.false,
-      elim c.if-last.branch [ then-last w ↦ w.end-is ∙ if_true _ _ _ (last ∙ w.if-last.true) | else-last w ↦ w.end-is ∙ if_false _ _ _ (last ∙ w.if-last.false) ],
+      elim c.if-last.branch [ then-last w ↦ w.end-is ∙ sym (cond-true _ _ _ (last ∙ w.if-last.true)) | else-last w ↦ w.end-is ∙ sym (cond-false _ _ _ (last ∙ w.if-last.false)) ],
     )
