@@ -1,20 +1,12 @@
 -- The changes of a text, one after another.
-use Rattle.std.proofs.Common.{◌≡◌, ◌≢◌, ℕ, ◌+◌, List, [], ◌∷◌, ◌++◌, refl, sym, ap, length, arith, subst, ◌∙◌, append_assoc, length-append}
+use Rattle.std.proofs.Common.{◌≡◌, ◌≢◌, ℕ, ◌+◌, List, [], ◌∷◌, ◌++◌, refl, sym, ap, length, subst, ◌∙◌, append_assoc, length-append}
 use Rattle.std.proofs.lemmas.List.{append-nil}
 use Rattle.redo_text.specs.declared.change.Change.{Change}
 use Rattle.redo_text.specs.Changes.{Begins, BeginsWithNone}
 use Rattle.redo_text.specs.Text.{change_text, text_of, IsAllowed, AreAllowed}
-use Rattle.redo_text.specs.declared.change.Change.TheVariants.{Put, Kind, Touch, Floor, Encrypt}
-use Rattle.redo_text.proofs.ChangeLaws.{one_rest}
+use Rattle.redo_text.proofs.ChangeLaws.{one_rest, change_some}
 use Rattle.store_files.specs.RingBlock.{IsMtrText}
 use Rattle.image_log.specs.Logs.{HasNoChangeAt}
-
-text_some : (c : Change) (rest : List ℕ) → change_text c ++ rest ≡ [] → ⊥
-text_some (Put space page at bytes) rest e = absurd (omega (arith, ap length e))
-text_some (Kind space page kind) rest e = absurd (omega (arith, ap length e))
-text_some (Touch space page) rest e = absurd (omega (arith, ap length e))
-text_some (Floor space version) rest e = absurd (omega (arith, ap length e))
-text_some (Encrypt space) rest e = absurd (omega (arith, ap length e))
 
 texts_joined : (cs : List Change) (c : Change) → text_of (cs ++ c ∷ []) ≡ text_of cs ++ change_text c
 texts_joined [] c = append-nil (change_text c)
@@ -34,7 +26,7 @@ pub reads_first : (text : List ℕ) → ReadsUpTo text [] text
 reads_first text = record { is = refl; allowed = tt; back = λ cs is. (cs, is) }
 
 behind : (rest : List ℕ) (c : Change) (new : List ℕ) (ds : List Change) → Begins rest c new → IsMtrText rest ds → (es : List Change) × IsMtrText new es
-behind rest c new [] begins is = absurd (text_some c new (sym begins.is ∙ is.is))
+behind rest c new [] begins is = absurd (change_some c new (sym begins.is ∙ is.is))
 behind rest c new (d ∷ ds) begins is =
     let other : Begins rest d (text_of ds) = record { allowed = is.allowed.0; is = is.is } in
     (ds, record { is = one_rest rest c d new (text_of ds) begins other; allowed = is.allowed.1 })

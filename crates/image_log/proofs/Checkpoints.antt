@@ -1,8 +1,9 @@
 -- The newest of two checkpoints.
-use Rattle.std.proofs.Common.{◌≡◌, ◌⊎◌, ℕ, zero, suc, ◌+◌, ◌%◌, ◌<◌, ◌≤◌, ◌&&◌, Bool, true, false, nat_eq, nat_le, ◌^◌, if◌then◌else◌, List, Option, Some, None, refl, sym, ap, subst, ◌∙◌, arith, inl, inr, ⊎_elim}
+use Rattle.std.proofs.Common.{◌≡◌, ◌⊎◌, ℕ, zero, suc, ◌+◌, ◌%◌, ◌<◌, ◌≤◌, Bool, true, false, nat_eq, nat_le, ◌^◌, if◌then◌else◌, List, Option, Some, None, refl, sym, ap, subst, ◌∙◌, arith, inl, inr, ⊎_elim}
 use Rattle.std.specs.Prelude.{codes, option_map, IfSome, IfNone}
 use Rattle.std.specs.Str.{bytes_eq}
 use Rattle.std.proofs.lemmas.Bool.Decides.{nat_tests}
+use Rattle.std.proofs.lemmas.Option.{same_Some, none-some}
 use Rattle.byte_list.specs.Bytes.{range}
 use Rattle.byte_list.specs.Fields.{be64_at}
 use Rattle.places.specs.Places.{place}
@@ -12,9 +13,6 @@ use Rattle.store_image.specs.Checkpoint.{HeldCheckpoint, side_of}
 use Rattle.image_log.specs.Logs.{checkpoint_of}
 use Rattle.image_log.specs.declared.checkpoint.RunStart.{RunStart}
 use Rattle.store_files.specs.Checkpoint.{checkpoint_in, is_checkpoint, IsNewestCheckpoint}
-
-one_some : (x y : HeldCheckpoint) → Some x ≡ Some y → x ≡ y
-one_some x y e = cc
 
 side_tested : (i : ℕ) (b : List ℕ) → is_checkpoint i b ≡ true → i ≡ side_of (be64_at b 8)
 unfolding is_checkpoint
@@ -26,7 +24,7 @@ unfolding checkpoint_in
 side_is i b c is = by (is_checkpoint i b) refl is
   where
     by : (t : Bool) → is_checkpoint i b ≡ t → (if t then Some (record { sequence = be64_at b 8; from = be64_at b 16 }) else None) ≡ Some c → i ≡ side_of c.sequence
-    by true valid e = side_tested i b valid ∙ ap (λ (d : HeldCheckpoint). side_of d.sequence) (one_some (record { sequence = be64_at b 8; from = be64_at b 16 }) c e)
+    by true valid e = side_tested i b valid ∙ ap (λ (d : HeldCheckpoint). side_of d.sequence) (same_Some (record { sequence = be64_at b 8; from = be64_at b 16 }) c e)
     by false valid e = absurd cc
 
 from_tested : (i : ℕ) (b : List ℕ) → is_checkpoint i b ≡ true → (2 ≤ be64_at b 16) × (be64_at b 16 ≤ 2 ^ 50)
@@ -47,7 +45,7 @@ unfolding checkpoint_in
 from_bounds i b c is = by (is_checkpoint i b) refl is
   where
     by : (t : Bool) → is_checkpoint i b ≡ t → (if t then Some (record { sequence = be64_at b 8; from = be64_at b 16 }) else None) ≡ Some c → (2 ≤ c.from) × (c.from ≤ 2 ^ 50)
-    by true valid e = subst (λ (d : HeldCheckpoint). (2 ≤ d.from) × (d.from ≤ 2 ^ 50)) (one_some (record { sequence = be64_at b 8; from = be64_at b 16 }) c e) (from_tested i b valid)
+    by true valid e = subst (λ (d : HeldCheckpoint). (2 ≤ d.from) × (d.from ≤ 2 ^ 50)) (same_Some (record { sequence = be64_at b 8; from = be64_at b 16 }) c e) (from_tested i b valid)
     by false valid e = absurd cc
 
 module _ (file : List ℕ) where
@@ -70,7 +68,7 @@ module _ (file : List ℕ) where
   newest_at i j c both is other = record {
     is = subst (λ (k : ℕ). at k ≡ Some c) (side_is i (place 4096 i file) c is) is;
     newest = λ k d there. ⊎_elim
-        (λ (e : k ≡ i). let same : d ≡ c = one_some d c (sym there ∙ ap at e ∙ is) in let s : d.sequence ≡ c.sequence = ap (λ (x : HeldCheckpoint). x.sequence) same in omega (arith, s))
+        (λ (e : k ≡ i). let same : d ≡ c = same_Some d c (sym there ∙ ap at e ∙ is) in let s : d.sequence ≡ c.sequence = ap (λ (x : HeldCheckpoint). x.sequence) same in omega (arith, s))
         (λ (e : k ≡ j). other d (sym (ap at e) ∙ there)) (both k (two_sides d k there));
   }
 
@@ -82,19 +80,13 @@ module _ (file : List ℕ) where
 
   pub none_newest : at 1 ≡ None → at 2 ≡ None → (c : HeldCheckpoint) → IsNewestCheckpoint file c → ⊥
   none_newest first second c newest =
-      ⊎_elim (λ (e : side_of c.sequence ≡ 1). none_some (sym first ∙ ap at (sym e) ∙ newest.is)) (λ (e : side_of c.sequence ≡ 2). none_some (sym second ∙ ap at (sym e) ∙ newest.is)) (two_sides c (side_of c.sequence) newest.is)
-    where
-      none_some : ◌≡◌ {A = Option HeldCheckpoint} None (Some c) → ⊥
-      none_some e = cc
+      ⊎_elim (λ (e : side_of c.sequence ≡ 1). none-some c (sym first ∙ ap at (sym e) ∙ newest.is)) (λ (e : side_of c.sequence ≡ 2). none-some c (sym second ∙ ap at (sym e) ∙ newest.is)) (two_sides c (side_of c.sequence) newest.is)
 
   pub only_one : (i : ℕ) (c d : HeldCheckpoint) → at i ≡ Some c → at i ≡ Some d → d ≡ c
-  only_one i c d a b = one_some d c (sym b ∙ a)
+  only_one i c d a b = same_Some d c (sym b ∙ a)
 
   pub none_there : (i : ℕ) (d : HeldCheckpoint) → at i ≡ None → at i ≡ Some d → ⊥
-  none_there i d none some = none_some (sym none ∙ some)
-    where
-      none_some : ◌≡◌ {A = Option HeldCheckpoint} None (Some d) → ⊥
-      none_some e = cc
+  none_there i d none some = none-some d (sym none ∙ some)
 
   pub newest_left : (o : Option RunStart) → at 1 ≡ None → at 2 ≡ option_map checkpoint_of o → IfSome o (λ c. IsNewestCheckpoint file (checkpoint_of c))
   newest_left (Some c) none is = newest_second (checkpoint_of c) is (λ d there. absurd (none_there 1 d none there))

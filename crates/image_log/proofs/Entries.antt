@@ -1,6 +1,5 @@
 -- The mini-transactions of a run, one after another; and why a log says nothing.
-use Rattle.std.proofs.Common.{◌≡◌, ◌≢◌, ℕ, suc, ◌+◌, ◌*◌, ◌<◌, ◌≤◌, List, [], ◌∷◌, ◌++◌, Some, None, drop, length, refl, sym, ap, subst, ◌∙◌, arith, append_assoc}
-use Rattle.std.specs.Prelude.{Result, Ok, Err, IfErr, IsErrAnd}
+use Rattle.std.proofs.Common.{◌≡◌, ◌≢◌, ℕ, suc, ◌+◌, ◌≤◌, List, [], ◌∷◌, ◌++◌, None, drop, refl, sym, ap, subst, ◌∙◌, append_assoc}
 use Rattle.std.proofs.lemmas.List.{append-nil}
 use Rattle.key_ring.specs.Ring.{RingEntry}
 use Rattle.redo_text.specs.declared.change.Change.{Change}
@@ -10,7 +9,7 @@ use Rattle.store_image.specs.View.{Logged}
 use Rattle.store_files.specs.Checkpoint.{IsNewestCheckpoint}
 use Rattle.store_files.specs.Header.{HeldHeader}
 use Rattle.store_files.specs.RingBlock.{IsMtrText}
-use Rattle.store_files.specs.Run.{HasText, MakeWholeMtr, MakeWholeMtrs, AreLogEntries, IsLogOf}
+use Rattle.store_files.specs.Run.{MakeWholeMtr, MakeWholeMtrs, AreLogEntries, IsLogOf}
 use Rattle.store_files.proofs.RunsOnce.{newest_one, text_one, whole_one}
 use Rattle.image_log.specs.declared.fault.LogTextFault.{LogTextFault}
 use Rattle.image_log.specs.declared.fault.LogTextFault.TheVariants.{NoCheckpoint, NoKey, NoChanges, OutOfMemory}
@@ -18,11 +17,6 @@ use Rattle.image_log.specs.Logs.{HasChanges, IsEntryIn, IsMtrFault, MeetsFault, 
 use Rattle.image_log.proofs.ChangeLists.{no_changes_of}
 use Rattle.image_log.proofs.MtrTexts.{text_keyed}
 use Rattle.image_log.proofs.WholeMtrs.{mtrs_ascend}
-
--- a fact of the error that a result has
-pub if_err : {A : Type 0} {E : Type 0} (r : Result A E) (P : E → Type 0) (e : E) → IsErrAnd r (λ x. x ≡ e) → P e → IfErr r P
-if_err (Ok x) P e is p = tt
-if_err (Err x) P e is p = subst P (sym is) p
 
 module _ (header : HeldHeader) (keys : List RingEntry) (file : List ℕ) where
   -- the first i mini-transactions of a run were read

@@ -1,15 +1,15 @@
 -- A header is its front, and what its fields say is within the limits.
-use Rattle.std.proofs.Common.{◌≡◌, ◌≢◌, ℕ, zero, suc, ◌+◌, ◌-◌, ◌<◌, ◌≤◌, ◌&&◌, ◌||◌, Bool, true, false, true≢false, nat_eq, nat_le, if◌then◌else◌, List, [], ◌∷◌, ◌++◌, length, Option, Some, None, refl, sym, ap, ◌∙◌, arith, append_assoc, nat_lt, get_or, drop, add-one}
+use Rattle.std.proofs.Common.{◌≡◌, ℕ, zero, suc, ◌+◌, ◌<◌, ◌≤◌, ◌&&◌, ◌||◌, Bool, true, false, true≢false, nat_eq, nat_le, if◌then◌else◌, List, [], ◌∷◌, ◌++◌, length, Some, None, refl, sym, ap, ◌∙◌, arith, append_assoc, nat_lt}
 use Rattle.std.specs.Prelude.{codes, ◌↔◌, IsTrue}
-use Rattle.std.proofs.Math.Seq.{drop-cons}
 use Rattle.bytes_core.specs.LastByte.{EndsInCrc32c}
 use Rattle.std.specs.Str.{bytes_eq}
 use Rattle.std.proofs.lemmas.Bool.Decides.{nat_tests}
+use Rattle.std.proofs.lemmas.Bool.{and_right as and_none}
 use Rattle.byte_list.specs.Bytes.{range}
 use Rattle.byte_list.specs.Fields.{be32_at}
 use Rattle.page_places.specs.Texts.{ends_in_sum}
 use Rattle.page_places.proofs.Sums.{and_left, and_right, not_true, ends_in_sum-ends, ends-ends_in_sum}
-use Rattle.store_files.specs.Header.{HeldHeader, HeldSpace, are_allowed, header_fields, are_in_order, pages_together, header_in, is_header, spaces_at}
+use Rattle.store_files.specs.Header.{HeldHeader, HeldSpace, are_allowed, header_fields, are_in_order, header_in, is_header, spaces_at}
 use Rattle.image_log.specs.Headers.{is_front}
 
 five : (a b c d e f : Bool) → (a && (b && (c && (d && (e && f))))) ≡ ((a && (b && (c && (d && e)))) && f)
@@ -34,12 +34,8 @@ some_by b front allowed = ap (λ (t : Bool). if t then Some (header_fields b) el
 pub no_front : (b : List ℕ) → is_front b ≡ false → header_in b ≡ None
 no_front b isnt = none_by b (header_split b ∙ ap (λ (t : Bool). t && are_allowed (header_fields b)) isnt)
 
-and_false : (a : Bool) → (a && false) ≡ false
-and_false true = refl
-and_false false = refl
-
 pub not_allowed : (b : List ℕ) → are_allowed (header_fields b) ≡ false → header_in b ≡ None
-not_allowed b isnt = none_by b (header_split b ∙ ap (λ (t : Bool). is_front b && t) isnt ∙ and_false (is_front b))
+not_allowed b isnt = none_by b (header_split b ∙ and_none (is_front b) (are_allowed (header_fields b)) isnt)
 
 pub length-spaces : (b : List ℕ) (at n : ℕ) → length (spaces_at b at n) ≡ n
 unfolding spaces_at
@@ -69,20 +65,6 @@ pub no_spaces : (b : List ℕ) (at n : ℕ) → n ≡ 0 → spaces_at b at n ≡
 unfolding spaces_at
 no_spaces b at n is = ap (spaces_at b at) is
 
--- an element of a list, and those behind it
-pub drop_item : {A : Type 0} (xs : List A) (i : ℕ) (x : A) → i < length xs → x ≡ get_or xs i x → drop i xs ≡ x ∷ drop (i + 1) xs
-drop_item xs i x lt is = drop-cons xs i x lt ∙ ap (λ y. y ∷ drop (suc i) xs) (sym is) ∙ ap (λ (k : ℕ). x ∷ drop k xs) (sym (add-one i))
-
--- nothing is behind the last
-pub drop_none : {A : Type 0} (xs : List A) (i : ℕ) → length xs ≤ i → drop i xs ≡ []
-drop_none {A} [] i le = by i
-  where
-    by : (i : ℕ) → ◌≡◌ {A = List A} (drop i []) []
-    by zero = refl
-    by (suc i) = refl
-drop_none {A} (x ∷ xs) zero le = absurd (omega (arith, le))
-drop_none {A} (x ∷ xs) (suc i) le = drop_none xs i (omega (arith, le))
-
 four : (a b c d r : Bool) → (a && (b && (c && (d && r)))) ≡ ((a && (b && (c && d))) && r)
 four true true true d r = refl
 four true true false d r = refl
@@ -93,18 +75,6 @@ pub order_cons : (id : ℕ) (s : HeldSpace) (ss : List HeldSpace)
     → are_in_order id (s ∷ ss) ≡ ((nat_lt id s.space && (nat_le s.space 4294967279 && (nat_le 2 s.pages && nat_le 1 s.key_id))) && are_in_order s.space ss)
 unfolding are_in_order
 order_cons id s ss = four (nat_lt id s.space) (nat_le s.space 4294967279) (nat_le 2 s.pages) (nat_le 1 s.key_id) (are_in_order s.space ss)
-
-pub order_none : (id : ℕ) → are_in_order id [] ≡ true
-unfolding are_in_order
-order_none id = refl
-
-pub pages_cons : (s : HeldSpace) (ss : List HeldSpace) → pages_together (s ∷ ss) ≡ s.pages + pages_together ss
-unfolding pages_together
-pages_cons s ss = refl
-
-pub pages_none : pages_together [] ≡ 0
-unfolding pages_together
-pages_none = refl
 
 -- ---- a test of a checksum
 

@@ -1,7 +1,8 @@
 -- The text of a mini-transaction, block by block.
-use Rattle.std.proofs.Common.{◌≡◌, ◌≢◌, ℕ, zero, suc, ◌+◌, ◌-◌, ◌<◌, ◌≤◌, List, [], ◌∷◌, ◌++◌, Option, Some, None, refl, sym, ap, subst, ◌∙◌, arith, append_assoc, ⊎_elim}
+use Rattle.std.proofs.Common.{◌≡◌, ◌≢◌, ℕ, zero, suc, ◌+◌, ◌-◌, ◌<◌, ◌≤◌, List, [], ◌++◌, Some, None, refl, sym, ap, subst, ◌∙◌, arith, append_assoc, ⊎_elim}
 use Rattle.std.proofs.lemmas.Bool.{cases_lt}
 use Rattle.std.proofs.lemmas.List.{append-nil}
+use Rattle.std.proofs.lemmas.Option.{none-some}
 use Rattle.key_ring.specs.Ring.{RingEntry}
 use Rattle.key_ring.specs.Local.{local_key}
 use Rattle.redo_text.specs.Reading.{block_version}
@@ -41,9 +42,6 @@ module _ (header : HeldHeader) (keys : List RingEntry) (file : List ℕ) where
   front : (n k m : ℕ) (local rest : List ℕ) → k ≡ suc m → local_key keys 1 (block_version (here n)) header.salt ≡ Some local → HasText header keys file (n + 1) m rest → HasText header keys file n k (block_text header.algorithm local (here n) ++ rest)
   front n k m local rest is key has = subst (λ (j : ℕ). HasText header keys file n j (block_text header.algorithm local (here n) ++ rest)) (sym is) (local, rest, key, has, refl)
 
-  none_some : (local : List ℕ) → ◌≡◌ {A = Option (List ℕ)} None (Some local) → ⊥
-  none_some local e = cc
-
   pub reads_more : (number count : ℕ) (text part : List ℕ) (i : ℕ) → i < count → Reads number count text i → IsBlockText header keys (here (number + i)) (Some part) → Reads number count (text ++ part) (i + 1)
   reads_more number count text part i lt reads (local, key, same) = record {
     more = λ rest has.
@@ -60,7 +58,7 @@ module _ (header : HeldHeader) (keys : List RingEntry) (file : List ℕ) where
         (t.0, subst (λ (n : ℕ). HasText header keys file n (count - (i + 1)) t.0) f t.1);
     keyed = λ j below.
         ⊎_elim (λ (l : j < i). reads.keyed j l)
-        (λ (ge : i ≤ j). let e : i ≡ j = omega (arith, below, ge) in subst (λ (n : ℕ). block_key header keys file (number + n) ≢ None) e (λ none. none_some local (sym none ∙ key))) (cases_lt j i);
+        (λ (ge : i ≤ j). let e : i ≡ j = omega (arith, below, ge) in subst (λ (n : ℕ). block_key header keys file (number + n) ≢ None) e (λ none. none-some local (sym none ∙ key))) (cases_lt j i);
   }
 
   pub reads_all : (number count : ℕ) (text : List ℕ) → Reads number count text count → HasText header keys file number count text
@@ -75,5 +73,5 @@ module _ (header : HeldHeader) (keys : List RingEntry) (file : List ℕ) where
   -- blocks with a text have all keys
   pub text_keyed : (n k i : ℕ) (text : List ℕ) → i < k → HasText header keys file n k text → block_key header keys file (n + i) ≢ None
   text_keyed n zero i text lt has none = absurd (omega (arith, lt))
-  text_keyed n (suc k) zero text lt (local, rest, key, has, is) none = none_some local (sym (subst (λ (m : ℕ). block_key header keys file m ≡ None) (omega arith) none) ∙ key)
+  text_keyed n (suc k) zero text lt (local, rest, key, has, is) none = none-some local (sym (subst (λ (m : ℕ). block_key header keys file m ≡ None) (omega arith) none) ∙ key)
   text_keyed n (suc k) (suc i) text lt (local, rest, key, has, is) none = text_keyed (n + 1) k i rest (omega (arith, lt)) has (subst (λ (m : ℕ). block_key header keys file m ≡ None) (omega arith) none)

@@ -1,4 +1,4 @@
-use Rattle.std.proofs.Common.{◌≡◌, ◌∙◌, sym}
+use Rattle.std.proofs.Common.{sym}
 use Rattle.page_places.proofs.Sums.{not_true}
 use Rattle.store_files.proofs.RingBlocks.{block_read, read_is_block}
 use Rattle.image_log.proofs.blocks.is_ring_block.Goals as goal

@@ -1,7 +1,6 @@
-use Rattle.std.proofs.Common.{◌≡◌, ◌∙◌, ap, sym, Option, Some, None, List, ℕ}
+use Rattle.std.proofs.Common.{◌≡◌, ◌∙◌, ap, sym, Option, List, ℕ}
 use Rattle.std.specs.Prelude.{option_map}
 use Rattle.places.specs.Places.{place}
-use Rattle.store_image.specs.Checkpoint.{HeldCheckpoint}
 use Rattle.store_files.specs.Checkpoint.{checkpoint_in}
 use Rattle.image_log.specs.Logs.{checkpoint_of}
 use Rattle.image_log.specs.declared.checkpoint.RunStart.{RunStart}

@@ -1,7 +1,10 @@
-use Rattle.std.proofs.Common.{◌≡◌, ◌∙◌, ◌&&◌, ◌+◌, ap, sym, drop, true, Bool, ℕ, List, nat_le, nat_lt, arith}
+use Rattle.std.proofs.Common.{◌∙◌, ◌&&◌, ◌+◌, ap, sym, drop, Bool, ℕ, List, arith}
+use Rattle.std.proofs.lemmas.List.{drop_all}
 use Rattle.store_files.specs.Header.{HeldSpace, are_in_order}
-use Rattle.image_log.proofs.Headers.{drop_item, drop_none, order_cons, order_none}
+use Rattle.image_log.proofs.Headers.{order_cons}
 use Rattle.image_log.proofs.header.are_in_order.Goals as goal
+use Rattle.byte_list.proofs.RangeLaws.{drop_item}
+use Rattle.store_files.proofs.SpacesInOrder.{order_none}
 
 pub returns-then-not-may_follow : goal.returns-then-not-may_follow
 returns-then-not-may_follow c =
@@ -23,4 +26,4 @@ loop-space-preserved c =
 
 pub returns : goal.returns
 returns c =
-    sym (order_none c.loop-space.id) ∙ ap (λ (l : List HeldSpace). are_in_order c.loop-space.id l) (sym (drop_none c.args.spaces.now c.loop-space.space-index (omega arith))) ∙ c.loop-space.invariant
+    sym (order_none c.loop-space.id) ∙ ap (λ (l : List HeldSpace). are_in_order c.loop-space.id l) (sym (drop_all c.loop-space.space-index c.args.spaces.now (omega arith))) ∙ c.loop-space.invariant

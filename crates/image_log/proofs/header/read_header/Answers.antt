@@ -1,6 +1,5 @@
-use Rattle.std.proofs.Common.{◌≡◌, ◌∙◌, ap, sym, Some, arith}
-use Rattle.byte_list.specs.Fields.{be32_at}
-use Rattle.store_files.specs.Header.{are_allowed, header_fields}
+use Rattle.std.proofs.Common.{◌∙◌, ap, sym, Some, arith}
+use Rattle.store_files.specs.Header.{are_allowed}
 use Rattle.image_log.proofs.Headers.{no_front, too_many, not_allowed, some_by}
 use Rattle.image_log.proofs.header.read_header.Goals as goal
 

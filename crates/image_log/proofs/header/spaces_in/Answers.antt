@@ -1,4 +1,4 @@
-use Rattle.std.proofs.Common.{◌≡◌, ◌∙◌, ◌+◌, ◌-◌, ◌*◌, ◌++◌, [], ◌∷◌, ap, sym, List, ℕ, suc, arith}
+use Rattle.std.proofs.Common.{◌≡◌, ◌∙◌, ◌+◌, ◌-◌, ◌*◌, ◌++◌, [], ◌∷◌, ap, sym, List, suc, arith}
 use Rattle.std.proofs.lemmas.List.{append-nil}
 use Rattle.store_files.specs.Header.{HeldSpace, spaces_at}
 use Rattle.image_log.proofs.Headers.{space_more, no_spaces}

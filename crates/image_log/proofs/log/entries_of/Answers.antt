@@ -1,12 +1,13 @@
-use Rattle.std.proofs.Common.{◌≡◌, ◌∙◌, ◌+◌, ◌∷◌, ◌<◌, ap, sym, subst, suc, drop, get_or, length, List, ℕ, Option, Some, None, arith, add-one, rules}
+use Rattle.std.proofs.Common.{◌≡◌, ◌+◌, ◌∷◌, ◌<◌, ap, sym, subst, suc, drop, get_or, length, List, ℕ, arith, add-one, rules}
 use Rattle.std.specs.Prelude.{IsErrAnd}
 use Rattle.std.proofs.Math.Seq.{drop-cons}
+use Rattle.std.proofs.lemmas.List.{drop_all}
+use Rattle.cause_core.proofs.Causes.{handed}
 use Rattle.redo_text.specs.declared.change.Change.{Change}
 use Rattle.store_image.specs.View.{Logged}
 use Rattle.store_files.specs.Run.{MakeWholeMtrs}
 use Rattle.image_log.specs.Logs.{IsEntryFault}
-use Rattle.image_log.proofs.Entries.{Gathers, head_whole, gathers_more, gathers_all, gathers_fault, run_fault, if_err}
-use Rattle.image_log.proofs.Headers.{drop_none}
+use Rattle.image_log.proofs.Entries.{Gathers, head_whole, gathers_more, gathers_all, gathers_fault, run_fault}
 use Rattle.image_log.proofs.log.entries_of.Goals as goal
 
 left_of : (xs ys : List ℕ) (i : ℕ) → ys ≡ xs → i < length ys → drop i xs ≡ get_or ys i 0 ∷ drop (suc i) xs
@@ -30,7 +31,7 @@ returns-in_err-entry_of-clause-fault c =
     let size = get_or c.deref-size-items.result.now i 0 in
     let left = left_of xs c.deref-size-items.result.now i c.deref-size-items.ensures.value c.loop-size-test.true in
     let met = gathers_fault c.args.header.now c.args.keys.now c.args.log.now c.args.from xs c.args.run.now.end c.loop-size.entries.items c.loop-size.first i size c.in_err-entry_of.field-0.0 c.loop-size.invariant left c.in_err-entry_of.ensures.fault in
-    if_err c.from_residual.result (IsEntryFault c.args.header.now c.args.keys.now c.args.log.now c.args.from) c.in_err-entry_of.field-0.0 is (run_fault c.args.header.now c.args.keys.now c.args.log.now c.args.from c.in_err-entry_of.field-0.0 met)
+    handed (IsEntryFault c.args.header.now c.args.keys.now c.args.log.now c.args.from) c.from_residual.result c.in_err-entry_of.field-0.0 is (run_fault c.args.header.now c.args.keys.now c.args.log.now c.args.from c.in_err-entry_of.field-0.0 met)
 
 pub loop-size-preserved : goal.loop-size-preserved
 loop-size-preserved c =
@@ -46,4 +47,4 @@ pub returns-clause-ok : goal.returns-clause-ok
 returns-clause-ok c =
     let xs = c.args.run.now.sizes.items in
     let e = ap length c.deref-size-items.ensures.value in
-    gathers_all c.args.header.now c.args.keys.now c.args.log.now c.args.from xs c.args.run.now.end c.loop-size.entries.items c.loop-size.first c.loop-size.size-index c.loop-size.invariant (drop_none xs c.loop-size.size-index (omega (arith, e)))
+    gathers_all c.args.header.now c.args.keys.now c.args.log.now c.args.from xs c.args.run.now.end c.loop-size.entries.items c.loop-size.first c.loop-size.size-index c.loop-size.invariant (drop_all c.loop-size.size-index xs (omega (arith, e)))

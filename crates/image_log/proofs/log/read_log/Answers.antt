@@ -1,13 +1,14 @@
-use Rattle.std.proofs.Common.{◌≡◌, ◌≢◌, ◌∙◌, ap, sym, subst, arith, rules, List, ℕ}
+use Rattle.std.proofs.Common.{◌≡◌, ◌≢◌, subst, arith, rules, List, ℕ}
 use Rattle.std.specs.Prelude.{IsErrAnd}
+use Rattle.cause_core.proofs.Causes.{handed}
 use Rattle.redo_text.specs.declared.change.Change.{Change}
 use Rattle.store_image.specs.Places.{LogView}
-use Rattle.store_files.specs.Run.{IsLogOf, MakeWholeMtr, MakeWholeMtrs}
+use Rattle.store_files.specs.Run.{IsLogOf, MakeWholeMtrs}
 use Rattle.image_log.specs.declared.fault.LogTextFault.{LogTextFault}
 use Rattle.image_log.specs.declared.fault.LogTextFault.TheVariants.{NoCheckpoint, OutOfMemory}
 use Rattle.image_log.specs.Logs.{IsLongest, checkpoint_of}
 use Rattle.image_log.proofs.Checkpoints.{from_bounds}
-use Rattle.image_log.proofs.Entries.{entry_fault, fault_refuses, if_err}
+use Rattle.image_log.proofs.Entries.{entry_fault, fault_refuses}
 use Rattle.image_log.proofs.log.read_log.Goals as goal
 
 pub returns-in_default-clause-never : goal.returns-in_default-clause-never
@@ -20,7 +21,7 @@ pub returns-in_err-run-clause-never : goal.returns-in_err-run-clause-never
 returns-in_err-run-clause-never c =
     let is : IsErrAnd c.from_residual-in_err-run.result (λ e. e ≡ c.in_err-run.field-0.0) = search rules in
     let fault = entry_fault c.args.header.now c.args.keys.now c.args.log.now (checkpoint_of c.in-Some.newest) c.in_err-run.field-0.0 c.in-Some.ensures.some c.in_err-run.ensures.fault in
-    if_err c.from_residual-in_err-run.result (λ (fault : LogTextFault). fault ≢ OutOfMemory → (text : LogView (List Change)) → IsLogOf c.args.header.now c.args.keys.now c.args.log.now text → ⊥) c.in_err-run.field-0.0 is
+    handed (λ (fault : LogTextFault). fault ≢ OutOfMemory → (text : LogView (List Change)) → IsLogOf c.args.header.now c.args.keys.now c.args.log.now text → ⊥) c.from_residual-in_err-run.result c.in_err-run.field-0.0 is
     (fault_refuses c.args.header.now c.args.keys.now c.args.log.now c.in_err-run.field-0.0 fault)
 
 pub returns-clause-ok : goal.returns-clause-ok

@@ -1,4 +1,4 @@
-use Rattle.std.proofs.Common.{◌≡◌, ◌+◌, ap, sym, subst, List, ℕ, arith}
+use Rattle.std.proofs.Common.{◌+◌, sym, subst, List, ℕ, arith}
 use Rattle.image_log.proofs.WholeMtrs.{Leads, leads_more, leads_run, leads_within}
 use Rattle.image_log.proofs.run.run_from.Goals as goal
 

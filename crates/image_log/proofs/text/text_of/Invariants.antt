@@ -1,4 +1,3 @@
-use Rattle.std.proofs.Common.{◌+◌, ◌-◌}
 use Rattle.image_log.proofs.MtrTexts.{Reads}
 use Rattle.image_log.proofs.text.text_of.Given as goal
 
