@@ -77,13 +77,14 @@ impl Model for LogText {
 
     ghost view = { λ l. record { from = l.from; end = l.end; run = l.run.items } };
 
-    ghost invariant = { λ l. (2 ≤ l.end) × (l.end ≤ 2 ^ 51) };
+    ghost invariant = { λ l. (2 ≤ l.end) × (l.end ≤ 2 ^ 51) × (l.from ≤ l.end) };
 }
 
 impl LogText {
     /// The number of the block that the run begins with.
     pub fn from(&self) -> u64
-        ensures { result ≡ self.now.from }
+        ensures value { result ≡ self.now.from }
+        ensures order { result ≤ self.now.end }
     {
         self.from
     }

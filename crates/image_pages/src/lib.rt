@@ -3,7 +3,8 @@
 //!
 //! 1. [`chosen_text`] answers, by the bytes of a page's home and of the doublewrite file, exactly
 //!    what `IsChosen` of store_image says: the home; else the newest copy, of several the one of
-//!    least index; else that the page is unused; or that it can't be read.
+//!    least index; else that the page is unused; or that it can't be read. [`chosen_bytes`] answers the
+//!    text itself.
 //! 2. [`live_text`] answers the text of a slot exactly where `IsLive` says that it can be read from.
 //! 3. [`recover_page`] and [`recover_head`] answer what the chosen text gives with the later changes
 //!    of the run (`PageRecovers`), or the one [`PageFault`] for which it gives nothing.
@@ -24,7 +25,7 @@ mod texts;
 pub use choosing::{Chosen, chosen_text, is_placed};
 pub use copies::{Newest, newest_copy};
 pub use fault::{PageFault, TextFault};
-pub use pages::{recover_head, recover_page};
+pub use pages::{chosen_bytes, recover_head, recover_page};
 pub use slots::{live_text, other_head_slot, other_slot};
 
 #[cfg(test)]

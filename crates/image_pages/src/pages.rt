@@ -20,8 +20,9 @@ use space_head::SpaceInfo;
 use std::alloc::Global;
 use store_model::PlainPage;
 
-// The text that a page is read from: that of its home or of a copy, or that it is unused; or nothing.
-fn chosen_bytes<'a>(
+/// The text that a page is read from: the 16384 bytes of its home or of a copy; Some of None where it
+/// is unused; None where it is read from nothing.
+pub fn chosen_bytes<'a>(
     home: &'a [u8],
     double: &'a [u8],
     space: u32,

@@ -34,7 +34,7 @@ above id (h ∷ hs) s p order is =
     by true same lower later is = let e : h.space ≡ s = grind (arith, nat_tests) in omega (arith, lower, e)
     by false same lower later is = omega (arith, lower, later is)
 
-other : (h : HeldSpace) (hs : List HeldSpace) (s p : ℕ) → are_in_order h.space hs ≡ true → has_page hs s p ≡ true → nat_eq h.space s ≡ false
+pub other : (h : HeldSpace) (hs : List HeldSpace) (s p : ℕ) → are_in_order h.space hs ≡ true → has_page hs s p ≡ true → nat_eq h.space s ≡ false
 other h hs s p order is = let lt = above h.space hs s p order is in grind (arith, nat_tests)
 
 pub if_true : {A : Type 0} (b : Bool) (x y : A) → b ≡ true → (if b then x else y) ≡ x
@@ -49,7 +49,7 @@ has_first h hs p lt =
     let below : nat_lt p h.pages ≡ true = grind (arith, nat_tests) in
     if_true (nat_eq h.space h.space) (nat_lt p h.pages) (has_page hs h.space p) own ∙ below
 
-has_rest : (h : HeldSpace) (hs : List HeldSpace) (s p : ℕ) → are_in_order h.space hs ≡ true → has_page hs s p ≡ true → has_page (h ∷ hs) s p ≡ true
+pub has_rest : (h : HeldSpace) (hs : List HeldSpace) (s p : ℕ) → are_in_order h.space hs ≡ true → has_page hs s p ≡ true → has_page (h ∷ hs) s p ≡ true
 has_rest h hs s p order is = if_false (nat_eq h.space s) (nat_lt p h.pages) (has_page hs s p) (other h hs s p order is) ∙ is
 
 same_head : (g h : HeldSpace) (gs hs : List HeldSpace) → g ∷ gs ≡ h ∷ hs → g ≡ h
@@ -63,7 +63,7 @@ drop_nil zero = refl
 drop_nil (suc i) = refl
 
 -- the store has the pages of a space that its header names
-has_at : (id : ℕ) (hs : List HeldSpace) (i : ℕ) (h : HeldSpace) (rest : List HeldSpace) (p : ℕ) → are_in_order id hs ≡ true → drop i hs ≡ h ∷ rest → p < h.pages → has_page hs h.space p ≡ true
+pub has_at : (id : ℕ) (hs : List HeldSpace) (i : ℕ) (h : HeldSpace) (rest : List HeldSpace) (p : ℕ) → are_in_order id hs ≡ true → drop i hs ≡ h ∷ rest → p < h.pages → has_page hs h.space p ≡ true
 has_at id [] i h rest p order at lt = absurd (none_head h rest (sym (drop_nil i) ∙ at))
 has_at id (g ∷ gs) zero h rest p order at lt = let e = same_head g h gs rest at in subst (λ (x : HeldSpace). has_page (g ∷ gs) x.space p ≡ true) e (has_first g gs p (let same = ap (λ (x : HeldSpace). x.pages) e in omega (arith, lt, same)))
 has_at id (g ∷ gs) (suc i) h rest p order at lt = let o = ordered id g gs order in has_rest g gs h.space p o.rest (has_at g.space gs i h rest p o.rest at lt)

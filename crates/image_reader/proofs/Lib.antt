@@ -7,3 +7,6 @@ pub mod Recovery
 pub mod Refused
 pub mod PageAnswers
 pub mod Gathering
+pub mod Additions
+pub mod NameLaws
+pub mod NamedKeys

@@ -5,3 +5,4 @@ pub mod Homes
 pub mod Spaces
 pub mod PageRefusals
 pub mod Refusals
+pub mod Naming

@@ -1,5 +1,5 @@
 // A store's files, built by hand from the words of the formats: 32 ring blocks, the ciphered space 1 of three pages and the plain space 2 of two.
-use crate::{Recovered, Refusal, SpaceFile, StoreFiles, recover};
+use crate::{Recovered, Refusal, SpaceFile, StoreFiles, named, recover};
 use aes_core::{Algorithm, BlockKey};
 use byte_list::fields::put;
 use byte_list::zero_bytes;
@@ -10,7 +10,7 @@ use std::alloc::Global;
 use std::process::Abort;
 use std::test::Fail;
 
-// The key of id 1 and version 1.
+// The key of id 1, in both versions.
 const KEY: [u8; 16] = [7; 16];
 
 const LOG_SALT: [u8; 16] = [0x20; 16];
@@ -55,9 +55,9 @@ fn write_summed(rt: &impl Abort, log: &mut [u8], place: usize, block: &mut [u8; 
     write_at(rt, log, place.saturating_mul(4096), block);
 }
 
-pub(crate) fn write_header(rt: &impl Abort, log: &mut [u8], algorithm: Algorithm) {
+pub(crate) fn write_header(rt: &impl Abort, log: &mut [u8], algorithm: Algorithm, magic: &[u8; 8]) {
     let mut block = [0; 4096];
-    write_at(rt, &mut block, 0, b"KEYSTOR1");
+    write_at(rt, &mut block, 0, magic);
     write_numbers(rt, &mut block, 8, &[2, 16384, 32, 2]);
     write_at(rt, &mut block, 24, &LOG_SALT);
     write_numbers(rt, &mut block, 40, &[1, 3, 1, 2, 2, 1]);
@@ -71,8 +71,18 @@ pub(crate) fn write_header(rt: &impl Abort, log: &mut [u8], algorithm: Algorithm
 }
 
 pub(crate) fn write_checkpoint(rt: &impl Abort, log: &mut [u8], sequence: u64, from: u64) {
+    write_checkpoint_of(rt, log, b"KEYCHK01", sequence, from);
+}
+
+pub(crate) fn write_checkpoint_of(
+    rt: &impl Abort,
+    log: &mut [u8],
+    magic: &[u8; 8],
+    sequence: u64,
+    from: u64,
+) {
     let mut block = [0; 4096];
-    write_at(rt, &mut block, 0, b"KEYCHK01");
+    write_at(rt, &mut block, 0, magic);
     write_at(rt, &mut block, 8, &sequence.to_be_bytes());
     write_at(rt, &mut block, 16, &from.to_be_bytes());
     write_sum(rt, &mut block);
@@ -108,10 +118,23 @@ pub(crate) fn write_block(
     flags: u16,
     text: &[u8],
 ) {
+    write_block_of(rt, log, algorithm, number, 1, flags, text);
+}
+
+// The ring block that names this version.
+pub(crate) fn write_block_of(
+    rt: &impl Abort,
+    log: &mut [u8],
+    algorithm: Algorithm,
+    number: u64,
+    version: u32,
+    flags: u16,
+    text: &[u8],
+) {
     assert!(rt; text.len() <= 4076);
     let mut block = [0; 4096];
     write_at(rt, &mut block, 0, &number.to_be_bytes());
-    write_numbers(rt, &mut block, 8, &[1]);
+    write_numbers(rt, &mut block, 8, &[version]);
     write_at(rt, &mut block, 12, &(text.len() as u16).to_be_bytes());
     write_at(rt, &mut block, 14, &flags.to_be_bytes());
     write_at(rt, &mut block, 16, text);
@@ -236,7 +259,7 @@ pub(crate) fn empty_store(
     algorithm: Algorithm,
 ) -> Result<Fixture, OutOfMemory> {
     let mut log = zero_bytes(alloc, 143_360)?;
-    write_header(rt, &mut log, algorithm);
+    write_header(rt, &mut log, algorithm, b"KEYSTOR1");
     write_checkpoint(rt, &mut log, 1, 2);
     let double = zero_bytes(alloc, 1_081_344)?;
     let mut one = zero_bytes(alloc, 49_152)?;
@@ -251,13 +274,36 @@ pub(crate) fn empty_store(
     })
 }
 
-// The keys of the store.
+// The keys of the store: the versions 1 and 2, of the same bytes.
 fn keys(rt: &impl Abort, alloc: Global) -> Ring {
     let mut ring = Ring::new(alloc);
-    if ring.add(1, 1, &KEY).is_err() {
-        panic!(rt; "no key");
+    for version in [1, 2] {
+        if ring.add(1, version, &KEY).is_err() {
+            panic!(rt; "no key");
+        }
     }
     ring
+}
+
+fn files_of(alloc: Global, fixture: Fixture) -> Result<StoreFiles, Fail> {
+    let mut spaces = Vec::new(alloc);
+    spaces.push(SpaceFile::new(2, fixture.two))?;
+    spaces.push(SpaceFile::new(1, fixture.one))?;
+    Ok(StoreFiles::new(fixture.log, fixture.double, spaces))
+}
+
+// The keys that files which recover need, where this version is active.
+pub(crate) fn needed(
+    rt: &impl Abort,
+    alloc: Global,
+    fixture: Fixture,
+    active: u32,
+) -> Result<Vec<(u32, u32)>, Fail> {
+    let files = files_of(alloc, fixture)?;
+    match recover(alloc, &files, &keys(rt, alloc)) {
+        Ok(found) => Ok(named(alloc, &files, &found.header, &found.log, active)?),
+        Err(refusal) => panic!(rt; "refused: {refusal}"),
+    }
 }
 
 // What the files recover to.
@@ -266,10 +312,7 @@ pub(crate) fn recovered(
     alloc: Global,
     fixture: Fixture,
 ) -> Result<Result<Recovered, Refusal>, Fail> {
-    let mut spaces = Vec::new(alloc);
-    spaces.push(SpaceFile::new(2, fixture.two))?;
-    spaces.push(SpaceFile::new(1, fixture.one))?;
-    let files = StoreFiles::new(fixture.log, fixture.double, spaces);
+    let files = files_of(alloc, fixture)?;
     Ok(recover(alloc, &files, &keys(rt, alloc)))
 }
 

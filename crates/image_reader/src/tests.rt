@@ -1,7 +1,7 @@
 // What images recover to: a row each, in both modes.
 use crate::fixture::{
     Fixture, PageHead, empty_store, page_text, put_text, recovered, write_at, write_block,
-    write_checkpoint, write_slot,
+    write_checkpoint, write_checkpoint_of, write_header, write_slot,
 };
 use crate::{Recovered, Refusal};
 use aes_core::Algorithm;
@@ -210,7 +210,7 @@ fn a_home_with_the_text_of_another_page_is_refused(rt: HostRuntime) -> Result<()
 fn a_log_without_checkpoint_is_refused(rt: HostRuntime) -> Result<(), Fail> {
     for algorithm in MODES {
         let mut store = one_put(&rt, rt.alloc(), algorithm)?;
-        write_at(&rt, &mut store.log, 8192, b"KEYCHK02");
+        write_checkpoint_of(&rt, &mut store.log, b"KEYCHK02", 1, 2);
         let found = recovered(&rt, rt.alloc(), store)?;
         assert!(rt; summary(&found) == Err(Refusal::NoCheckpoint));
     }
@@ -255,7 +255,7 @@ fn a_block_of_a_lost_tail_may_be_within_a_ring(rt: HostRuntime) -> Result<(), Fa
 fn a_header_of_another_magic_is_none(rt: HostRuntime) -> Result<(), Fail> {
     for algorithm in MODES {
         let mut store = one_put(&rt, rt.alloc(), algorithm)?;
-        write_at(&rt, &mut store.log, 0, b"KEYSTOR2");
+        write_header(&rt, &mut store.log, algorithm, b"KEYSTOR2");
         let found = recovered(&rt, rt.alloc(), store)?;
         assert!(rt; summary(&found) == Err(Refusal::NoHeader));
     }

@@ -39,4 +39,4 @@ returns-clause-ok c =
     }
 
 pub invariant_of-result : goal.invariant_of-result
-invariant_of-result c = let bounds = from_bounds _ _ _ c.in-Some.ensures.some.is in let least = bounds.0 in let le = c.in_ok-sizes.ensures.least in (omega (arith, least, le), c.in_ok-sizes.ensures.small)
+invariant_of-result c = let bounds = from_bounds _ _ _ c.in-Some.ensures.some.is in let least = bounds.0 in let le = c.in_ok-sizes.ensures.least in (omega (arith, least, le), c.in_ok-sizes.ensures.small, le)
