@@ -23,11 +23,12 @@ use Rattle.keyd_words.specs.Table.{row_of, takes}
 use Rattle.keyd_words.specs.Values.{IsSetTo, IsValueOf, IsNewSpace, pages_allowed}
 use Rattle.keyd_words.specs.Settings.{names_of, times_set, space_in_value, spaces_of, pages_of_spaces, pages_asked, IsTakenBy, AreOptionsOf, HasNeeded, AreAllOptionsOf, MayStand, IsFree, Joins, MayFollow}
 use Rattle.keyd_words.proofs.FreshLemmas.{Avoids, fresh}
-use Rattle.keyd_words.proofs.TableLemmas.{same_word, either_way, word-injective, each_small, most_from, only_space, only_needed, needed_taken, IsSmall}
+use Rattle.keyd_words.proofs.TableLemmas.{same_word, word-injective, each_small, most_from, only_space, only_needed, needed_taken, IsSmall}
 use Rattle.keyd_words.proofs.ValueLemmas.{set_space}
 use Rattle.keyd_words.proofs.SettingLemmas.{times-append, times-cons, times_same, times_other, times_one, spaces-append, spaces_some, spaces_none, pages-append, pages_some, pages_none, some_or_none, all_one, all_none, all_middle, taken_space, no_spaces, two_pages}
 use Rattle.std.specs.Str.{bytes_eq}
 use Rattle.std.proofs.lemmas.Slice.Eq.{bytes_eq-Decides}
+use Rattle.std.proofs.lemmas.Bool.{cases_Bool}
 
 -- what is asked of a value that may stand behind others is asked of a tablespace alone
 pub joins_by : (before : List NewSpace) (v : Option OptionValue) → ((x : NewSpace) → space_in_value v ≡ Some x → IsFree x.space before × (pages_of_spaces before + x.pages ≤ pages_allowed)) → Joins before v
@@ -80,7 +81,7 @@ fit_more ss s fit joins =
 limit_more : (c : Command) (ss : List OptionSetting) (s : OptionSetting) → ((f : OptionName) → times_set f ss ≤ (row_of f).most) → MayStand c (names_of ss) (spaces_of ss) s.name → (f : OptionName) → times_set f (ss ++ (s ∷ [])) ≤ (row_of f).most
 limit_more c ss s limits room f =
     let split = times-append f ss (s ∷ []) in
-    elim (either_way (bytes_eq (row_of s.name).word (row_of f).word)) [
+    elim (cases_Bool (bytes_eq (row_of s.name).word (row_of f).word)) [
       | inl equal ↦ let same : s.name ≡ f = word-injective s.name f ((bytes_eq-Decides (row_of s.name).word (row_of f).word).0 equal) in
           let more : times_set f ss < (row_of f).most = subst (λ g. times_set g ss < (row_of g).most) same room.more in
           omega (arith, split, times_one f s, more)
@@ -194,7 +195,7 @@ supplied c ss f are taken =
 supplied_if : (c : Command) (ss : List OptionSetting) (f : OptionName) → AreOptionsOf c ss
     → (more : List OptionSetting) × AreOptionsOf c (ss ++ more) × (takes f c ≡ true → 1 ≤ times_set f (ss ++ more))
 supplied_if c ss f are =
-    elim (either_way (takes f c)) [
+    elim (cases_Bool (takes f c)) [
       | inl taken ↦ let made = supplied c ss f are taken in (made.0, made.1, λ e. made.2)
       | inr not_taken ↦ ([], subst (AreOptionsOf c) (sym (append-nil ss)) are, λ e. let both : true ≡ false = sym e ∙ not_taken in cc both)
     ]

@@ -1,6 +1,7 @@
 -- Among more numbers than a list has there is one that it hasn't.
-use Rattle.std.proofs.Common.{◌≡◌, ◌≢◌, ℕ, ◌≤◌, ◌<◌, ◌⊎◌, length, arith, sym, ◌∙◌, ap, inl, inr, Bool, true, false, nat_eq, if◌then◌else◌, refl, List, [], ◌∷◌, zero, suc, subst}
+use Rattle.std.proofs.Common.{◌≡◌, ◌≢◌, ℕ, ◌≤◌, ◌<◌, ◌⊎◌, length, arith, sym, ◌∙◌, ap, inl, inr, true, false, nat_eq, if◌then◌else◌, List, [], ◌∷◌, zero, suc, subst}
 use Rattle.std.proofs.lemmas.Bool.Decides.{nat_tests}
+use Rattle.std.proofs.lemmas.Bool.{cases_Bool}
 
 -- no element is this one
 unfoldable pub Avoids : ℕ → List ℕ → Type 0
@@ -19,16 +20,12 @@ cut : (k x : ℕ) (xs : List ℕ) → nat_eq x k ≡ true → without k (x ∷ x
 unfolding without
 cut k x xs e = ap (λ b. if b then without k xs else x ∷ without k xs) e
 
-either : (b : Bool) → (b ≡ true) ⊎ (b ≡ false)
-either true = inl refl
-either false = inr refl
-
 no_longer : (k : ℕ) (xs : List ℕ) → length (without k xs) ≤ length xs
 unfolding without
 no_longer k [] = omega arith
 no_longer k (x ∷ xs) =
     let rest = no_longer k xs in
-    elim (either (nat_eq x k)) [
+    elim (cases_Bool (nat_eq x k)) [
       | inl hit ↦ let n : length (without k (x ∷ xs)) ≡ length (without k xs) = ap length (cut k x xs hit) in omega (arith, n, rest)
       | inr miss ↦ let n : length (without k (x ∷ xs)) ≡ suc (length (without k xs)) = ap length (kept k x xs miss) in omega (arith, n, rest)
     ]
@@ -41,7 +38,7 @@ look : (k : ℕ) (xs : List ℕ) → Avoids k xs ⊎ (length (without k xs) < le
 unfolding Avoids
 look k [] = inl tt
 look k (x ∷ xs) =
-    elim (either (nat_eq x k)) [
+    elim (cases_Bool (nat_eq x k)) [
       | inl hit ↦ let n : length (without k (x ∷ xs)) ≡ length (without k xs) = ap length (cut k x xs hit) in inr (omega (arith, n, no_longer k xs))
       | inr miss ↦ elim (look k xs) [
         | inl rest ↦ inl (differs x k miss, rest)
@@ -54,7 +51,7 @@ back_in : (j k : ℕ) (xs : List ℕ) → k ≢ j → Avoids j (without k xs) �
 unfolding Avoids without
 back_in j k [] other avoids = tt
 back_in j k (x ∷ xs) other avoids =
-    elim (either (nat_eq x k)) [
+    elim (cases_Bool (nat_eq x k)) [
       | inl hit ↦ let same : x ≡ k = grind (arith, nat_tests, hit) in
           (λ e. other (sym same ∙ e), back_in j k xs other (subst (Avoids j) (cut k x xs hit) avoids))
       | inr miss ↦ let both : Avoids j (x ∷ without k xs) = subst (Avoids j) (kept k x xs miss) avoids in (both.0, back_in j k xs other both.1)

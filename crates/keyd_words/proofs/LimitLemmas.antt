@@ -3,6 +3,7 @@ use Rattle.std.proofs.Common.{◌≡◌, ℕ, ◌≤◌, length, arith, sym, ◌
 use Rattle.std.specs.List.{cons_option}
 use Rattle.std.specs.Str.{bytes_eq}
 use Rattle.std.proofs.lemmas.Slice.Eq.{bytes_eq-Decides}
+use Rattle.std.proofs.lemmas.Bool.{cases_Bool}
 use Rattle.disk_model.specs.declared.calls.Choice.{Choice}
 use Rattle.keyd_words.specs.declared.command.Command.{Command}
 use Rattle.keyd_words.specs.declared.command.Command.TheVariants as command
@@ -21,7 +22,7 @@ use Rattle.keyd_words.specs.Settings.{space_in_value, spaces_of, IsTakenBy, AreA
 use Rattle.keyd_words.specs.Plans.{first_of_two, last_found, number_for, number_set, first_choices_in_value, first_choices_set, second_choices_in_value, second_choices_set, file_names, key_plan, create_plan, step_plan, run_plan, crash_plan, second_plan, drill_plan}
 use Rattle.keyd_words.specs.Words.{Says}
 use Rattle.keyd_words.specs.Limits.{IsFrom, IsFromIfSome, IsKeyPlan, IsStorePlan, IsStepPlan, IsRunPlan, IsCrashPlan, IsDrillPlan, IsWithinLimits}
-use Rattle.keyd_words.proofs.TableLemmas.{word-injective, either_way}
+use Rattle.keyd_words.proofs.TableLemmas.{word-injective}
 use Rattle.keyd_words.proofs.SettingLemmas.{some_or_none, head_of, tail_of, all_none, taken_space}
 use Rattle.keyd_words.proofs.CountLemmas.{file_count, space_count, few_files, few_spaces}
 
@@ -46,7 +47,7 @@ last_has Q P f each (x ∷ xs) all = either_there P (last_found f xs) (f x) (las
 bounded : (low high n : ℕ) (f g : OptionName) → (row_of f).form ≡ Some (form.Number low high) → IsSetTo (row_of g).form (Some (value.Number n)) → IsFromIfSome low high (if bytes_eq (row_of g).word (row_of f).word then Some n else None)
 unfolding IsSetTo IsValueOf
 bounded low high n f g is set =
-    elim (either_way (bytes_eq (row_of g).word (row_of f).word)) [
+    elim (cases_Bool (bytes_eq (row_of g).word (row_of f).word)) [
       | inl equal ↦ let same : g ≡ f = word-injective g f ((bytes_eq-Decides (row_of g).word (row_of f).word).0 equal) in
           let range : IsSetTo (Some (form.Number low high)) (Some (value.Number n)) = subst (λ x. IsSetTo x (Some (value.Number n))) (ap (λ h. (row_of h).form) same ∙ is) set in
           subst (λ b. IsFromIfSome low high (if b then Some n else None)) (sym equal) range

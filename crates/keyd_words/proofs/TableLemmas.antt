@@ -1,7 +1,8 @@
 -- The words of the table name one option each, and those of the commands one command.
-use Rattle.std.proofs.Common.{◌≡◌, ◌≢◌, ℕ, ◌≤◌, ◌<◌, ◌⊎◌, length, get_or, [], ◌∷◌, arith, sym, ◌∙◌, ap, inl, inr, Bool, true, false, nat_eq, if◌then◌else◌, refl, Option, Some}
+use Rattle.std.proofs.Common.{◌≡◌, ◌≢◌, ℕ, ◌≤◌, ◌<◌, length, get_or, [], ◌∷◌, arith, sym, ◌∙◌, ap, inl, inr, true, false, nat_eq, if◌then◌else◌, refl, Option, Some}
 use Rattle.std.specs.Str.{bytes_eq}
 use Rattle.std.proofs.lemmas.Slice.Eq.{bytes_eq-Decides}
+use Rattle.std.proofs.lemmas.Bool.{cases_Bool}
 use Rattle.keyd_words.specs.declared.command.Command.{Command}
 use Rattle.keyd_words.specs.declared.command.Command.TheVariants as command
 use Rattle.keyd_words.specs.declared.table.OptionName.{OptionName}
@@ -54,13 +55,9 @@ word-injective f g e = sym (option_in-word f) ∙ ap option_in e ∙ option_in-w
 pub same_word : (f g : OptionName) → f ≡ g → bytes_eq (row_of f).word (row_of g).word ≡ true
 same_word f g e = (bytes_eq-Decides (row_of f).word (row_of g).word).1 (ap (λ h. (row_of h).word) e)
 
-pub either_way : (b : Bool) → (b ≡ true) ⊎ (b ≡ false)
-either_way true = inl refl
-either_way false = inr refl
-
 pub other_word : (f g : OptionName) → f ≢ g → bytes_eq (row_of f).word (row_of g).word ≡ false
 other_word f g other =
-    elim (either_way (bytes_eq (row_of f).word (row_of g).word)) [
+    elim (cases_Bool (bytes_eq (row_of f).word (row_of g).word)) [
       | inl equal ↦ absurd (other (word-injective f g ((bytes_eq-Decides (row_of f).word (row_of g).word).0 equal)))
       | inr unlike ↦ unlike
     ]

@@ -13,8 +13,6 @@ use Rattle.keyd_words.specs.declared.text.NewSpace.{NewSpace}
 use Rattle.keyd_words.specs.declared.value.OptionValue.{OptionValue}
 use Rattle.keyd_words.specs.declared.value.OptionValue.TheVariants as value
 use Rattle.keyd_words.specs.Table.{Argument}
-use Rattle.std.proofs.Common.{Result, Ok, Err, IfErr}
-use Rattle.std.specs.Result.{IsErrAnd}
 use Rattle.std.specs.Borrow.{Bor}
 use Rattle.keyd_words.specs.declared.fault.SettingFault.{SettingFault}
 use Rattle.keyd_words.specs.declared.fault.SettingFault.TheVariants as fault
@@ -184,11 +182,6 @@ unfolding IsSetTo value_words
 missing_value form' None are set = absurd set
 missing_value form' (Some v) (inl none) set = let n : 1 ≡ 0 = ap length none in absurd (omega (arith, n))
 missing_value form' (Some v) (inr one) set = absurd one
-
--- an error that is handed on as it is
-pub handed : {T E : Type 0} (P : E → Type 0) (r : Result T E) (e : E) → IsErrAnd r (λ x. x ≡ e) → P e → IfErr r P
-handed P (Ok t) e is p = absurd is
-handed P (Err x) e is p = subst P (sym is) p
 
 -- of one form, the next word gives one value
 pub one_read : (f : Option ValueForm) (next : Option (Bor Argument)) (v w : Option OptionValue) → IsSmall f → AreWordsOf next v → AreWordsOf next w → IsSetTo f v → IsSetTo f w → v ≡ w

@@ -1,9 +1,9 @@
 use Rattle.std.proofs.Common.{rules, ◌≡◌, map, string_bytes, Contains, ◌∙◌, subst}
 use Rattle.std.specs.Result.{IsErrAnd}
+use Rattle.cause_core.proofs.Causes.{handed}
 use Rattle.keyd_words.specs.declared.command.Command.TheVariants as command
 use Rattle.keyd_words.specs.Plans.{key_plan, create_plan, step_plan, run_plan, drill_plan}
 use Rattle.keyd_words.specs.Words.{IsListFor, Says, IsValid, StartsWith, IsWordsFault}
-use Rattle.keyd_words.proofs.ValueLemmas.{handed}
 use Rattle.keyd_words.proofs.PlanLemmas.{told_keys, told_store, told_step, told_run, told_drill}
 use Rattle.keyd_words.proofs.PlanWords.{words_fault, asked}
 use Rattle.keyd_words.proofs.reading.read_plan.Goals as goal

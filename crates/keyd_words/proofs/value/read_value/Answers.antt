@@ -1,12 +1,13 @@
 use Rattle.std.proofs.Common.{rules, ◌≡◌, sym, subst, ap, inl, inr, [], ◌∷◌, Some, None, Option, refl}
 use Rattle.std.specs.Borrow.{Bor}
 use Rattle.std.specs.Result.{IsErrAnd}
+use Rattle.cause_core.proofs.Causes.{handed}
 use Rattle.keyd_words.specs.declared.fault.SettingFault.{SettingFault}
 use Rattle.keyd_words.specs.declared.table.ValueForm.{ValueForm}
 use Rattle.keyd_words.specs.declared.value.OptionValue.{OptionValue}
 use Rattle.keyd_words.specs.Table.{Argument}
 use Rattle.keyd_words.specs.Values.{value_words, IsSetTo, AreWordsOf, ForMisfit}
-use Rattle.keyd_words.proofs.ValueLemmas.{misfit_value, missing_value, handed}
+use Rattle.keyd_words.proofs.ValueLemmas.{misfit_value, missing_value}
 use Rattle.keyd_words.proofs.value.read_value.Goals as goal
 
 pub returns-in_default-clause-ok : goal.returns-in_default-clause-ok
