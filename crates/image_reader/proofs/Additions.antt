@@ -3,7 +3,7 @@ use Rattle.std.proofs.Common.{◌≡◌, ◌≢◌, ◌⊎◌, ℕ, zero, suc, �
 use Rattle.std.specs.Prelude.{slice_index_or, Contains}
 use Rattle.std.proofs.lemmas.Bool.{cases_lt}
 use Rattle.std.proofs.lemmas.List.{get_or_at, get_or_append_left}
-use Rattle.image_reader.specs.Naming.{Adds, AreOnce, Below}
+use Rattle.image_reader.specs.Naming.{AddsNames, AreOnce, Below}
 
 abbrev Name : Type 0
 Name = ℕ × ℕ
@@ -43,16 +43,16 @@ once_more xs x none once i j y li lj is js =
     (λ (q : (j ≡ length xs) × (y ≡ x)). p.0 ∙ sym q.0) (stands xs x y j lj js))
     (stands xs x y i li is)
 
-pub adds_push : (xs : List Name) (x : Name) → (Contains xs x → ⊥) → Adds (λ y. y ≡ x) xs (xs ++ x ∷ [])
+pub adds_push : (xs : List Name) (x : Name) → (Contains xs x → ⊥) → AddsNames (λ y. y ≡ x) xs (xs ++ x ∷ [])
 adds_push xs x none = record { keeps = kept xs x; all = added xs x; only = found xs x; once = once_more xs x none }
 
-pub adds_known : (xs : List Name) (x : Name) → Contains xs x → Adds (λ y. y ≡ x) xs xs
+pub adds_known : (xs : List Name) (x : Name) → Contains xs x → AddsNames (λ y. y ≡ x) xs xs
 adds_known xs x there = record { keeps = λ y is. is; all = λ y e. subst (λ (z : Name). Contains xs z) (sym e) there; only = λ y is. inl is; once = λ once. once }
 
-pub adds_nothing : (P : Name → Type 0) (xs : List Name) → ((x : Name) → P x → ⊥) → Adds P xs xs
+pub adds_nothing : (P : Name → Type 0) (xs : List Name) → ((x : Name) → P x → ⊥) → AddsNames P xs xs
 adds_nothing P xs none = record { keeps = λ x is. is; all = λ x p. absurd (none x p); only = λ x is. inl is; once = λ once. once }
 
-pub adds_as : (P Q : Name → Type 0) (a b : List Name) → ((x : Name) → P x → Q x) → ((x : Name) → Q x → P x) → Adds P a b → Adds Q a b
+pub adds_as : (P Q : Name → Type 0) (a b : List Name) → ((x : Name) → P x → Q x) → ((x : Name) → Q x → P x) → AddsNames P a b → AddsNames Q a b
 adds_as P Q a b to from adds = record {
   keeps = adds.keeps;
   all = λ x q. adds.all x (from x q);
@@ -60,7 +60,7 @@ adds_as P Q a b to from adds = record {
   once = adds.once;
 }
 
-pub adds_then : (P Q : Name → Type 0) (a b c : List Name) → Adds P a b → Adds Q b c → Adds (λ x. P x ⊎ Q x) a c
+pub adds_then : (P Q : Name → Type 0) (a b c : List Name) → AddsNames P a b → AddsNames Q b c → AddsNames (λ x. P x ⊎ Q x) a c
 adds_then P Q a b c first second = record {
   keeps = λ x is. second.keeps x (first.keeps x is);
   all = λ x e. ⊎_elim (λ (p : P x). second.keeps x (first.all x p)) (λ (q : Q x). second.all x q) e;
@@ -70,7 +70,7 @@ adds_then P Q a b c first second = record {
 }
 
 -- one more of a row
-pub adds_next : (P : ℕ → Name → Type 0) (n : ℕ) (a b c : List Name) → Adds (Below P n) a b → Adds (P n) b c → Adds (Below P (n + 1)) a c
+pub adds_next : (P : ℕ → Name → Type 0) (n : ℕ) (a b c : List Name) → AddsNames (Below P n) a b → AddsNames (P n) b c → AddsNames (Below P (n + 1)) a c
 adds_next P n a b c first second = adds_as (λ x. Below P n x ⊎ P n x) (Below P (n + 1)) a c to from (adds_then (Below P n) (P n) a b c first second)
   where
     to : (x : Name) → Below P n x ⊎ P n x → Below P (n + 1) x
@@ -79,5 +79,5 @@ adds_next P n a b c first second = adds_as (λ x. Below P n x ⊎ P n x) (Below 
     from : (x : Name) → Below P (n + 1) x → Below P n x ⊎ P n x
     from x (i, lt, p) = ⊎_elim (λ (l : i < n). inl (i, l, p)) (λ (ge : n ≤ i). let e : i ≡ n = omega (arith, lt, ge) in inr (subst (λ (k : ℕ). P k x) e p)) (cases_lt i n)
 
-pub adds_none : (P : ℕ → Name → Type 0) (xs : List Name) → Adds (Below P 0) xs xs
+pub adds_none : (P : ℕ → Name → Type 0) (xs : List Name) → AddsNames (Below P 0) xs xs
 adds_none P xs = adds_nothing (Below P 0) xs (λ x p. let lt = p.1 in omega (arith, lt))

@@ -18,7 +18,7 @@ use Rattle.image_pages.specs.Choosing.{page_view}
 use Rattle.image_pages.proofs.Views.{chosen_over, live_over}
 use Rattle.image_reader.specs.Files.{ImageFiles, image_of, space_bytes}
 use Rattle.image_reader.specs.HeaderSpaces.{IsSpaceAt}
-use Rattle.image_reader.specs.Naming.{Adds, AreNamed, AreOnce, Below, IsBlockName, IsChosenName, IsSlotName, IsPageNameIn, IsNameAt, IsSpaceName}
+use Rattle.image_reader.specs.Naming.{AddsNames, AreNamed, AreOnce, Below, IsBlockName, IsChosenName, IsSlotName, IsPageNameIn, IsNameAt, IsSpaceName}
 use Rattle.image_reader.proofs.HeaderSpaces.{ordered, other, has_at, has_named, some_named, if_true, if_false}
 use Rattle.image_reader.proofs.Passes.{drop_none}
 use Rattle.image_reader.proofs.Takes.{none_item, same_item, drop_nil}
@@ -127,7 +127,7 @@ module _ (files : ImageFiles) (header : HeldHeader) (log : LogView (List Change)
       let moved = subst (λ (z : ℕ). IsLive (page_view (place 16384 p (space_bytes files.spaces z)) files.double) z p j t) f.id one in
       inr (inr (f.index, below_length header.spaces f.index f.space _ f.is, (f.space, f.is, inr (p, f.within, inr (j, live.copy.within, (t, moved, (clear, pair _ _ _ _ (ids ∙ key) versions)))))))
 
-  pub named_of : (a b c d : List (ℕ × ℕ)) → a ≡ [] → Adds Blocks a b → Adds (λ x. x ≡ (1, active)) b c → Adds Spaces c d → AreNamed (image_of files) header log active d
+  pub named_of : (a b c d : List (ℕ × ℕ)) → a ≡ [] → AddsNames Blocks a b → AddsNames (λ x. x ≡ (1, active)) b c → AddsNames Spaces c d → AreNamed (image_of files) header log active d
   named_of a b c d empty blocks own spaces = record { all = all; only = only; once = spaces.once (own.once (blocks.once none_once)) }
     where
       none_once : AreOnce a

@@ -23,7 +23,7 @@ pub record AreNamed (image : Image) (header : HeldHeader) (log : LogView (List C
   pub once : AreOnce names
 
 -- what a step adds to a list: these pairs and no others, none of them twice
-pub record Adds (P : ℕ × ℕ → Type 0) (old new : List (ℕ × ℕ)) : Type 0 where
+pub record AddsNames (P : ℕ × ℕ → Type 0) (old new : List (ℕ × ℕ)) : Type 0 where
   pub keeps : (x : ℕ × ℕ) → Contains old x → Contains new x
   pub all : (x : ℕ × ℕ) → P x → Contains new x
   pub only : (x : ℕ × ℕ) → Contains new x → Contains old x ⊎ P x

@@ -3,7 +3,7 @@ ghost use Rattle.std.specs.Prelude.{◌≡◌, ◌≤◌, ◌<◌, ◌+◌, ◌*
 ghost use Rattle.byte_list.specs.Fields.{be32_at};
 ghost use Rattle.crash_image.specs.Recovers.{AreLong, HasHeader};
 ghost use Rattle.image_reader.specs.Files.{image_of, space_bytes};
-ghost use Rattle.image_reader.specs.Naming.{Adds, AreNamed, Below, IsBlockName, IsChosenName, IsNameAt, IsPageName, IsPageNameIn, IsSlotName, IsSpaceName, IsTextName};
+ghost use Rattle.image_reader.specs.Naming.{AddsNames, AreNamed, Below, IsBlockName, IsChosenName, IsNameAt, IsPageName, IsPageNameIn, IsSlotName, IsSpaceName, IsTextName};
 
 use crate::files::StoreFiles;
 use byte_list::fields::be32_at;
@@ -25,7 +25,7 @@ fn has_name(names: &[(u32, u32)], id: u32, version: u32) -> bool
 }
 
 fn add(names: &mut Vec<(u32, u32)>, id: u32, version: u32) -> Result<(), OutOfMemory>
-    ensures { OnOk result (Adds (λ x. x ≡ (id, version)) names.old.items names.new.items) }
+    ensures { OnOk result (AddsNames (λ x. x ≡ (id, version)) names.old.items names.new.items) }
 {
     if has_name(names, id, version) {
         return Ok(());
@@ -37,7 +37,7 @@ fn add(names: &mut Vec<(u32, u32)>, id: u32, version: u32) -> Result<(), OutOfMe
 // Adds the key of a page text, where it isn't in clear.
 fn add_text(names: &mut Vec<(u32, u32)>, id: u32, text: &[u8]) -> Result<(), OutOfMemory>
     requires { length text.now ≡ 16384 }
-    ensures { OnOk result (Adds (IsTextName id (be32_at text.now 0)) names.old.items names.new.items) }
+    ensures { OnOk result (AddsNames (IsTextName id (be32_at text.now 0)) names.old.items names.new.items) }
 {
     let version = be32_at(text, 0);
     if version == 0 {
@@ -56,7 +56,7 @@ fn add_chosen(
 ) -> Result<(), OutOfMemory>
     requires home { length home.now ≡ 16384 }
     requires double { length double.now ≡ 64 * 16896 }
-    ensures { OnOk result (Adds (IsChosenName home.now double.now space page id) names.old.items names.new.items) }
+    ensures { OnOk result (AddsNames (IsChosenName home.now double.now space page id) names.old.items names.new.items) }
 {
     let Some(chosen) = chosen_bytes(home, double, space, page) else {
         return Ok(());
@@ -79,7 +79,7 @@ fn add_slot(
     requires home { length home.now ≡ 16384 }
     requires double { length double.now ≡ 64 * 16896 }
     requires index { index < 64 }
-    ensures { OnOk result (Adds (IsSlotName home.now double.now space page id index) names.old.items names.new.items) }
+    ensures { OnOk result (AddsNames (IsSlotName home.now double.now space page id index) names.old.items names.new.items) }
 {
     match live_text(home, double, space, page, index) {
         Some(text) => add_text(names, id, text),
@@ -97,7 +97,7 @@ fn add_slots(
 ) -> Result<(), OutOfMemory>
     requires home { length home.now ≡ 16384 }
     requires double { length double.now ≡ 64 * 16896 }
-    ensures { OnOk result (Adds (Below (IsSlotName home.now double.now space page id) 64) names.old.items names.new.items) }
+    ensures { OnOk result (AddsNames (Below (IsSlotName home.now double.now space page id) 64) names.old.items names.new.items) }
 {
     for index in 0..64 {
         add_slot(names, id, home, double, space, page, index)?;
@@ -115,7 +115,7 @@ fn add_page(
 ) -> Result<(), OutOfMemory>
     requires home { length home.now ≡ 16384 }
     requires double { length double.now ≡ 64 * 16896 }
-    ensures { OnOk result (Adds (IsPageName home.now double.now space page id) names.old.items names.new.items) }
+    ensures { OnOk result (AddsNames (IsPageName home.now double.now space page id) names.old.items names.new.items) }
 {
     add_chosen(names, id, home, double, space, page)?;
     add_slots(names, id, home, double, space, page)
@@ -131,7 +131,7 @@ fn add_pages(
 ) -> Result<(), OutOfMemory>
     requires bytes { length bytes.now ≡ pages * 16384 }
     requires double { length double.now ≡ 64 * 16896 }
-    ensures { OnOk result (Adds (Below (IsPageNameIn bytes.now double.now space id) pages) names.old.items names.new.items) }
+    ensures { OnOk result (AddsNames (Below (IsPageNameIn bytes.now double.now space id) pages) names.old.items names.new.items) }
 {
     for page in 0..pages {
         let home = place(bytes, 16384, page as usize);
@@ -148,7 +148,7 @@ fn add_space(
 ) -> Result<(), OutOfMemory>
     requires bytes { length (space_bytes files.now.spaces space.now.space) ≡ space.now.pages * 16384 }
     requires double { length files.now.double ≡ 64 * 16896 }
-    ensures { OnOk result (Adds (IsSpaceName files.now active space.now) names.old.items names.new.items) }
+    ensures { OnOk result (AddsNames (IsSpaceName files.now active space.now) names.old.items names.new.items) }
 {
     let id = space.key_id();
     let number = space.space();
@@ -171,7 +171,7 @@ fn add_spaces(
     active: u32,
 ) -> Result<(), OutOfMemory>
     requires { AreLong (image_of files.now) header.now }
-    ensures { OnOk result (Adds (Below (IsNameAt files.now active header.now.spaces) (length header.now.spaces)) names.old.items names.new.items) }
+    ensures { OnOk result (AddsNames (Below (IsNameAt files.now active header.now.spaces) (length header.now.spaces)) names.old.items names.new.items) }
 {
     for space in header.spaces() {
         add_space(names, files, space, active)?;
@@ -190,7 +190,7 @@ fn add_blocks(
     requires long { length log.now ≡ (3 + blocks) * 4096 }
     requires some { 0 < blocks }
     requires order { from ≤ end }
-    ensures { OnOk result (Adds (Below (IsBlockName blocks log.now from) end) names.old.items names.new.items) }
+    ensures { OnOk result (AddsNames (Below (IsBlockName blocks log.now from) end) names.old.items names.new.items) }
 {
     for number in from..end {
         add(names, 1, be32_at(block_at(log, blocks, number), 8))?;

@@ -1,5 +1,5 @@
 use Rattle.std.proofs.Common.{◌≡◌, ℕ, subst, arith}
-use Rattle.image_reader.specs.Naming.{Adds, Below, IsSlotName}
+use Rattle.image_reader.specs.Naming.{AddsNames, Below, IsSlotName}
 use Rattle.image_reader.proofs.Additions.{adds_none, adds_next}
 use Rattle.image_reader.proofs.naming.add_slots.Goals as goal
 
@@ -10,4 +10,4 @@ pub loop-index-preserved : goal.loop-index-preserved
 loop-index-preserved c = adds_next (IsSlotName c.args.home.now c.args.double.now c.args.space c.args.page c.args.id) c.loop-index.index _ _ _ c.loop-index.invariant c.in_ok-add_slot.ensures
 
 pub returns : goal.returns
-returns c = let e : c.loop-index.index ≡ 64 = omega arith in subst (λ (n : ℕ). Adds (Below (IsSlotName c.args.home.now c.args.double.now c.args.space c.args.page c.args.id) n) c.args.names.now.items c.loop-index.names.items) e c.loop-index.invariant
+returns c = let e : c.loop-index.index ≡ 64 = omega arith in subst (λ (n : ℕ). AddsNames (Below (IsSlotName c.args.home.now c.args.double.now c.args.space c.args.page c.args.id) n) c.args.names.now.items c.loop-index.names.items) e c.loop-index.invariant

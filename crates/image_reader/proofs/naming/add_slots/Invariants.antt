@@ -1,5 +1,5 @@
-use Rattle.image_reader.specs.Naming.{Adds, Below, IsSlotName}
+use Rattle.image_reader.specs.Naming.{AddsNames, Below, IsSlotName}
 use Rattle.image_reader.proofs.naming.add_slots.Given as goal
 
 abbrev pub invariant-loop-index : goal.invariant-loop-index
-invariant-loop-index l = Adds (Below (IsSlotName l.home l.double l.space l.page l.id) l.index) l.fn.names.items l.names.items
+invariant-loop-index l = AddsNames (Below (IsSlotName l.home l.double l.space l.page l.id) l.index) l.fn.names.items l.names.items

@@ -2,7 +2,7 @@ use Rattle.std.proofs.Common.{◌≡◌, ◌+◌, ◌*◌, ◌∷◌, ℕ, List,
 use Rattle.store_files.specs.Header.{HeldSpace}
 use Rattle.crash_image.specs.Recovers.{SpacesLong}
 use Rattle.image_reader.specs.Files.{image_of}
-use Rattle.image_reader.specs.Naming.{Adds, Below, IsNameAt}
+use Rattle.image_reader.specs.Naming.{AddsNames, Below, IsNameAt}
 use Rattle.image_reader.proofs.Additions.{adds_none}
 use Rattle.image_reader.proofs.Firsts.{long_named}
 use Rattle.image_reader.proofs.NameLaws.{name_adds}
@@ -31,4 +31,4 @@ pub returns : goal.returns
 returns c =
     let same = ap length c.spaces-space-items.ensures in
     let e : c.loop-space.space-index ≡ length c.args.header.now.spaces = omega (arith, same) in
-    subst (λ (n : ℕ). Adds (Below (IsNameAt c.args.files.now c.args.active c.args.header.now.spaces) n) c.args.names.now.items c.loop-space.names.items) e c.loop-space.invariant
+    subst (λ (n : ℕ). AddsNames (Below (IsNameAt c.args.files.now c.args.active c.args.header.now.spaces) n) c.args.names.now.items c.loop-space.names.items) e c.loop-space.invariant

@@ -1,7 +1,7 @@
 use Rattle.std.proofs.Common.{◌≡◌, ◌≤◌, ◌<◌, ℕ, List, sym, subst, arith}
 use Rattle.places.specs.Places.{place}
 use Rattle.store_files.proofs.ContentsOnce.{header_order}
-use Rattle.image_reader.specs.Naming.{Adds, Below, IsBlockName}
+use Rattle.image_reader.specs.Naming.{AddsNames, Below, IsBlockName}
 use Rattle.image_reader.proofs.HeaderBounds.{header_blocks}
 use Rattle.image_reader.proofs.NamedKeys.{named_of}
 use Rattle.image_reader.proofs.naming.named.Goals as goal
@@ -15,8 +15,8 @@ add_blocks-requires-clause-some c =
 pub add_blocks-requires-clause-order : goal.add_blocks-requires-clause-order
 add_blocks-requires-clause-order c = let order = c.from.ensures.order in let end = c.end.ensures.value in omega (arith, order, end)
 
-blocks_moved : (n m : ℕ) (a b : List ℕ) (f g e d : ℕ) (old new : List (ℕ × ℕ)) → n ≡ m → a ≡ b → f ≡ g → e ≡ d → Adds (Below (IsBlockName n a f) e) old new → Adds (Below (IsBlockName m b g) d) old new
-blocks_moved n m a b f g e d old new nm ab fg ed adds = subst (λ (X : Type 0). X) (λ i. Adds (Below (IsBlockName (nm i) (ab i) (fg i)) (ed i)) old new) adds
+blocks_moved : (n m : ℕ) (a b : List ℕ) (f g e d : ℕ) (old new : List (ℕ × ℕ)) → n ≡ m → a ≡ b → f ≡ g → e ≡ d → AddsNames (Below (IsBlockName n a f) e) old new → AddsNames (Below (IsBlockName m b g) d) old new
+blocks_moved n m a b f g e d old new nm ab fg ed adds = subst (λ (X : Type 0). X) (λ i. AddsNames (Below (IsBlockName (nm i) (ab i) (fg i)) (ed i)) old new) adds
 
 pub returns : goal.returns
 returns c =
