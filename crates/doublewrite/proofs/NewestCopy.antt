@@ -152,9 +152,6 @@ module _ {M : Type 0} (v : View M) (s : List Event) (info : SpaceInfo) (p : ℕ)
   best : Best s z p 64 (newest (copies_to 64 s) z p)
   best = newest_is s z p 64
 
-  some_text : (a b : Text) → Some a ≡ Some b → a ≡ b
-  some_text a b is = cc
-
   no_text : is_page_text p (shown (Space z) 16384 p s) ≡ false → (t : Text) → v.home z p ≢ Holds t
   no_text torn t is = true≢false (sym (held_is p (shown (Space z) 16384 p s) t (sym home_is ∙ is)).0 ∙ torn)
 
@@ -227,8 +224,8 @@ module _ {M : Type 0} (v : View M) (s : List Event) (info : SpaceInfo) (p : ℕ)
     pub restored_chosen : (t : Text) → IsChosen v z p (Some t) → held p (shown (Space z) 16384 p m) ≡ Holds t
     restored_chosen t (Home u home is) =
         let text = held_is p (shown (Space z) 16384 p s) u (sym home_is ∙ home) in
-        ap (held p) (stays (want_text text.0)) ∙ sym home_is ∙ home ∙ ap Holds (sym (some_text t u is))
-    restored_chosen t (Copy i u none copy most first is) = from_copy i u none copy most first ∙ ap Holds (sym (some_text t u is))
+        ap (held p) (stays (want_text text.0)) ∙ sym home_is ∙ home ∙ ap Holds (sym (same_Some t u is))
+    restored_chosen t (Copy i u none copy most first is) = from_copy i u none copy most first ∙ ap Holds (sym (same_Some t u is))
     restored_chosen t (Unused home none is) = absurd (cc)
 
     -- and that of an unused page reads as it did

@@ -1,24 +1,20 @@
 -- The newest copy, slot by slot, and what the page is read from.
-use Rattle.std.proofs.Common.{◌≡◌, ◌≢◌, ◌⊎◌, ℕ, zero, suc, ◌+◌, ◌<◌, ◌≤◌, Bool, true, false, true≢false, nat_eq, nat_le, ◌&&◌, if◌then◌else◌, List, [], ◌∷◌, Option, Some, None, refl, sym, ap, subst, ◌∙◌, arith, inl, inr, ⊎_elim}
-use Rattle.std.specs.Prelude.{All}
+use Rattle.std.proofs.Common.{◌≡◌, ◌≢◌, ◌⊎◌, ℕ, ◌+◌, ◌<◌, ◌≤◌, Bool, true, false, true≢false, nat_le, if◌then◌else◌, List, Option, Some, None, refl, sym, ap, subst, ◌∙◌, arith, inl, inr, ⊎_elim}
 use Rattle.std.proofs.lemmas.Bool.{cases_lt}
 use Rattle.std.proofs.lemmas.Bool.Decides.{nat_tests}
+use Rattle.std.proofs.lemmas.Option.{same_Some}
 use Rattle.places.specs.Places.{place}
 use Rattle.store_image.specs.Groups.{copy_of}
-use Rattle.store_image.specs.View.{Text, Held, Holds, Zero, Bad, Slot, IsCopy, IsChosen, Home, Copy, Unused}
+use Rattle.store_image.specs.View.{Text, Holds, Zero, Bad, Slot, Home, Copy, Unused}
 use Rattle.page_places.specs.Texts.{held, is_page_text, text_in, are_zero}
-use Rattle.page_places.proofs.Sums.{and_left, and_right}
 use Rattle.page_places.proofs.Texts.{held-text, held_is}
-use Rattle.image_pages.specs.Choosing.{slot_in, page_view, IsCopyIn, better, IsBest, Best, IsTextChoice}
+use Rattle.image_pages.specs.Choosing.{slot_in, IsCopyIn, better, IsBest, Best, IsTextChoice}
 use Rattle.image_pages.specs.declared.choosing.Chosen.TheVariants as answer
 use Rattle.image_pages.specs.declared.copies.Newest.{Newest}
 
-same_slot : (x y : Slot) → Some x ≡ Some y → x ≡ y
-same_slot x y e = cc
-
 module _ (double : List ℕ) (s p : ℕ) where
   same_text : (t u : Text) → copy_of s p t ≡ copy_of s p u → t ≡ u
-  same_text t u e = ap (λ (y : Slot). y.text) (same_slot _ _ e)
+  same_text t u e = ap (λ (y : Slot). y.text) (same_Some _ _ e)
 
   up_to : (n j : ℕ) → j < n + 1 → (j < n) ⊎ (j ≡ n)
   up_to n j lt = ⊎_elim (λ (l : j < n). inl l) (λ (ge : n ≤ j). inr (omega (arith, lt, ge))) (cases_lt j n)
@@ -82,22 +78,6 @@ module _ (double : List ℕ) (s p : ℕ) where
       by : (b : Bool) → nat_le lsn c.lsn ≡ b → Best double s p (n + 1) (if b then Some c else Some (record { index = n; lsn = lsn }))
       by true test = let le : lsn ≤ c.lsn = grind (arith, nat_tests) in older_one n lsn t c is l le so_far
       by false test = let lt : c.lsn < lsn = grind (arith, nat_tests) in newer_one n lsn t c is l lt so_far
-
--- ---- zero bytes
-
-pub zero_bytes : (xs : List ℕ) → All (λ x. x ≡ 0) xs → are_zero xs ≡ true
-unfolding are_zero
-zero_bytes [] all = refl
-zero_bytes (x ∷ xs) all =
-    let e : x ≡ 0 = all 0 0 (omega arith) in
-    let z : nat_eq x 0 ≡ true = grind (arith, nat_tests) in
-    ap (λ (b : Bool). b && are_zero xs) z ∙ zero_bytes xs (λ k d lt. all (suc k) d (omega (arith, lt)))
-
-pub bytes_zero : (xs : List ℕ) → are_zero xs ≡ true → All (λ x. x ≡ 0) xs
-unfolding are_zero
-bytes_zero [] is k d lt = absurd (omega (arith, lt))
-bytes_zero (x ∷ xs) is zero d lt = let z : nat_eq x 0 ≡ true = and_left (nat_eq x 0) _ is in grind (arith, nat_tests)
-bytes_zero (x ∷ xs) is (suc k) d lt = bytes_zero xs (and_right (nat_eq x 0) _ is) k d (omega (arith, lt))
 
 -- ---- the choice
 

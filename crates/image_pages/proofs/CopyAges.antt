@@ -1,18 +1,15 @@
 -- Which copies can be read from.
-use Rattle.std.proofs.Common.{◌≡◌, ◌≢◌, ℕ, ◌<◌, ◌≤◌, true, false, true≢false, List, Option, Some, None, refl, sym, ap, subst, ◌∙◌, arith}
+use Rattle.std.proofs.Common.{◌≡◌, ◌≢◌, ℕ, ◌<◌, ◌≤◌, true, false, true≢false, List, Some, None, sym, ap, subst, ◌∙◌, arith}
 use Rattle.byte_list.specs.Fields.{be64_at}
 use Rattle.places.specs.Places.{place}
-use Rattle.page_places.specs.Texts.{held, is_page_text, slot_page, slot_held, text_in}
-use Rattle.page_places.proofs.Texts.{held-text, held_is, text_in-is}
+use Rattle.page_places.specs.Texts.{held, is_page_text, slot_page, text_in}
+use Rattle.page_places.proofs.Texts.{held-text, held_is, lsn_in}
 use Rattle.store_image.specs.Groups.{copy_of}
 use Rattle.store_image.specs.View.{Text, Holds, IsLive}
-use Rattle.image_pages.specs.Choosing.{slot_in, page_view, IsBest, Best}
+use Rattle.image_pages.specs.Choosing.{slot_in, page_view, Best}
 use Rattle.image_pages.specs.Recovering.{IsNewestLsn}
 use Rattle.image_pages.specs.declared.copies.Newest.{Newest}
 use Rattle.image_pages.proofs.CopyParts.{copy_text}
-
-lsn_in : (text : List ℕ) → (text_in text).lsn ≡ be64_at text 16
-lsn_in text = ap (λ (t : Text). t.lsn) (text_in-is text)
 
 module _ (home double : List ℕ) (s p lsn : ℕ) where
   no_home : is_page_text p home ≡ false → (t : Text) → held p home ≢ Holds t

@@ -1,48 +1,21 @@
 -- A body as that of a page 0, within a page of zero bytes.
-use Rattle.std.proofs.Common.{◌≡◌, ℕ, zero, suc, ◌+◌, ◌-◌, ◌≤◌, Bool, true, false, List, [], ◌∷◌, ◌++◌, length, take, drop, Option, Some, None, if◌then◌else◌, refl, sym, ap, ◌∙◌, arith, inl, inr, length-drop, append_assoc}
+use Rattle.std.proofs.Common.{◌≡◌, ℕ, ◌+◌, ◌-◌, List, ◌++◌, length, take, drop, sym, ap, ◌∙◌, arith, inl, inr, length-drop, append_assoc}
 use Rattle.std.specs.Prelude.{Result, Ok, Err}
-use Rattle.byte_list.specs.Bytes.{range, put, zeros}
+use Rattle.std.proofs.lemmas.List.{take_all}
+use Rattle.byte_list.specs.Bytes.{put}
 use Rattle.byte_list.proofs.PartLaws.{cut_at}
 use Rattle.byte_list.proofs.PutLaws.{length-put, range-put_same}
 use Rattle.byte_list.proofs.RangeLaws.{length-range}
-use Rattle.page_text.specs.Parts.{body, part_of}
-use Rattle.space_head.specs.Head.{IsAccepted, IsTyped, head_of, with_head}
-use Rattle.space_head.specs.Sizes.{IsPageSize, page_size, record_place, pages_per_extent, size_of_code}
+use Rattle.page_text.specs.Parts.{body}
+use Rattle.space_head.specs.Head.{head_of, with_head}
+use Rattle.space_head.specs.Sizes.{IsPageSize, record_place}
 use Rattle.space_head.specs.declared.fault.HeadFault.{HeadFault}
 use Rattle.space_head.specs.declared.head.SpaceHead.{SpaceHead}
 use Rattle.space_head.specs.declared.space.SpaceInfo.{SpaceInfo}
 use Rattle.space_head.proofs.Heads.{head_back}
 use Rattle.store_files.specs.Pages.{IsTypedInfo, head_of_space}
-use Rattle.store_files.proofs.HeadsOnce.{long, first_part, last_part}
-
-accepted : (info : SpaceInfo) → IsAccepted (head_of_space info) 16384
-unfolding page_size size_of_code
-accepted info = record { flags_name = refl; mode_known = by info.ciphered }
-  where
-    by : (b : Bool) → (if b then 1 else 2) ≤ 2
-    by true = omega arith
-    by false = omega arith
-
-typed : (info : SpaceInfo) → IsTypedInfo info → IsTyped (head_of_space info)
-typed info t = record {
-  space_fits = t.space_fits;
-  pages_fits = t.pages_fit;
-  flags_fits = omega arith;
-  crypt_fits = record { salt_long = t.salt_long; minimum_fits = t.floor_fits; key_id_fits = t.key_id_fits };
-}
-
-place_16384 : record_place 16384 ≡ 10428
-unfolding record_place pages_per_extent
-place_16384 = refl
-
-end_whole : (xs : List ℕ) (n : ℕ) → length xs ≤ n → take n xs ≡ xs
-end_whole [] n le = by n
-  where
-    by : (n : ℕ) → ◌≡◌ {A = List ℕ} (take n []) []
-    by zero = refl
-    by (suc n) = refl
-end_whole (x ∷ xs) zero le = absurd (omega (arith, le))
-end_whole (x ∷ xs) (suc n) le = ap (λ (l : List ℕ). x ∷ l) (end_whole xs n (omega (arith, le)))
+use Rattle.store_files.proofs.HeadsOnce.{long, first_part, last_part, head_typed, head_accepted}
+use Rattle.space_head.proofs.Places.{place_16384}
 
 -- a part in its place, where all else is the same
 joined_put : (at : ℕ) (b z w : List ℕ) → take at z ≡ take at w → drop (at + length b) z ≡ drop (at + length b) w → take at w ++ (b ++ drop (at + length b) w) ≡ w → put at b z ≡ w
@@ -66,7 +39,7 @@ module _ (z : List ℕ) (size : length z ≡ 16384) where
   written info = with_head (head_of_space info) z
 
   pub long_written : (info : SpaceInfo) → IsTypedInfo info → length (written info) ≡ length z
-  long_written info t = long (head_of_space info) z sized (typed info t)
+  long_written info t = long (head_of_space info) z sized (head_typed info t)
 
   -- all but the body of a page 0 is zero bytes
   full : (info : SpaceInfo) → IsTypedInfo info → put 38 (body (written info)) z ≡ written info
@@ -76,11 +49,11 @@ module _ (z : List ℕ) (size : length z ≡ 16384) where
       let place : record_place (length z) ≡ 10428 = ap record_place size ∙ place_16384 in
       let lb : length (body w) ≡ length w - 8 - 38 = length-range 38 (length w - 8 - 38) w (omega (arith, lw, size)) in
       let at : 38 + length (body w) ≡ length w - 8 = omega (arith, lb, lw, size) in
-      let first : take 38 z ≡ take 38 w = sym (first_part (head_of_space info) z sized (typed info t)) in
+      let first : take 38 z ≡ take 38 w = sym (first_part (head_of_space info) z sized (head_typed info t)) in
       let last : drop (length w - 8) z ≡ drop (length w - 8) w =
-      sym (end_whole (drop (length w - 8) z) 8 (omega (arith, length-drop (length w - 8) z, lw, size)))
-      ∙ sym (last_part (head_of_space info) z sized (typed info t) (length w - 8) 8 (omega (arith, place, lw, size)))
-      ∙ end_whole (drop (length w - 8) w) 8 (omega (arith, length-drop (length w - 8) w, lw, size)) in
+      sym (take_all 8 (drop (length w - 8) z) (omega (arith, length-drop (length w - 8) z, lw, size)))
+      ∙ sym (last_part (head_of_space info) z sized (head_typed info t) (length w - 8) 8 (omega (arith, place, lw, size)))
+      ∙ take_all 8 (drop (length w - 8) w) (omega (arith, length-drop (length w - 8) w, lw, size)) in
       let moved : drop (38 + length (body w)) z ≡ drop (38 + length (body w)) w = ap (λ (n : ℕ). drop n z) at ∙ last ∙ ap (λ (n : ℕ). drop n w) (sym at) in
       joined_put 38 (body w) z w first moved (ap (λ (n : ℕ). take 38 w ++ (body w ++ drop n w)) at ∙ cut_at w 38 (length w - 8) (omega (arith, lw, size)))
 
@@ -89,7 +62,7 @@ module _ (z : List ℕ) (size : length z ≡ 16384) where
 
   -- its head reads back
   pub head_read : (b : List ℕ) (info : SpaceInfo) → IsTypedInfo info → b ≡ body (written info) → head_of (put 38 b z) ≡ Ok (head_of_space info)
-  head_read b info t is = ap head_of (page_is b info t is) ∙ head_back (head_of_space info) z sized (typed info t) (rw size (accepted info))
+  head_read b info t is = ap head_of (page_is b info t is) ∙ head_back (head_of_space info) z sized (head_typed info t) (rw size (head_accepted info))
 
   none_read : (h : SpaceHead) (fault : HeadFault) → ◌≡◌ {A = Result SpaceHead HeadFault} (Err fault) (Ok h) → ⊥
   none_read h fault e = cc

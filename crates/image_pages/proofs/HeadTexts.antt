@@ -1,5 +1,5 @@
 -- The text of a page 0 and its head.
-use Rattle.std.proofs.Common.{◌≡◌, ◌≢◌, ◌⊎◌, ℕ, List, Option, Some, None, refl, sym, ap, subst, ◌∙◌, ⊎_elim}
+use Rattle.std.proofs.Common.{◌≡◌, ◌≢◌, ℕ, List, Option, Some, None, refl, sym, ap, subst, ◌∙◌, ⊎_elim}
 use Rattle.byte_list.specs.Bytes.{zeros}
 use Rattle.byte_list.specs.Fields.{be32_at, be64_at}
 use Rattle.page_text.specs.Parts.{body}
@@ -10,7 +10,7 @@ use Rattle.store_model.specs.declared.contents.PlainPage.{PlainPage}
 use Rattle.store_files.specs.Pages.{IsTypedInfo, head_of_space, head_page}
 use Rattle.store_files.proofs.HeadsOnce.{head_one}
 use Rattle.store_files.proofs.TextsOnce.{plain_one}
-use Rattle.image_pages.specs.Meaning.{IsHeadOf, IsHeadPage, IsHeadText, IsPlainOf}
+use Rattle.image_pages.specs.Meaning.{IsHeadOf, IsHeadPage, IsPlainOf}
 
 module _ (s : ℕ) (text : List ℕ) where
   pub no_plain : (o : Option PlainPage) → IsPlainOf s 0 None text o → o ≡ None → (info : SpaceInfo) → IsHeadOf s text info → ⊥

@@ -1,10 +1,10 @@
 -- The page that a text means under the keys.
-use Rattle.std.proofs.Common.{◌≡◌, ◌≢◌, ℕ, ◌<◌, List, Option, Some, None, IfSome, refl, sym, ap, subst, ◌∙◌, arith}
+use Rattle.std.proofs.Common.{◌≡◌, ℕ, ◌<◌, List, Option, Some, None, IfSome, sym, subst, ◌∙◌, arith}
 use Rattle.std.specs.Prelude.{option_map, Result, Ok, Err, IfOk}
 use Rattle.byte_list.specs.Fields.{be32_at, be64_at}
 use Rattle.key_ring.specs.Ring.{RingEntry}
 use Rattle.key_ring.specs.Local.{local_key}
-use Rattle.page_text.specs.Text.{Plain, IsText}
+use Rattle.page_text.specs.Text.{IsText}
 use Rattle.page_text.specs.declared.key.PageKey.{PageKey}
 use Rattle.page_places.specs.Texts.{text_in}
 use Rattle.store_model.specs.declared.contents.PlainPage.{PlainPage}

@@ -1,6 +1,5 @@
 -- Mini-transactions of a run that name a page.
-use Rattle.std.proofs.Common.{◌≡◌, ℕ, zero, suc, ◌<◌, ◌≤◌, get_or, true, List, [], ◌∷◌, ◌++◌, length, take, drop, refl, sym, ap, subst, ◌∙◌, arith, length-append}
-use Rattle.std.proofs.Math.Seq.{drop-cons}
+use Rattle.std.proofs.Common.{◌≡◌, ℕ, ◌+◌, true, List, [], ◌∷◌, ◌++◌, length, take, drop, sym, ap, subst, ◌∙◌, arith, length-append}
 use Rattle.std.proofs.lemmas.List.{take-append-drop}
 use Rattle.redo_text.specs.declared.change.Change.{Change}
 use Rattle.store_image.specs.View.{Logged}
@@ -29,23 +28,14 @@ skip e es s p lsn isnt n = by n.before n.is
         absurd (isnt (ap (λ (x : Logged (List Change)). x.lsn) h.0 ∙ n.lsn_is) (ap (λ (x : Logged (List Change)). mtr_names x.mtr s p) h.0 ∙ n.named))
     by (b ∷ bs) is = let h = head_of e b es (bs ++ n.entry ∷ n.behind) is in record { before = bs; entry = n.entry; behind = n.behind; is = h.1; lsn_is = n.lsn_is; named = n.named }
 
-pub named_next : (run : Run) (s p lsn i : ℕ) (e : Logged (List Change)) → NamedBehind run s p lsn i → drop i run ≡ e ∷ drop (suc i) run → (e.lsn ≡ lsn → mtr_names e.mtr s p ≡ true → ⊥) → NamedBehind run s p lsn (suc i)
-named_next run s p lsn i e before left isnt = record { behind = λ n. skip e (drop (suc i) run) s p lsn isnt (subst (λ (xs : Run). IsNamedAt xs s p lsn) left (before.behind n)) }
+pub named_next : (run : Run) (s p lsn i : ℕ) (e : Logged (List Change)) → NamedBehind run s p lsn i → drop i run ≡ e ∷ drop (i + 1) run → (e.lsn ≡ lsn → mtr_names e.mtr s p ≡ true → ⊥) → NamedBehind run s p lsn (i + 1)
+named_next run s p lsn i e before left isnt = record { behind = λ n. skip e (drop (i + 1) run) s p lsn isnt (subst (λ (xs : Run). IsNamedAt xs s p lsn) left (before.behind n)) }
 
-pub named_here : (run : Run) (s p lsn i : ℕ) (e : Logged (List Change)) → drop i run ≡ e ∷ drop (suc i) run → e.lsn ≡ lsn → mtr_names e.mtr s p ≡ true → IsNamedAt run s p lsn
+pub named_here : (run : Run) (s p lsn i : ℕ) (e : Logged (List Change)) → drop i run ≡ e ∷ drop (i + 1) run → e.lsn ≡ lsn → mtr_names e.mtr s p ≡ true → IsNamedAt run s p lsn
 named_here run s p lsn i e left at named =
-    record { before = take i run; entry = e; behind = drop (suc i) run; is = sym (take-append-drop i run) ∙ ap (λ (xs : Run). take i run ++ xs) left; lsn_is = at; named = named }
+    record { before = take i run; entry = e; behind = drop (i + 1) run; is = sym (take-append-drop i run) ∙ ap (λ (xs : Run). take i run ++ xs) left; lsn_is = at; named = named }
 
 pub none_named : (run : Run) (s p lsn i : ℕ) → NamedBehind run s p lsn i → drop i run ≡ [] → IsNamedAt run s p lsn → ⊥
 none_named run s p lsn i before none named =
     let n = before.behind named in
     let long = ap length (sym none ∙ n.is) in omega (arith, long, length-append n.before (n.entry ∷ n.behind))
-
-pub drop_item : (run : Run) (i : ℕ) (e : Logged (List Change)) → i < length run → e ≡ get_or run i e → drop i run ≡ e ∷ drop (suc i) run
-drop_item run i e lt is = drop-cons run i e lt ∙ ap (λ (d : Logged (List Change)). d ∷ drop (suc i) run) (sym is)
-
-pub drop_none : (run : Run) (i : ℕ) → length run ≤ i → drop i run ≡ []
-drop_none [] zero le = refl
-drop_none [] (suc i) le = refl
-drop_none (x ∷ xs) zero le = absurd (omega (arith, le))
-drop_none (x ∷ xs) (suc i) le = drop_none xs i (omega (arith, le))

@@ -1,8 +1,8 @@
 -- A home with the text of another page.
 use Rattle.std.proofs.Common.{◌≡◌, ℕ, true, false, true≢false, List, sym, ◌∙◌}
-use Rattle.store_image.specs.View.{Held, Holds, Zero, Bad}
+use Rattle.store_image.specs.View.{Held, Zero, Bad}
 use Rattle.page_places.specs.Placed.{IsPlaced, OwnText, ZeroBytes, Unmatched}
-use Rattle.page_places.specs.Texts.{held, is_page_text, text_in, are_zero, ends_in_sum}
+use Rattle.page_places.specs.Texts.{is_page_text, text_in, are_zero, ends_in_sum}
 use Rattle.page_places.proofs.Texts.{held-text, held_is}
 use Rattle.image_pages.proofs.Choices.{held-else}
 

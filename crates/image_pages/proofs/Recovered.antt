@@ -1,6 +1,6 @@
 -- What a page's chosen text, and a live slot, give.
-use Rattle.std.proofs.Common.{◌≡◌, ◌≢◌, ℕ, ◌*◌, ◌<◌, ◌≤◌, Bool, nat_le, if◌then◌else◌, List, [], ◌∷◌, Option, Some, None, refl, sym, ap, subst, ◌∙◌, arith}
-use Rattle.std.specs.Prelude.{Result, Ok, Err, IfErr, IsErrAnd, IsSome, option_map}
+use Rattle.std.proofs.Common.{◌≡◌, ◌≢◌, ℕ, ◌*◌, ◌<◌, ◌≤◌, nat_le, if◌then◌else◌, List, [], ◌∷◌, Option, Some, None, refl, sym, ap, subst, ◌∙◌, arith}
+use Rattle.std.specs.Prelude.{IsSome, option_map}
 use Rattle.std.specs.Borrow.{Bor}
 use Rattle.key_ring.specs.Local.{local_key}
 use Rattle.key_ring.specs.Ring.{RingEntry}
@@ -8,16 +8,16 @@ use Rattle.page_text.specs.declared.key.PageKey.{PageKey}
 use Rattle.byte_list.specs.Fields.{be32_at, be64_at}
 use Rattle.redo_text.specs.declared.change.Change.{Change}
 use Rattle.page_places.specs.Texts.{text_in}
-use Rattle.page_places.proofs.Texts.{text_in-is}
+use Rattle.page_places.proofs.Texts.{text_in-is, lsn_in}
 use Rattle.store_image.specs.Places.{LogView}
-use Rattle.store_image.specs.Recovers.{PageRecovers, SlotRecovers, IsNamed, Gives, later}
+use Rattle.store_image.specs.Recovers.{PageRecovers, SlotRecovers, Gives, later}
 use Rattle.store_image.specs.View.{Text, Logged, View, IsChosen, IsLive}
 use Rattle.store_image.proofs.ChosenTexts.{chosen_one}
 use Rattle.space_head.specs.declared.space.SpaceInfo.{SpaceInfo}
 use Rattle.store_files.specs.Header.{HeldHeader}
 use Rattle.store_files.specs.Pages.{Page, Head, Unused, Used, MeansPage, key_at, key_id_of, mtr_acts}
 use Rattle.crash_image.specs.StoreTheory.{store_theory}
-use Rattle.image_pages.specs.Acting.{IsNamedAt, later_page}
+use Rattle.image_pages.specs.Acting.{later_page}
 use Rattle.image_pages.specs.Choosing.{page_view}
 use Rattle.image_pages.specs.Meaning.{IsHeadOf}
 use Rattle.image_pages.specs.Recovering.{run_view, TextGives, IsChosenIn, IsMeaningFault, IsPageFault, IsReadFrom, IsTextFault, text_key}
@@ -26,9 +26,6 @@ use Rattle.image_pages.specs.declared.fault.PageFault.TheVariants.{NotChosen, Te
 use Rattle.image_pages.specs.declared.fault.TextFault.{TextFault}
 use Rattle.image_pages.specs.declared.fault.TextFault.TheVariants.{BehindTheRun, NoKey, NotItsText, UnusedHead}
 use Rattle.image_pages.proofs.Views.{chosen_over, live_over}
-
-pub lsn_in : (text : List ℕ) → (text_in text).lsn ≡ be64_at text 16
-lsn_in text = ap (λ (t : Text). t.lsn) (text_in-is text)
 
 module _ (header : HeldHeader) (keys : List RingEntry) (salts : ℕ → List ℕ) where
   pub later_is : (lsn : ℕ) (run : List (Logged (List Change))) (s p : ℕ) (x : Page) → later_page lsn run s p x ≡ later (store_theory header keys salts) lsn run s p x
@@ -128,10 +125,6 @@ unfolding text_in
 no_head_means header keys salts s text none (Head info) (z, space, typed, is) = none info (record { space = space; typed = typed; is_text = is })
 no_head_means header keys salts s text none Unused m = m
 no_head_means header keys salts s text none (Used page) m = m.0 refl
-
-pub if_err : {A : Type 0} {E : Type 0} (r : Result A E) (P : E → Type 0) (e : E) → IsErrAnd r (λ x. x ≡ e) → P e → IfErr r P
-if_err (Ok x) P e is p = tt
-if_err (Err x) P e is p = subst P (sym is) p
 
 pub chosen_some : (home double : List ℕ) (s p : ℕ) (found : Option (Option (Bor (List ℕ)))) (o : Option (Bor (List ℕ))) (text : Bor (List ℕ)) → IsChosenIn home double s p found → found ≡ Some o → o ≡ Some text → IsChosen (page_view home double) s p (Some (text_in text.now))
 chosen_some home double s p found o text is there some = (subst (λ (q : Option (Option (Bor (List ℕ)))). IsChosenIn home double s p q) (there ∙ ap Some some) is).1

@@ -1,6 +1,7 @@
 -- Whether a text gives what a page holds, and what follows for a live slot.
-use Rattle.std.proofs.Common.{◌≡◌, ◌≢◌, ◌⊎◌, ℕ, ◌+◌, ◌<◌, ◌≤◌, Bool, true, false, List, Option, Some, None, refl, sym, ap, subst, ◌∙◌, arith, ⊎_elim}
+use Rattle.std.proofs.Common.{◌≡◌, ℕ, ◌+◌, ◌<◌, ◌≤◌, Bool, true, false, List, refl, sym, ap, subst, ◌∙◌, arith, ⊎_elim}
 use Rattle.std.proofs.lemmas.Bool.{cases_lt}
+use Rattle.std.proofs.lemmas.Option.{same_Some}
 use Rattle.byte_list.specs.Fields.{be64_at}
 use Rattle.key_ring.specs.Ring.{RingEntry}
 use Rattle.page_places.specs.Texts.{text_in}
@@ -9,25 +10,14 @@ use Rattle.store_image.specs.Groups.{copy_of}
 use Rattle.store_image.specs.Places.{LogView}
 use Rattle.store_image.specs.Recovers.{SlotRecovers}
 use Rattle.store_image.specs.View.{Text, Slot, IsLive}
-use Rattle.store_model.specs.declared.contents.PlainPage.{PlainPage}
-use Rattle.space_head.specs.declared.space.SpaceInfo.{SpaceInfo}
 use Rattle.store_files.specs.Header.{HeldHeader}
-use Rattle.store_files.specs.Pages.{Page, Head, Unused, Used, MeansPage, page_held}
+use Rattle.store_files.specs.Pages.{Page, MeansPage}
 use Rattle.store_files.proofs.PageLaws.{means_one}
 use Rattle.crash_image.specs.StoreTheory.{store_theory}
 use Rattle.image_pages.specs.Acting.{IsNamedAt, later_page}
 use Rattle.image_pages.specs.Choosing.{page_view, slot_in}
 use Rattle.image_pages.specs.Recovering.{run_view, TextGives, GivesPage, SlotAgrees, SlotDiffers, AgreeBelow}
 use Rattle.image_pages.proofs.Recovered.{live_run, live_page, slot_recovers, slot_gives}
-
-pub one_held : (a b : Option PlainPage) → page_held a ≡ page_held b → a ≡ b
-one_held None None e = refl
-one_held None (Some b) e = absurd (cc)
-one_held (Some a) None e = absurd (cc)
-one_held (Some a) (Some b) e = cc
-
-pub one_head : (a b : SpaceInfo) → Head a ≡ Head b → a ≡ b
-one_head a b e = cc
 
 module _ (header : HeldHeader) (keys : List RingEntry) (log : LogView (List Change)) (s p : ℕ) (salt text : List ℕ) where
   -- the text means a page, a mini-transaction of its LSN names it, and with the later changes it is y
@@ -50,10 +40,7 @@ module _ (header : HeldHeader) (keys : List RingEntry) (log : LogView (List Chan
   )
 
   one_copy : (t u : Text) → slot_in double i ≡ copy_of s p t → slot_in double i ≡ copy_of s p u → t ≡ u
-  one_copy t u a b = ap (λ (y : Slot). y.text) (same_slot _ _ (sym a ∙ b))
-    where
-      same_slot : (x y : Slot) → Some x ≡ Some y → x ≡ y
-      same_slot x y e = cc
+  one_copy t u a b = ap (λ (y : Slot). y.text) (same_Some _ _ (sym a ∙ b))
 
   pub agrees : (text : List ℕ) → IsLive (page_view home double) s p i (text_in text) → GivesPage header keys log s p salt text x true → SlotAgrees header keys log home double s p salt x i
   agrees text live gives salts same t at =

@@ -1,5 +1,5 @@
 -- What a page is read from hangs on its home and the doublewrite file alone.
-use Rattle.std.proofs.Common.{◌≡◌, ℕ, Option, refl, sym, ◌∙◌}
+use Rattle.std.proofs.Common.{◌≡◌, ℕ, Option, sym, ◌∙◌}
 use Rattle.store_image.specs.View.{Text, View, IsCopy, IsChosen, Home, Copy, Unused, IsLive}
 
 module _ {M N : Type 0} (v : View M) (w : View N) (s p : ℕ) (home : v.home s p ≡ w.home s p) (slots : (i : ℕ) → v.slot i ≡ w.slot i) where

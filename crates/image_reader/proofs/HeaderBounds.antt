@@ -3,14 +3,12 @@ use Rattle.std.proofs.Common.{◌≡◌, ℕ, ◌≤◌, ◌||◌, Bool, true, f
 use Rattle.std.specs.Prelude.{codes}
 use Rattle.std.specs.Str.{bytes_eq}
 use Rattle.std.proofs.lemmas.Bool.Decides.{nat_tests}
+use Rattle.std.proofs.lemmas.Option.{same_Some}
 use Rattle.byte_list.specs.Bytes.{range}
 use Rattle.byte_list.specs.Fields.{be32_at}
 use Rattle.page_places.specs.Texts.{ends_in_sum}
 use Rattle.page_places.proofs.Sums.{and_left, and_right}
 use Rattle.store_files.specs.Header.{HeldHeader, header_in, header_fields, is_header, are_allowed}
-
-one_some : (x y : HeldHeader) → Some x ≡ Some y → x ≡ y
-one_some x y e = cc
 
 fields_allowed : (b : List ℕ) → is_header b ≡ true → are_allowed (header_fields b) ≡ true
 unfolding is_header
@@ -22,7 +20,7 @@ unfolding header_in
 allowed b h is = by (is_header b) refl is
   where
     by : (v : Bool) → is_header b ≡ v → (if v then Some (header_fields b) else None) ≡ Some h → are_allowed h ≡ true
-    by true valid e = subst (λ (x : HeldHeader). are_allowed x ≡ true) (one_some _ _ e) (fields_allowed b valid)
+    by true valid e = subst (λ (x : HeldHeader). are_allowed x ≡ true) (same_Some _ _ e) (fields_allowed b valid)
     by false valid e = absurd (cc)
 
 bounds_of : (h : HeldHeader) → are_allowed h ≡ true → (32 ≤ h.blocks) × (h.blocks ≤ 4096)

@@ -1,6 +1,7 @@
 -- Which keys the texts of a page, and a space, add.
-use Rattle.std.proofs.Common.{◌≡◌, ◌≢◌, ◌⊎◌, ℕ, ◌+◌, ◌<◌, ◌≤◌, List, ◌∷◌, drop, Option, Some, None, refl, sym, ap, subst, ◌∙◌, inl, inr, ⊎_elim}
+use Rattle.std.proofs.Common.{◌≡◌, ◌⊎◌, ℕ, ◌+◌, List, ◌∷◌, drop, Option, Some, None, sym, ap, subst, ◌∙◌}
 use Rattle.std.specs.Prelude.{Result, Ok, Err, OnOk}
+use Rattle.std.proofs.lemmas.Option.{same_Some, none-some}
 use Rattle.byte_list.specs.Fields.{be32_at}
 use Rattle.page_places.specs.Texts.{text_in}
 use Rattle.page_places.proofs.Texts.{text_in-is}
@@ -30,30 +31,21 @@ version_in text = ap (λ (t : Text). t.version) (text_in-is text)
 named_text : (id : ℕ) (t : Text) (text : List ℕ) (x : ℕ × ℕ) → t ≡ text_in text → IsTextName id t.version x → IsTextName id (be32_at text 0) x
 named_text id t text x e p = subst (λ (n : ℕ). IsTextName id n x) (ap (λ (u : Text). u.version) e ∙ version_in text) p
 
-some_text : (t u : Text) → Some t ≡ Some u → t ≡ u
-some_text t u e = cc
-
-none_text : (t : Text) → Some t ≡ None → ⊥
-none_text t e = cc
-
 module _ (home double : List ℕ) (s p id : ℕ) (a : List (ℕ × ℕ)) where
   pub chosen_adds : (b : List (ℕ × ℕ)) (text : List ℕ) → IsChosen (page_view home double) s p (Some (text_in text)) → AddsNames (IsTextName id (be32_at text 0)) a b → AddsNames (IsChosenName home double s p id) a b
   chosen_adds b text is adds =
       adds_as (IsTextName id (be32_at text 0)) (IsChosenName home double s p id) a b (λ x n. (text_in text, is, subst (λ (v : ℕ). IsTextName id v x) (sym (version_in text)) n))
-      (λ x n. named_text id n.0 text x (some_text n.0 (text_in text) (chosen_one (page_view home double) s p (Some n.0) (Some (text_in text)) n.1 is)) n.2) adds
+      (λ x n. named_text id n.0 text x (same_Some n.0 (text_in text) (chosen_one (page_view home double) s p (Some n.0) (Some (text_in text)) n.1 is)) n.2) adds
 
   pub unused_adds : IsChosen (page_view home double) s p None → AddsNames (IsChosenName home double s p id) a a
-  unused_adds is = adds_nothing (IsChosenName home double s p id) a (λ x n. none_text n.0 (chosen_one (page_view home double) s p (Some n.0) None n.1 is))
+  unused_adds is = adds_nothing (IsChosenName home double s p id) a (λ x n. none-some n.0 (sym (chosen_one (page_view home double) s p (Some n.0) None n.1 is)))
 
   pub nothing_adds : ((chosen : Option Text) → IsChosen (page_view home double) s p chosen → ⊥) → AddsNames (IsChosenName home double s p id) a a
   nothing_adds none = adds_nothing (IsChosenName home double s p id) a (λ x n. none (Some n.0) n.1)
 
   module _ (i : ℕ) where
     one_live : (t u : Text) → IsLive (page_view home double) s p i t → IsLive (page_view home double) s p i u → t ≡ u
-    one_live t u x y = ap (λ (w : Slot). w.text) (same_slot _ _ (sym x.copy.is ∙ y.copy.is))
-      where
-        same_slot : (v w : Slot) → Some v ≡ Some w → v ≡ w
-        same_slot v w e = cc
+    one_live t u x y = ap (λ (w : Slot). w.text) (same_Some _ _ (sym x.copy.is ∙ y.copy.is))
 
     pub live_adds : (b : List (ℕ × ℕ)) (text : List ℕ) → IsLive (page_view home double) s p i (text_in text) → AddsNames (IsTextName id (be32_at text 0)) a b → AddsNames (IsSlotName home double s p id i) a b
     live_adds b text is adds =

@@ -1,26 +1,24 @@
 -- The keys that were gathered are those that the image needs.
 use Rattle.std.proofs.Common.{◌≡◌, ◌≢◌, ◌⊎◌, ℕ, zero, suc, ◌+◌, ◌<◌, ◌≤◌, Bool, true, false, true≢false, nat_eq, nat_lt, if◌then◌else◌, List, [], ◌∷◌, drop, length, Some, refl, sym, ap, subst, ◌∙◌, arith, inl, inr, ⊎_elim, add-one}
-use Rattle.std.specs.Prelude.{Contains, slice_index_or}
-use Rattle.std.proofs.lemmas.Bool.{cases_lt}
+use Rattle.std.specs.Prelude.{Contains}
+use Rattle.std.proofs.lemmas.Bool.{cases_lt, cond-true, cond-false}
 use Rattle.std.proofs.lemmas.Bool.Decides.{nat_tests}
-use Rattle.disk_model.specs.declared.names.FileName.TheVariants.{Log, Space}
+use Rattle.std.proofs.lemmas.List.{drop_all}
 use Rattle.places.specs.Places.{place}
 use Rattle.page_places.specs.Views.{view}
-use Rattle.redo_text.specs.Reading.{block_version}
 use Rattle.redo_text.specs.declared.change.Change.{Change}
 use Rattle.store_image.specs.Places.{LogView}
-use Rattle.store_image.specs.View.{Text, IsChosen, IsLive}
+use Rattle.store_image.specs.View.{IsChosen, IsLive}
 use Rattle.store_files.specs.Header.{HeldHeader, HeldSpace, are_in_order}
 use Rattle.store_files.specs.Pages.{has_page, key_id_of}
-use Rattle.store_files.specs.Run.{block_at}
+use Rattle.store_files.proofs.SpacesInOrder.{ordered, other_space}
 use Rattle.crash_image.specs.Stands.{Named, OfChosen, OfSlot, OfBlock, OfLog, OfSpace}
 use Rattle.image_pages.specs.Choosing.{page_view}
 use Rattle.image_pages.proofs.Views.{chosen_over, live_over}
 use Rattle.image_reader.specs.Files.{ImageFiles, image_of, space_bytes}
 use Rattle.image_reader.specs.HeaderSpaces.{IsSpaceAt}
 use Rattle.image_reader.specs.Naming.{AddsNames, AreNamed, AreOnce, Below, IsBlockName, IsChosenName, IsSlotName, IsPageNameIn, IsNameAt, IsSpaceName}
-use Rattle.image_reader.proofs.HeaderSpaces.{ordered, other, has_at, has_named, some_named, if_true, if_false}
-use Rattle.image_reader.proofs.Passes.{drop_none}
+use Rattle.image_reader.proofs.HeaderSpaces.{has_at, has_named, some_named}
 use Rattle.image_reader.proofs.Takes.{none_item, same_item, drop_nil}
 
 -- the key id of a space that the header names
@@ -28,11 +26,11 @@ key_at_space : (id : ℕ) (hs : List HeldSpace) (i : ℕ) (h : HeldSpace) (rest 
 key_at_space id [] i h rest order at = absurd (none_item h rest (sym (drop_nil i) ∙ at))
 key_at_space id (g ∷ gs) zero h rest order at =
     let own : nat_eq g.space g.space ≡ true = grind (arith, nat_tests) in
-    subst (λ (x : HeldSpace). key_id_of (g ∷ gs) x.space ≡ x.key_id) (same_item g h gs rest at) (if_true (nat_eq g.space g.space) g.key_id (key_id_of gs g.space) own)
+    subst (λ (x : HeldSpace). key_id_of (g ∷ gs) x.space ≡ x.key_id) (same_item g h gs rest at) (cond-true (nat_eq g.space g.space) g.key_id (key_id_of gs g.space) own)
 key_at_space id (g ∷ gs) (suc i) h rest order at =
     let o = ordered id g gs order in
     let has = has_at g.space gs i h rest 0 o.rest at (some_named g.space gs i h rest o.rest at) in
-    if_false (nat_eq g.space h.space) g.key_id (key_id_of gs h.space) (other g gs h.space 0 o.rest has) ∙ key_at_space g.space gs i h rest o.rest at
+    cond-false (nat_eq g.space h.space) g.key_id (key_id_of gs h.space) (other_space g gs h.space 0 o.rest has) ∙ key_at_space g.space gs i h rest o.rest at
 
 -- the space to which a page of the store belongs
 pub record IsPageOf (hs : List HeldSpace) (s p : ℕ) : Type 0 where
@@ -54,7 +52,7 @@ page_of (h ∷ hs) s p has = by (nat_eq h.space s) refl (λ rest. page_of hs s p
     by false same later has = behind (later has)
 
 below_length : (hs : List HeldSpace) (i : ℕ) (h : HeldSpace) (rest : List HeldSpace) → drop i hs ≡ h ∷ rest → i < length hs
-below_length hs i h rest at = ⊎_elim (λ (l : i < length hs). l) (λ (ge : length hs ≤ i). absurd (none_item h rest (sym (drop_none hs i ge) ∙ at))) (cases_lt i (length hs))
+below_length hs i h rest at = ⊎_elim (λ (l : i < length hs). l) (λ (ge : length hs ≤ i). absurd (none_item h rest (sym (drop_all i hs ge) ∙ at))) (cases_lt i (length hs))
 
 module _ (files : ImageFiles) (header : HeldHeader) (log : LogView (List Change)) (active : ℕ) (order : are_in_order 0 header.spaces ≡ true) where
   abbrev Needed : ℕ → ℕ → Type 0

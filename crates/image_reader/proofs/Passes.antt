@@ -1,23 +1,9 @@
 -- A fact of a list that is shown element by element: of what is left it says what it says of all.
-use Rattle.std.proofs.Common.{◌≡◌, ℕ, zero, suc, ◌+◌, ◌<◌, ◌≤◌, List, [], ◌∷◌, drop, length, get_or, refl, sym, ap, subst, ◌∙◌, arith, add-one}
-use Rattle.std.proofs.Math.Seq.{drop-cons}
+use Rattle.std.proofs.Common.{◌≡◌, ℕ, ◌+◌, List, [], ◌∷◌, drop, sym, subst}
 
 pub record Passes {A : Type 0} (P : List A → Type 0) (xs : List A) (i : ℕ) : Type 0 where
   pub more : P (drop i xs) → P xs
   pub back : P xs → P (drop i xs)
-
--- an element of a list, and those behind it
-pub drop_item : {A : Type 0} (xs : List A) (i : ℕ) (x : A) → i < length xs → x ≡ get_or xs i x → drop i xs ≡ x ∷ drop (i + 1) xs
-drop_item xs i x lt is = drop-cons xs i x lt ∙ ap (λ y. y ∷ drop (suc i) xs) (sym is) ∙ ap (λ (k : ℕ). x ∷ drop k xs) (sym (add-one i))
-
-pub drop_none : {A : Type 0} (xs : List A) (i : ℕ) → length xs ≤ i → drop i xs ≡ []
-drop_none {A} [] i le = by i
-  where
-    by : (i : ℕ) → ◌≡◌ {A = List A} (drop i []) []
-    by zero = refl
-    by (suc i) = refl
-drop_none {A} (x ∷ xs) zero le = absurd (omega (arith, le))
-drop_none {A} (x ∷ xs) (suc i) le = drop_none xs i (omega (arith, le))
 
 module _ {A : Type 0} (P : List A → Type 0) (xs : List A) where
   pub passes_first : Passes P xs 0

@@ -1,6 +1,7 @@
 -- From what each space holds to what the image recovers to, and back.
 use Rattle.std.proofs.Common.{◌≡◌, ℕ, zero, suc, ◌+◌, ◌<◌, Bool, true, false, true≢false, nat_eq, nat_lt, if◌then◌else◌, List, [], ◌∷◌, drop, Option, Some, None, refl, sym, ap, subst, ◌∙◌, arith}
 use Rattle.std.proofs.lemmas.Bool.Decides.{nat_tests}
+use Rattle.std.proofs.lemmas.Bool.{cond-true, cond-false}
 use Rattle.key_ring.specs.Ring.{RingEntry}
 use Rattle.places.specs.Places.{place}
 use Rattle.page_places.specs.Views.{view}
@@ -11,6 +12,7 @@ use Rattle.redo_text.specs.declared.change.Change.{Change}
 use Rattle.store_model.specs.declared.contents.SpaceContents.{SpaceContents}
 use Rattle.store_files.specs.Header.{HeldHeader, HeldSpace, are_in_order}
 use Rattle.store_files.specs.Pages.{Page, page_in, pages_of, salts_of, has_page, HaveSpaces}
+use Rattle.store_files.proofs.SpacesInOrder.{ordered}
 use Rattle.crash_image.specs.StoreTheory.{store_theory}
 use Rattle.image_pages.specs.Recovering.{run_view, IsReadFrom, IsTextFault}
 use Rattle.image_pages.specs.declared.fault.TextFault.{TextFault}
@@ -19,7 +21,8 @@ use Rattle.image_pages.proofs.Views.{chosen_over, live_over}
 use Rattle.image_reader.specs.Files.{ImageFiles, space_bytes, image_of}
 use Rattle.image_reader.specs.HeaderSpaces.{IsSpaceAt}
 use Rattle.image_reader.specs.Spaces.{PageGives, SpaceGives, AllGive}
-use Rattle.image_reader.proofs.HeaderSpaces.{IsFound, ordered, found_whole, found_rest, first_has, first_page, first_salt, if_true, if_false}
+use Rattle.image_reader.proofs.HeaderSpaces.{IsFound, found_whole, found_rest, first_has, first_page, first_salt}
+use Rattle.image_reader.proofs.Takes.{none_item, same_item, drop_nil}
 
 -- the space holds nothing
 pub record SpaceHoldsNone (header : HeldHeader) (keys : List RingEntry) (log : LogView (List Change)) (bytes double : List ℕ) (h : HeldSpace) : Type 0 where
@@ -106,14 +109,14 @@ module _ (header : HeldHeader) (keys : List RingEntry) (log : LogView (List Chan
           let e : h.space ≡ s = grind (arith, nat_tests) in
           let below : p < h.pages = grind (arith, nat_tests) in
           let named : nat_eq x.info.space s ≡ true = ap (λ (n : ℕ). nat_eq n s) space ∙ is in
-          let here : salts h.space ≡ x.info.salt = ap salts e ∙ salt ∙ if_true (nat_eq x.info.space s) x.info.salt (salts_of xs s) named in
+          let here : salts h.space ≡ x.info.salt = ap salts e ∙ salt ∙ cond-true (nat_eq x.info.space s) x.info.salt (salts_of xs s) named in
           let gives = (first.any salts here).pages p below in
           let moved : PageGives header keys log (place 16384 p (space_bytes files.spaces s)) files.double salts s p (page_in x p) = subst (λ (z : ℕ). PageGives header keys log (place 16384 p (space_bytes files.spaces z)) files.double salts z p (page_in x p)) e gives in
-          subst (λ (y : Page). PageGives header keys log (place 16384 p (space_bytes files.spaces s)) files.double salts s p y) (sym (if_true (nat_eq x.info.space s) (page_in x p) (pages_of xs s p) named)) moved
+          subst (λ (y : Page). PageGives header keys log (place 16384 p (space_bytes files.spaces s)) files.double salts s p y) (sym (cond-true (nat_eq x.info.space s) (page_in x p) (pages_of xs s p) named)) moved
       by false is space later has =
           let other : nat_eq x.info.space s ≡ false = ap (λ (n : ℕ). nat_eq n s) space ∙ is in
-          let gives = later has (salt ∙ if_false (nat_eq x.info.space s) x.info.salt (salts_of xs s) other) in
-          subst (λ (y : Page). PageGives header keys log (place 16384 p (space_bytes files.spaces s)) files.double salts s p y) (sym (if_false (nat_eq x.info.space s) (page_in x p) (pages_of xs s p) other)) gives
+          let gives = later has (salt ∙ cond-false (nat_eq x.info.space s) x.info.salt (salts_of xs s) other) in
+          subst (λ (y : Page). PageGives header keys log (place 16384 p (space_bytes files.spaces s)) files.double salts s p y) (sym (cond-false (nat_eq x.info.space s) (page_in x p) (pages_of xs s p) other)) gives
 
   -- the pages of the image are those of the contents
   pub view_recovers : (c : List SpaceContents) → AllGive header keys log files header.spaces c → ViewRecovers (store_theory header keys (salts_of c)) (view log (image_of files)) (pages_of c)
@@ -130,29 +133,19 @@ module _ (header : HeldHeader) (keys : List RingEntry) (log : LogView (List Chan
     -- a space among the header's, and its contents among these, hold nothing less
     walk : (id : ℕ) (hs : List HeldSpace) (xs : List SpaceContents) (i : ℕ) (h : HeldSpace) (rest : List HeldSpace) → are_in_order id hs ≡ true → HaveSpaces hs xs → IsFound header.spaces c hs xs → drop i hs ≡ h ∷ rest
         → SpaceHoldsNone header keys log (space_bytes files.spaces h.space) files.double h → ⊥
-    walk id [] xs i h rest order have found at none = nil (sym (drop_nil i) ∙ at)
-      where
-        drop_nil : (i : ℕ) → ◌≡◌ {A = List HeldSpace} (drop i []) []
-        drop_nil zero = refl
-        drop_nil (suc i) = refl
-
-        nil : ◌≡◌ {A = List HeldSpace} [] (h ∷ rest) → ⊥
-        nil e = cc
+    walk id [] xs i h rest order have found at none = none_item h rest (sym (drop_nil i) ∙ at)
     walk id (g ∷ gs) [] i h rest order have found at none = absurd have
     walk id (g ∷ gs) (x ∷ xs) zero h rest order (space, size, key_id, long, more) found at none =
         let o = ordered id g gs order in
-        let e : g ≡ h = head_of at in
+        let e : g ≡ h = same_item g h gs rest at in
         let here : SpaceHoldsNone header keys log (space_bytes files.spaces g.space) files.double g = subst (λ (z : HeldSpace). SpaceHoldsNone header keys log (space_bytes files.spaces z.space) files.double z) (sym e) none in
-        here.none x (salts_of c) (first_salt header.spaces c g gs x xs space found o.some) (record {
+        here.none x (salts_of c) (first_salt header.spaces c g gs x xs space found (omega (arith, o.some))) (record {
           space = space;
           size = size;
           key_id = key_id;
           long = long;
           pages = λ p lt. page_gives header keys log files (salts_of c) g.space p (pages_of c) (page_in x p) (first_page header.spaces c g gs x xs space found p lt) r (first_has header.spaces c g gs x xs space found p lt);
         })
-      where
-        head_of : g ∷ gs ≡ h ∷ rest → g ≡ h
-        head_of e = cc
     walk id (g ∷ gs) (x ∷ xs) (suc i) h rest order (space, size, key_id, long, more) found at none =
         let o = ordered id g gs order in
         walk g.space gs xs i h rest o.rest more (found_rest header.spaces c g gs x xs space found o.rest) at none

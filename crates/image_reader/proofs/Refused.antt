@@ -1,5 +1,6 @@
 -- A refusal names a condition that fails: files that recover to contents are never refused.
-use Rattle.std.proofs.Common.{◌≡◌, ◌≢◌, ℕ, ◌*◌, ◌<◌, ◌≤◌, true, List, [], length, Option, Some, refl, sym, ap, subst, ◌∙◌, arith}
+use Rattle.std.proofs.Common.{◌≡◌, ◌≢◌, ℕ, ◌<◌, ◌≤◌, true, List, [], length, Option, refl, sym, ap, subst, ◌∙◌, arith}
+use Rattle.std.proofs.lemmas.Option.{same_Some}
 use Rattle.disk_model.specs.Image.{Image}
 use Rattle.disk_model.specs.declared.names.FileName.TheVariants.{Log, Double, Space}
 use Rattle.key_ring.specs.Ring.{RingEntry}
@@ -11,7 +12,7 @@ use Rattle.store_image.specs.View.{Text, IsChosen}
 use Rattle.redo_text.specs.declared.change.Change.{Change}
 use Rattle.store_model.specs.declared.contents.SpaceContents.{SpaceContents}
 use Rattle.store_files.specs.Header.{HeldHeader, HeldSpace, are_in_order}
-use Rattle.store_files.specs.Pages.{Page, Head as HeadPage, has_page}
+use Rattle.store_files.specs.Pages.{Head as HeadPage}
 use Rattle.store_files.proofs.ContentsOnce.{header_order}
 use Rattle.store_files.proofs.RunsOnce.{log_one}
 use Rattle.crash_image.specs.Recovers.{HasHeader, RecoversBy, Recovers}
@@ -23,7 +24,7 @@ use Rattle.image_pages.specs.Choosing.{page_view}
 use Rattle.image_pages.specs.Recovering.{run_view}
 use Rattle.image_pages.proofs.Views.{chosen_over}
 use Rattle.image_reader.specs.Files.{ImageFiles, image_of, space_bytes}
-use Rattle.image_reader.specs.HeaderSpaces.{IsSpaceAt, IsPageAt, IsHeaderInfo}
+use Rattle.image_reader.specs.HeaderSpaces.{IsSpaceAt, IsPageAt}
 use Rattle.image_reader.specs.Homes.{AreHomesRight, HasHomeFault}
 use Rattle.image_reader.specs.Lengths.{IsLengthFault}
 use Rattle.image_reader.specs.PageRefusals.{IsPageRefusal, IsSpaceRefusal, IsSpacesRefusal, AtHead, AtInfo, AtPage, NoMemory}
@@ -37,11 +38,8 @@ use Rattle.image_reader.proofs.PageAnswers.{refused_space}
 use Rattle.image_reader.proofs.Recovery.{none_recovers, page_whole, slot_whole, slot_one_view, fault_whole, live_whole, live_one}
 
 module _ (image : Image) (keys : List RingEntry) (c : List SpaceContents) (last : ℕ) (r : Recovers image keys c last) where
-  one_header : (h g : HeldHeader) → Some h ≡ Some g → h ≡ g
-  one_header h g e = cc
-
   by_header : (header : HeldHeader) → HasHeader image header → RecoversBy image keys header r.log c
-  by_header header is = subst (λ (h : HeldHeader). RecoversBy image keys h r.log c) (one_header r.header header (sym r.is_header ∙ is)) r.by
+  by_header header is = subst (λ (h : HeldHeader). RecoversBy image keys h r.log c) (same_Some r.header header (sym r.is_header ∙ is)) r.by
 
   by_text : (header : HeldHeader) (text : LogView (List Change)) → HasLog image keys header text → RecoversBy image keys header text c
   by_text header text is =

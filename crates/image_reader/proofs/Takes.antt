@@ -1,5 +1,5 @@
 -- A fact of the first elements of a list, and of one more.
-use Rattle.std.proofs.Common.{◌≡◌, ℕ, zero, suc, ◌+◌, List, [], ◌∷◌, ◌++◌, drop, take, refl, sym, ap, subst, ◌∙◌, add-one}
+use Rattle.std.proofs.Common.{◌≡◌, ℕ, zero, suc, ◌+◌, List, [], ◌∷◌, ◌++◌, drop, take, refl, sym, ap, ◌∙◌, add-one}
 
 pub none_item : {A : Type 0} (x : A) (xs : List A) → ◌≡◌ {A = List A} [] (x ∷ xs) → ⊥
 none_item x xs e = cc
@@ -18,9 +18,3 @@ one_more {A} (y ∷ ys) (suc i) x rest e = ap (λ (l : List A). y ∷ l) (one_mo
 
 pub take_item : {A : Type 0} (xs : List A) (i : ℕ) (x : A) (rest : List A) → drop i xs ≡ x ∷ rest → take (i + 1) xs ≡ take i xs ++ x ∷ []
 take_item {A} xs i x rest e = ap (λ (k : ℕ). take k xs) (add-one i) ∙ one_more xs i x rest e
-
-pub take_whole : {A : Type 0} (xs : List A) (i : ℕ) → drop i xs ≡ [] → take i xs ≡ xs
-take_whole {A} [] zero e = refl
-take_whole {A} [] (suc i) e = refl
-take_whole {A} (y ∷ ys) zero e = absurd (none_item y ys (sym e))
-take_whole {A} (y ∷ ys) (suc i) e = ap (λ (l : List A). y ∷ l) (take_whole ys i e)

@@ -1,4 +1,3 @@
-use Rattle.std.proofs.Common.{drop}
 use Rattle.image_pages.proofs.Named.{NamedBehind}
 use Rattle.image_pages.proofs.acting.is_named.Given as goal
 

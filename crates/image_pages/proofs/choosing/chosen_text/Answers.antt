@@ -1,10 +1,11 @@
-use Rattle.std.proofs.Common.{◌≡◌, ◌∙◌, ap, sym, subst, true, false, ℕ, List, rules, Option, Some, None}
+use Rattle.std.proofs.Common.{◌≡◌, ◌∙◌, sym, subst, true, ℕ, List, rules, Option, None}
 use Rattle.page_places.specs.Texts.{are_zero}
 use Rattle.page_places.proofs.Sums.{not_true}
 use Rattle.image_pages.specs.Choosing.{Best}
 use Rattle.image_pages.specs.declared.copies.Newest.{Newest}
-use Rattle.image_pages.proofs.Choices.{home_choice, copy_choice, unused_choice, nothing_choice, zero_bytes, bytes_zero}
+use Rattle.image_pages.proofs.Choices.{home_choice, copy_choice, unused_choice, nothing_choice}
 use Rattle.image_pages.proofs.choosing.chosen_text.Goals as goal
+use Rattle.page_places.proofs.Texts.{zero_bytes, bytes_zero}
 
 pub returns-then-is_page_text : goal.returns-then-is_page_text
 returns-then-is_page_text c = home_choice c.args.home.now c.args.double.now c.args.space c.args.page (sym c.is_page_text.ensures ∙ c.if-is_page_text.true)

@@ -1,11 +1,11 @@
-use Rattle.std.proofs.Common.{◌≡◌, ◌∙◌, ap, sym, true, false, rules}
+use Rattle.std.proofs.Common.{◌≡◌, ◌∙◌, sym, true, rules}
 use Rattle.bytes_core.specs.LastByte.{EndsInCrc32c}
 use Rattle.page_places.specs.Placed.{Unmatched}
 use Rattle.page_places.specs.Texts.{are_zero, ends_in_sum}
 use Rattle.page_places.proofs.Sums.{ends_in_sum-ends, ends-ends_in_sum, not_true}
-use Rattle.image_pages.proofs.Choices.{zero_bytes, bytes_zero}
 use Rattle.image_pages.proofs.Placing.{own_placed, zero_placed, not_placed}
 use Rattle.image_pages.proofs.choosing.is_placed.Goals as goal
+use Rattle.page_places.proofs.Texts.{zero_bytes, bytes_zero}
 
 pub returns-then-is_page_text-clause-yes : goal.returns-then-is_page_text-clause-yes
 returns-then-is_page_text-clause-yes c = λ _. own_placed c.args.page c.args.home.now (sym c.is_page_text.ensures ∙ c.if-is_page_text.true)

@@ -1,7 +1,6 @@
-use Rattle.std.proofs.Common.{◌≡◌, ◌∙◌, ap, sym, take, drop, true, false, nat_eq, ℕ, List, rules, arith}
-use Rattle.std.proofs.lemmas.Bool.Decides.{nat_tests}
-use Rattle.byte_list.specs.Fields.{be32_at, be64_at}
-use Rattle.page_places.specs.Texts.{is_slot, slot_page, text_in}
+use Rattle.std.proofs.Common.{◌≡◌, ◌∙◌, ap, sym, take, drop, ℕ, List, rules}
+use Rattle.byte_list.specs.Fields.{be64_at}
+use Rattle.page_places.specs.Texts.{slot_page, text_in}
 use Rattle.page_places.proofs.Texts.{text_part}
 use Rattle.image_pages.proofs.CopyParts.{no_slot, fields, is_copy, copy_lsn}
 use Rattle.image_pages.proofs.copies.copy_in.Goals as goal

@@ -1,4 +1,3 @@
-use Rattle.std.proofs.Common.{◌≡◌}
 use Rattle.image_pages.specs.Choosing.{Best}
 use Rattle.image_pages.proofs.copies.newest_copy.Given as goal
 

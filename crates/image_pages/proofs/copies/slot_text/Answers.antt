@@ -1,4 +1,4 @@
-use Rattle.std.proofs.Common.{◌≡◌, ◌∙◌, ap, take, drop, ℕ, List}
+use Rattle.std.proofs.Common.{◌∙◌, ap, take, drop, ℕ, List}
 use Rattle.page_places.specs.Texts.{slot_page}
 use Rattle.page_places.proofs.Texts.{text_part}
 use Rattle.image_pages.proofs.copies.slot_text.Goals as goal

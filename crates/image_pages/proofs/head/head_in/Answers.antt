@@ -1,11 +1,12 @@
-use Rattle.std.proofs.Common.{◌≡◌, ◌∙◌, ◌+◌, ap, sym, subst, length, ℕ, List, Option, Some, None, arith, inl, inr, true≢false}
+use Rattle.std.proofs.Common.{◌≡◌, ◌∙◌, ◌+◌, ap, sym, length, ℕ, List, arith, inl, inr, true≢false}
 use Rattle.std.proofs.lemmas.Slice.Eq.{bytes_eq-Decides}
+use Rattle.std.proofs.lemmas.Option.{same_Some, none-some}
 use Rattle.byte_list.specs.Bytes.{put, zeros}
 use Rattle.byte_list.proofs.RangeLaws.{length-zeros}
 use Rattle.page_text.specs.Parts.{body}
 use Rattle.space_head.specs.Head.{with_head}
 use Rattle.space_head.specs.declared.space.SpaceInfo.{SpaceInfo}
-use Rattle.store_files.specs.Pages.{IsTypedInfo, head_of_space}
+use Rattle.store_files.specs.Pages.{head_of_space}
 use Rattle.image_pages.proofs.HeadPages.{long_put, body_back, page_is, no_head, head_is}
 use Rattle.image_pages.proofs.head.head_in.Goals as goal
 
@@ -18,19 +19,13 @@ read_head-requires c = inr (inr (inl (ap length (c.deref.ensures.value ∙ c.in_
 pub returns-in_default : goal.returns-in_default
 returns-in_default c = no_head (zeros 16384) (length-zeros 16384) c.args.body.now c.deref.result.now c.in_default.field-0 (c.deref.ensures.value ∙ c.in_ok-page.ensures) (sym c.in_default.ensures.value)
 
-some_none : (info : SpaceInfo) → ◌≡◌ {A = Option SpaceInfo} None (Some info) → ⊥
-some_none info e = cc
-
-one_some : (a b : SpaceInfo) → ◌≡◌ {A = Option SpaceInfo} (Some a) (Some b) → a ≡ b
-one_some a b e = cc
-
 pub returns-in_default-space_of : goal.returns-in_default-space_of
 returns-in_default-space_of c = λ info typed is.
-    some_none info (sym c.in_default-space_of.is ∙ c.space_of.ensures info (head_is (zeros 16384) (length-zeros 16384) c.args.body.now c.deref.result.now c.in-Ok.head (c.deref.ensures.value ∙ c.in_ok-page.ensures) (sym c.in-Ok.ensures.value) info typed is))
+    none-some info (sym c.in_default-space_of.is ∙ c.space_of.ensures info (head_is (zeros 16384) (length-zeros 16384) c.args.body.now c.deref.result.now c.in-Ok.head (c.deref.ensures.value ∙ c.in_ok-page.ensures) (sym c.in-Ok.ensures.value) info typed is))
 
 pub returns-then-not-are_same : goal.returns-then-not-are_same
 returns-then-not-are_same c = λ info typed is.
-    let found : c.in-Some.info ≡ info = one_some c.in-Some.info info (sym c.in-Some.is ∙ c.space_of.ensures info (head_is (zeros 16384) (length-zeros 16384) c.args.body.now c.deref.result.now c.in-Ok.head (c.deref.ensures.value ∙ c.in_ok-page.ensures) (sym c.in-Ok.ensures.value) info typed is)) in
+    let found : c.in-Some.info ≡ info = same_Some c.in-Some.info info (sym c.in-Some.is ∙ c.space_of.ensures info (head_is (zeros 16384) (length-zeros 16384) c.args.body.now c.deref.result.now c.in-Ok.head (c.deref.ensures.value ∙ c.in_ok-page.ensures) (sym c.in-Ok.ensures.value) info typed is)) in
     let same : c.deref-2.result.now ≡ c.deref-3.result.now = c.deref-2.ensures.value ∙ c.in_ok-written.ensures ∙ ap (λ (i : SpaceInfo). with_head (head_of_space i) (zeros 16384)) found ∙ sym (page_is (zeros 16384) (length-zeros 16384) c.args.body.now info typed is) ∙ sym c.in_ok-page.ensures ∙ sym c.deref-3.ensures.value in
     true≢false (sym ((bytes_eq-Decides _ _).1 same) ∙ sym c.are_same.ensures ∙ c.if-not-are_same.true)
 

@@ -1,4 +1,4 @@
-use Rattle.std.proofs.Common.{◌≡◌, ◌∙◌, ap, sym, subst, Option, Some, None, rules}
+use Rattle.std.proofs.Common.{◌≡◌, subst, Option, None, rules}
 use Rattle.store_model.specs.declared.contents.PlainPage.{PlainPage}
 use Rattle.image_pages.specs.Meaning.{IsPlainOf}
 use Rattle.image_pages.proofs.HeadTexts.{no_plain, no_body, other_space, own_space}

@@ -1,4 +1,4 @@
-use Rattle.std.proofs.Common.{◌≡◌, ◌∙◌, ap, length, inl, inr}
+use Rattle.std.proofs.Common.{◌∙◌, ap, length, inl, inr}
 use Rattle.byte_list.proofs.RangeLaws.{length-zeros}
 use Rattle.image_pages.proofs.head.written_head.Goals as goal
 

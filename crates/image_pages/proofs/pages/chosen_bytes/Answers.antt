@@ -1,5 +1,5 @@
-use Rattle.std.proofs.Common.{◌≡◌, ◌∙◌, ap, sym, subst, ℕ, List, Some}
-use Rattle.page_places.specs.Texts.{slot_page, text_in}
+use Rattle.std.proofs.Common.{◌≡◌, ◌∙◌, ap, sym, subst, Some}
+use Rattle.page_places.specs.Texts.{text_in}
 use Rattle.places.specs.Places.{place}
 use Rattle.store_image.specs.View.{Text, IsChosen}
 use Rattle.image_pages.specs.Choosing.{page_view}

@@ -1,4 +1,4 @@
-use Rattle.std.proofs.Common.{◌≡◌, ◌∙◌, ◌*◌, ◌<◌, ◌≤◌, ap, subst, refl, ℕ, Option, Some, None, arith}
+use Rattle.std.proofs.Common.{◌∙◌, subst, refl, Option, arith}
 use Rattle.space_head.specs.declared.space.SpaceInfo.{SpaceInfo}
 use Rattle.store_files.specs.Pages.{Head}
 use Rattle.image_pages.specs.Acting.{later_page}

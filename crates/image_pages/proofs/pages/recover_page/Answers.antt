@@ -1,4 +1,4 @@
-use Rattle.std.proofs.Common.{◌≡◌, ◌≢◌, ◌∙◌, ◌*◌, ◌<◌, ◌≤◌, ap, subst, ℕ, List, Option, Some, None, arith}
+use Rattle.std.proofs.Common.{◌≢◌, ◌∙◌, ◌<◌, ap, subst, ℕ, List, Option, arith}
 use Rattle.redo_text.specs.declared.change.Change.{Change}
 use Rattle.store_image.specs.View.{Logged}
 use Rattle.store_model.specs.declared.contents.PlainPage.{PlainPage}

@@ -1,5 +1,5 @@
-use Rattle.std.proofs.Common.{◌≡◌, ◌≢◌, ◌∙◌, ap, sym, subst, length, ℕ, List, Option}
-use Rattle.byte_list.specs.Fields.{be16_at, be32_at, be64_at}
+use Rattle.std.proofs.Common.{◌≡◌, sym, subst, length, ℕ, List, Option}
+use Rattle.byte_list.specs.Fields.{be16_at}
 use Rattle.page_text.specs.Parts.{body}
 use Rattle.page_text.specs.Text.{Plain, IsText, key_lent}
 use Rattle.page_text.specs.declared.key.PageKey.{PageKey}

@@ -1,4 +1,4 @@
-use Rattle.std.proofs.Common.{◌≡◌, ◌∙◌, ap, sym, subst, length, ℕ, List, Option, rules}
+use Rattle.std.proofs.Common.{◌≡◌, ◌∙◌, subst, ℕ, List, Option, rules}
 use Rattle.std.specs.Prelude.{Result, IfOk}
 use Rattle.cause_core.specs.declared.want.OutOfMemory.{OutOfMemory}
 use Rattle.page_text.specs.Text.{key_lent}

@@ -1,5 +1,5 @@
-use Rattle.std.proofs.Common.{◌≡◌, sym, subst, ℕ, List, length}
-use Rattle.page_text.specs.Text.{IsText, Plain, key_lent}
+use Rattle.std.proofs.Common.{sym, subst, ℕ, List, length}
+use Rattle.page_text.specs.Text.{IsText, key_lent}
 use Rattle.image_pages.proofs.plain.unseals.Goals as goal
 
 pub returns-in-Err-clause-refused : goal.returns-in-Err-clause-refused

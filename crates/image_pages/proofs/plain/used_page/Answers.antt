@@ -1,4 +1,4 @@
-use Rattle.std.proofs.Common.{◌≡◌, ◌∙◌, ap, sym, subst, ℕ}
+use Rattle.std.proofs.Common.{◌∙◌, ap, ℕ}
 use Rattle.std.specs.Prelude.{option_map}
 use Rattle.key_ring.specs.Local.{local_key}
 use Rattle.image_pages.proofs.Meanings.{used_result}

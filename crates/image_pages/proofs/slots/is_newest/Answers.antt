@@ -1,8 +1,5 @@
-use Rattle.std.proofs.Common.{◌≡◌, ◌∙◌, ◌<◌, ◌≤◌, ap, sym, subst, true, false, arith, Option, Some, None}
+use Rattle.std.proofs.Common.{◌∙◌, ◌<◌, ◌≤◌, sym, arith}
 use Rattle.std.proofs.lemmas.Bool.Decides.{nat_tests}
-use Rattle.byte_list.specs.Fields.{be64_at}
-use Rattle.image_pages.specs.Choosing.{Best}
-use Rattle.image_pages.specs.declared.copies.Newest.{Newest}
 use Rattle.image_pages.proofs.CopyAges.{above_home, below_home, newest_of, not_newest, no_copies}
 use Rattle.image_pages.proofs.slots.is_newest.Goals as goal
 

@@ -1,7 +1,6 @@
-use Rattle.std.proofs.Common.{◌≡◌, ◌∙◌, ap, sym, subst, ℕ, List, Some}
-use Rattle.page_places.specs.Texts.{slot_held, slot_page, text_in}
-use Rattle.store_image.specs.Groups.{copy_of}
-use Rattle.store_image.specs.View.{Text, IsLive}
+use Rattle.std.proofs.Common.{◌∙◌, ap, sym, subst, ℕ, List}
+use Rattle.page_places.specs.Texts.{slot_held, text_in}
+use Rattle.store_image.specs.View.{IsLive}
 use Rattle.image_pages.specs.Choosing.{page_view}
 use Rattle.image_pages.proofs.CopyAges.{live_copy}
 use Rattle.image_pages.proofs.slots.live_text.Goals as goal

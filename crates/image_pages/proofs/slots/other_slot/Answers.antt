@@ -1,4 +1,4 @@
-use Rattle.std.proofs.Common.{◌≡◌, ◌∙◌, ℕ, List, Bool, true, false, ap, sym, subst}
+use Rattle.std.proofs.Common.{Bool, subst}
 use Rattle.store_files.specs.Pages.{page_held}
 use Rattle.image_pages.specs.Recovering.{GivesPage}
 use Rattle.image_pages.proofs.SlotLaws.{differs, agrees, no_live, agree_more}

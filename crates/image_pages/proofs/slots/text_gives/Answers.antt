@@ -1,13 +1,14 @@
-use Rattle.std.proofs.Common.{◌≡◌, ◌∙◌, ℕ, List, Option, Some, None, true, false, ap, sym, subst}
+use Rattle.std.proofs.Common.{◌∙◌, ℕ, List, Option, ap, subst}
 use Rattle.byte_list.specs.Fields.{be64_at}
 use Rattle.redo_text.specs.declared.change.Change.{Change}
 use Rattle.store_image.specs.View.{Logged}
 use Rattle.store_model.specs.declared.contents.PlainPage.{PlainPage}
-use Rattle.store_files.specs.Pages.{Page, Used, page_held}
+use Rattle.store_files.specs.Pages.{Used, page_held}
 use Rattle.image_pages.specs.Acting.{IsNamedAt, later_page}
 use Rattle.image_pages.specs.Meaning.{IsUsedPage}
-use Rattle.image_pages.proofs.SlotLaws.{gives_page, one_held}
+use Rattle.image_pages.proofs.SlotLaws.{gives_page}
 use Rattle.image_pages.proofs.slots.text_gives.Goals as goal
+use Rattle.store_files.proofs.ContentsOnce.{one_held}
 
 pub returns : goal.returns
 returns c =

@@ -1,16 +1,15 @@
-use Rattle.std.proofs.Common.{◌≡◌, ◌∙◌, ℕ, List, Option, Some, None, true, false, ap, sym, subst, rules}
-use Rattle.key_ring.specs.Ring.{RingEntry}
+use Rattle.std.proofs.Common.{◌∙◌, ℕ, List, Option, ap, subst}
 use Rattle.byte_list.specs.Fields.{be64_at}
 use Rattle.redo_text.specs.declared.change.Change.{Change}
 use Rattle.space_head.specs.declared.space.SpaceInfo.{SpaceInfo}
 use Rattle.store_image.specs.View.{Logged}
-use Rattle.store_files.specs.Header.{HeldHeader}
-use Rattle.store_files.specs.Pages.{Page, Head}
+use Rattle.store_files.specs.Pages.{Head}
 use Rattle.image_pages.specs.Acting.{IsNamedAt, later_page}
 use Rattle.image_pages.specs.Meaning.{IsHeadText}
 use Rattle.image_pages.proofs.Recovered.{head_means, no_head_means}
-use Rattle.image_pages.proofs.SlotLaws.{gives_none, gives_page, one_head}
+use Rattle.image_pages.proofs.SlotLaws.{gives_none, gives_page}
 use Rattle.image_pages.proofs.slots.text_gives_head.Goals as goal
+use Rattle.store_files.proofs.ContentsOnce.{one_head}
 
 pub returns-in_default : goal.returns-in_default
 returns-in_default c = λ header keys salt.

@@ -4,8 +4,9 @@ use Rattle.crash_image.specs.Recovers.{SpacesLong}
 use Rattle.image_reader.specs.Files.{image_of, space_bytes}
 use Rattle.image_reader.specs.Homes.{AreHomesRight, AreRightBelow}
 use Rattle.image_reader.proofs.Firsts.{long_named}
-use Rattle.image_reader.proofs.Passes.{passes_next, drop_item}
+use Rattle.image_reader.proofs.Passes.{passes_next}
 use Rattle.image_reader.proofs.checks.check_homes.Goals as goal
+use Rattle.byte_list.proofs.RangeLaws.{drop_item}
 
 pub check_space_homes-requires-clause-bytes : goal.check_space_homes-requires-clause-bytes
 check_space_homes-requires-clause-bytes c =

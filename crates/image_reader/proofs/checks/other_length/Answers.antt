@@ -1,11 +1,12 @@
-use Rattle.std.proofs.Common.{List, sym, refl, subst, arith}
+use Rattle.std.proofs.Common.{List, sym, subst, arith}
+use Rattle.std.proofs.lemmas.List.{take_all}
 use Rattle.store_files.specs.Header.{HeldSpace}
 use Rattle.crash_image.specs.Recovers.{SpacesLong}
 use Rattle.image_reader.specs.Files.{image_of}
 use Rattle.image_reader.proofs.Firsts.{long_more}
-use Rattle.image_reader.proofs.Passes.{drop_item, drop_none}
-use Rattle.image_reader.proofs.Takes.{take_item, take_whole}
+use Rattle.image_reader.proofs.Takes.{take_item}
 use Rattle.image_reader.proofs.checks.other_length.Goals as goal
+use Rattle.byte_list.proofs.RangeLaws.{drop_item}
 
 pub returns-then-not-has_length-clause-some : goal.returns-then-not-has_length-clause-some
 returns-then-not-has_length-clause-some c =
@@ -25,4 +26,4 @@ loop-space-preserved c =
 
 pub returns-clause-none : goal.returns-clause-none
 returns-clause-none c =
-    subst (λ (hs : List HeldSpace). SpacesLong (image_of c.args.files.now) hs) (take_whole c.args.spaces.now c.loop-space.space-index (drop_none c.args.spaces.now c.loop-space.space-index (omega arith))) c.loop-space.invariant
+    subst (λ (hs : List HeldSpace). SpacesLong (image_of c.args.files.now) hs) (take_all c.loop-space.space-index c.args.spaces.now (omega arith)) c.loop-space.invariant

@@ -1,12 +1,13 @@
-use Rattle.std.proofs.Common.{◌≡◌, List, ap, sym, subst, length, ◌∙◌, arith}
+use Rattle.std.proofs.Common.{◌≡◌, List, sym, subst, ◌∙◌, arith}
+use Rattle.std.proofs.lemmas.List.{take_all}
+use Rattle.byte_list.proofs.RangeLaws.{drop_item}
 use Rattle.redo_text.specs.declared.change.Change.{Change}
 use Rattle.store_image.specs.View.{Logged}
 use Rattle.store_files.specs.Header.{HeldSpace}
 use Rattle.crash_image.specs.Recovers.{AreOfStore, RunIsOfStore}
 use Rattle.image_reader.specs.Lengths.{IsFirstForeign}
 use Rattle.image_reader.proofs.Firsts.{run_more}
-use Rattle.image_reader.proofs.Passes.{drop_item, drop_none}
-use Rattle.image_reader.proofs.Takes.{take_item, take_whole}
+use Rattle.image_reader.proofs.Takes.{take_item}
 use Rattle.image_reader.proofs.checks.other_pages.Goals as goal
 
 same_are : (a b : List HeldSpace) (m n : List Change) → a ≡ b → m ≡ n → AreOfStore a m → AreOfStore b n
@@ -36,5 +37,5 @@ loop-entry-preserved c =
 pub returns-clause-none : goal.returns-clause-none
 returns-clause-none c =
     let items = c.run-entry-items.result.now in
-    let whole = take_whole items c.loop-entry.entry-index (drop_none items c.loop-entry.entry-index (omega arith)) in
+    let whole = take_all c.loop-entry.entry-index items (omega arith) in
     subst (λ (es : List (Logged (List Change))). RunIsOfStore c.args.header.now.spaces es) (whole ∙ c.run-entry-items.ensures) c.loop-entry.invariant

@@ -1,12 +1,11 @@
-use Rattle.std.proofs.Common.{◌≡◌, ◌+◌, ◌*◌, ◌∷◌, ℕ, List, drop, length, ap, sym, subst, arith}
+use Rattle.std.proofs.Common.{◌≡◌, ◌+◌, ◌∷◌, ℕ, List, drop, length, ap, subst, arith}
+use Rattle.byte_list.proofs.RangeLaws.{drop_item}
 use Rattle.store_files.specs.Header.{HeldSpace}
-use Rattle.crash_image.specs.Recovers.{SpacesLong}
 use Rattle.image_reader.specs.Files.{image_of}
 use Rattle.image_reader.specs.Naming.{AddsNames, Below, IsNameAt}
 use Rattle.image_reader.proofs.Additions.{adds_none}
 use Rattle.image_reader.proofs.Firsts.{long_named}
 use Rattle.image_reader.proofs.NameLaws.{name_adds}
-use Rattle.image_reader.proofs.Passes.{drop_item}
 use Rattle.image_reader.proofs.naming.add_spaces.Goals as goal
 
 left_in : (xs ys : List HeldSpace) (i : ℕ) (h : HeldSpace) → xs ≡ ys → drop i xs ≡ h ∷ drop (i + 1) xs → drop i ys ≡ h ∷ drop (i + 1) ys

@@ -1,4 +1,4 @@
-use Rattle.std.proofs.Common.{rules, ◌≢◌, ℕ, List, ◌≡◌, ◌+◌, sym, subst, arith}
+use Rattle.std.proofs.Common.{rules, ◌≢◌, ℕ, List, ◌≡◌, ◌+◌, subst, arith}
 use Rattle.std.specs.Prelude.{IsErrAnd}
 use Rattle.key_ring.specs.Ring.{RingEntry}
 use Rattle.places.specs.Places.{place}
@@ -9,7 +9,6 @@ use Rattle.store_files.specs.Header.{HeldHeader}
 use Rattle.store_files.specs.Run.{IsLogOf, IsClear}
 use Rattle.store_files.proofs.ContentsOnce.{header_order}
 use Rattle.crash_image.specs.Recovers.{HasHeader, AreLong, RunIsOfStore, RecoversBy, Recovers}
-use Rattle.image_pages.proofs.Recovered.{if_err}
 use Rattle.image_reader.specs.Files.{ImageFiles, image_of}
 use Rattle.image_log.specs.Late.{IsLateBlock}
 use Rattle.image_log.specs.declared.blocks.LateBlock.{LateBlock as Late}
@@ -22,6 +21,7 @@ use Rattle.image_reader.proofs.HeaderBounds.{header_blocks}
 use Rattle.image_reader.proofs.Recovery.{spaces_of, view_recovers}
 use Rattle.image_reader.proofs.Refused.{never_refused, contents_refused, home_refused, homes_of, length_refused}
 use Rattle.image_reader.proofs.reading.recover.Goals as goal
+use Rattle.cause_core.proofs.Causes.{handed}
 
 log_of : (files : ImageFiles) (keys : List RingEntry) (header : HeldHeader) (text : LogView (List Change)) (bytes : List ℕ) → HasHeader (image_of files) header → AreLong (image_of files) header → bytes ≡ files.log → IsLogOf header keys bytes text → HasLog (image_of files) keys header text
 log_of files keys header text bytes is long same run = record { files = record { is_header = is; long = long }; is = subst (λ (b : List ℕ). IsLogOf header keys b text) same run }
@@ -61,14 +61,14 @@ read_log-requires-clause-most c = (header_blocks (place 4096 0 c.args.files.now.
 pub returns-in_err-check_lengths-clause-fault : goal.returns-in_err-check_lengths-clause-fault
 returns-in_err-check_lengths-clause-fault c =
     let is : IsErrAnd c.from_residual-in_err-check_lengths.result (λ e. e ≡ c.in_err-check_lengths.field-0.0) = search rules in
-    if_err c.from_residual-in_err-check_lengths.result (IsRefusalOf (image_of c.args.files.now) c.args.keys.now) c.in_err-check_lengths.field-0.0 is
+    handed (IsRefusalOf (image_of c.args.files.now) c.args.keys.now) c.from_residual-in_err-check_lengths.result c.in_err-check_lengths.field-0.0 is
     (length_refused (image_of c.args.files.now) c.args.keys.now c.in_ok-header.header c.in_ok-header.ensures.ok c.in_ok-header.ensures.long c.in_err-check_lengths.field-0.0 c.in_err-check_lengths.ensures.fault)
 
 pub returns-in_err-check_lengths-clause-never : goal.returns-in_err-check_lengths-clause-never
 returns-in_err-check_lengths-clause-never c =
     let is : IsErrAnd c.from_residual-in_err-check_lengths.result (λ e. e ≡ c.in_err-check_lengths.field-0.0) = search rules in
     let refused = length_refused (image_of c.args.files.now) c.args.keys.now c.in_ok-header.header c.in_ok-header.ensures.ok c.in_ok-header.ensures.long c.in_err-check_lengths.field-0.0 c.in_err-check_lengths.ensures.fault in
-    if_err c.from_residual-in_err-check_lengths.result (Never c.args.files.now c.args.keys.now) c.in_err-check_lengths.field-0.0 is (never c.args.files.now c.args.keys.now c.in_err-check_lengths.field-0.0 refused)
+    handed (Never c.args.files.now c.args.keys.now) c.from_residual-in_err-check_lengths.result c.in_err-check_lengths.field-0.0 is (never c.args.files.now c.args.keys.now c.in_err-check_lengths.field-0.0 refused)
 
 pub returns-in-Some-clause-fault : goal.returns-in-Some-clause-fault
 returns-in-Some-clause-fault c =
@@ -84,7 +84,7 @@ pub returns-in_err-check_homes-clause-fault : goal.returns-in_err-check_homes-cl
 returns-in_err-check_homes-clause-fault c =
     let is : IsErrAnd c.from_residual-in_err-check_homes.result (λ e. e ≡ c.in_err-check_homes.field-0.0) = search rules in
     let run = run_of c.args.files.now c.args.keys.now c.in_ok-header.header c.in_ok-log.log c.log.result.now c.in_ok-header.ensures.ok c.in_ok-check_lengths.ensures.ok c.log.ensures c.in_ok-log.ensures.ok c.in_default.ensures.none in
-    if_err c.from_residual-in_err-check_homes.result (IsRefusalOf (image_of c.args.files.now) c.args.keys.now) c.in_err-check_homes.field-0.0 is
+    handed (IsRefusalOf (image_of c.args.files.now) c.args.keys.now) c.from_residual-in_err-check_homes.result c.in_err-check_homes.field-0.0 is
     (home_refused c.args.files.now c.args.keys.now c.in_ok-header.header c.in_ok-log.log run c.in_err-check_homes.field-0.0 c.in_err-check_homes.ensures.fault)
 
 pub returns-in_err-check_homes-clause-never : goal.returns-in_err-check_homes-clause-never
@@ -92,7 +92,7 @@ returns-in_err-check_homes-clause-never c =
     let is : IsErrAnd c.from_residual-in_err-check_homes.result (λ e. e ≡ c.in_err-check_homes.field-0.0) = search rules in
     let run = run_of c.args.files.now c.args.keys.now c.in_ok-header.header c.in_ok-log.log c.log.result.now c.in_ok-header.ensures.ok c.in_ok-check_lengths.ensures.ok c.log.ensures c.in_ok-log.ensures.ok c.in_default.ensures.none in
     let refused = home_refused c.args.files.now c.args.keys.now c.in_ok-header.header c.in_ok-log.log run c.in_err-check_homes.field-0.0 c.in_err-check_homes.ensures.fault in
-    if_err c.from_residual-in_err-check_homes.result (Never c.args.files.now c.args.keys.now) c.in_err-check_homes.field-0.0 is (never c.args.files.now c.args.keys.now c.in_err-check_homes.field-0.0 refused)
+    handed (Never c.args.files.now c.args.keys.now) c.from_residual-in_err-check_homes.result c.in_err-check_homes.field-0.0 is (never c.args.files.now c.args.keys.now c.in_err-check_homes.field-0.0 refused)
 
 pub contents_of-requires-clause-order : goal.contents_of-requires-clause-order
 contents_of-requires-clause-order c = header_order (place 4096 0 c.args.files.now.log) c.in_ok-header.header c.in_ok-header.ensures.ok
@@ -102,7 +102,7 @@ returns-in_err-contents-clause-fault c =
     let is : IsErrAnd c.from_residual-in_err-contents.result (λ e. e ≡ c.in_err-contents.field-0.0) = search rules in
     let run = run_of c.args.files.now c.args.keys.now c.in_ok-header.header c.in_ok-log.log c.log.result.now c.in_ok-header.ensures.ok c.in_ok-check_lengths.ensures.ok c.log.ensures c.in_ok-log.ensures.ok c.in_default.ensures.none in
     let homes = homes_of c.args.files.now c.args.keys.now c.in_ok-header.header c.in_ok-log.log run c.in_ok-check_homes.ensures.ok in
-    if_err c.from_residual-in_err-contents.result (IsRefusalOf (image_of c.args.files.now) c.args.keys.now) c.in_err-contents.field-0.0 is
+    handed (IsRefusalOf (image_of c.args.files.now) c.args.keys.now) c.from_residual-in_err-contents.result c.in_err-contents.field-0.0 is
     (contents_refused c.args.files.now c.args.keys.now c.in_ok-header.header c.in_ok-log.log homes c.in_err-contents.field-0.0 c.in_err-contents.ensures.fault)
 
 pub returns-in_err-contents-clause-never : goal.returns-in_err-contents-clause-never
@@ -111,7 +111,7 @@ returns-in_err-contents-clause-never c =
     let run = run_of c.args.files.now c.args.keys.now c.in_ok-header.header c.in_ok-log.log c.log.result.now c.in_ok-header.ensures.ok c.in_ok-check_lengths.ensures.ok c.log.ensures c.in_ok-log.ensures.ok c.in_default.ensures.none in
     let homes = homes_of c.args.files.now c.args.keys.now c.in_ok-header.header c.in_ok-log.log run c.in_ok-check_homes.ensures.ok in
     let refused = contents_refused c.args.files.now c.args.keys.now c.in_ok-header.header c.in_ok-log.log homes c.in_err-contents.field-0.0 c.in_err-contents.ensures.fault in
-    if_err c.from_residual-in_err-contents.result (Never c.args.files.now c.args.keys.now) c.in_err-contents.field-0.0 is (never c.args.files.now c.args.keys.now c.in_err-contents.field-0.0 refused)
+    handed (Never c.args.files.now c.args.keys.now) c.from_residual-in_err-contents.result c.in_err-contents.field-0.0 is (never c.args.files.now c.args.keys.now c.in_err-contents.field-0.0 refused)
 
 late_same : (a b : ℕ) (f g : List ℕ) (n m : ℕ) (late : Late) → a ≡ b → f ≡ g → n ≡ m → IsLateBlock a f n late → IsLateBlock b g m late
 late_same a b f g n m late ab fg nm is = subst (λ (X : Type 0). X) (λ i. IsLateBlock (ab i) (fg i) (nm i) late) is

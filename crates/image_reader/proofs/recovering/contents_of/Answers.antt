@@ -1,4 +1,5 @@
 use Rattle.std.proofs.Common.{◌≡◌, ℕ, ◌+◌, List, true, length, drop, ap, sym, subst, ◌∙◌, arith}
+use Rattle.std.proofs.lemmas.List.{drop_all}
 use Rattle.store_model.specs.declared.contents.SpaceContents.{SpaceContents}
 use Rattle.store_files.specs.Header.{HeldSpace, are_in_order}
 use Rattle.crash_image.specs.Recovers.{SpacesLong}
@@ -6,9 +7,9 @@ use Rattle.image_reader.specs.Files.{image_of, space_bytes}
 use Rattle.image_reader.specs.Spaces.{AllGive}
 use Rattle.image_reader.proofs.Firsts.{long_named}
 use Rattle.image_reader.proofs.HeaderSpaces.{some_named}
-use Rattle.image_reader.proofs.Passes.{drop_item, drop_none}
 use Rattle.image_reader.proofs.Gathering.{gathered_all}
 use Rattle.image_reader.proofs.recovering.contents_of.Goals as goal
+use Rattle.byte_list.proofs.RangeLaws.{drop_item}
 
 pub space_of-requires-clause-bytes : goal.space_of-requires-clause-bytes
 space_of-requires-clause-bytes c =
@@ -33,5 +34,5 @@ returns-clause-ok c =
     let same : length c.spaces-space-items.result.now ≡ length spaces = ap length c.spaces-space-items.ensures in
     let end = c.loop-space-test.false in
     let all : AllGive c.args.header.now c.args.keys.now c.args.log.now c.args.files.now spaces c.loop-space.list.items =
-    gathered_all c.args.header.now c.args.keys.now c.args.log.now c.args.files.now spaces c.loop-space.list.items c.loop-space.space-index c.loop-space.invariant (drop_none spaces c.loop-space.space-index (omega (arith, same, end))) in
+    gathered_all c.args.header.now c.args.keys.now c.args.log.now c.args.files.now spaces c.loop-space.list.items c.loop-space.space-index c.loop-space.invariant (drop_all c.loop-space.space-index spaces (omega (arith, same, end))) in
     subst (λ (xs : List SpaceContents). AllGive c.args.header.now c.args.keys.now c.args.log.now c.args.files.now spaces xs) (sym c.of.ensures) all

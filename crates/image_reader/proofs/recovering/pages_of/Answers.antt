@@ -1,18 +1,18 @@
 use Rattle.std.proofs.Common.{◌≡◌, ℕ, List, subst, arith, rules}
 use Rattle.std.specs.Prelude.{IsErrAnd}
 use Rattle.store_files.specs.Pages.{page_held}
-use Rattle.image_pages.proofs.Recovered.{if_err}
 use Rattle.image_reader.specs.PageRefusals.{IsPagesRefusal}
 use Rattle.image_reader.specs.Spaces.{PageHolds}
 use Rattle.image_reader.specs.declared.refusal.Refusal.TheVariants.{OutOfMemory}
 use Rattle.image_reader.proofs.PageAnswers.{pages_memory, pages_more}
 use Rattle.image_reader.proofs.recovering.pages_of.Goals as goal
+use Rattle.cause_core.proofs.Causes.{handed}
 
 pub returns-in_err-push-clause-fault : goal.returns-in_err-push-clause-fault
 returns-in_err-push-clause-fault c =
     let is : IsErrAnd c.from_residual-in_err-push.result (λ e. e ≡ OutOfMemory) = search rules in
     let first = c.loop-number.invariant.1 in
-    if_err c.from_residual-in_err-push.result (IsPagesRefusal c.args.header.now c.args.keys.now c.args.log.now c.args.bytes.now c.args.double.now c.args.salt.now c.args.space c.args.pages) OutOfMemory is
+    handed (IsPagesRefusal c.args.header.now c.args.keys.now c.args.log.now c.args.bytes.now c.args.double.now c.args.salt.now c.args.space c.args.pages) c.from_residual-in_err-push.result OutOfMemory is
     (pages_memory c.args.header.now c.args.keys.now c.args.log.now c.args.bytes.now c.args.double.now c.args.salt.now c.args.space c.args.pages c.loop-number.number (omega (arith, first)) c.loop-number-test.true)
 
 pub loop-number-preserved : goal.loop-number-preserved

@@ -1,19 +1,19 @@
 use Rattle.std.proofs.Common.{◌≡◌, ℕ, List, ap, subst, ◌∙◌, rules}
 use Rattle.std.specs.Prelude.{IsErrAnd}
 use Rattle.places.specs.Places.{place}
-use Rattle.image_pages.proofs.Recovered.{if_err}
 use Rattle.image_reader.specs.PageRefusals.{IsHeadRefusal, IsPagesRefusal, IsSpaceRefusal, AtHead, AtInfo, AtPage}
 use Rattle.image_reader.specs.Spaces.{HeadHolds, PagesHold}
 use Rattle.image_reader.specs.declared.refusal.Refusal.TheVariants.{Head}
 use Rattle.image_reader.proofs.PageAnswers.{space_holds}
 use Rattle.image_reader.proofs.recovering.space_of.Goals as goal
+use Rattle.cause_core.proofs.Causes.{handed}
 
 pub returns-in_err-info-clause-fault : goal.returns-in_err-info-clause-fault
 returns-in_err-info-clause-fault c =
     let is : IsErrAnd c.from_residual.result (λ e. e ≡ c.in_err-info.field-0.0) = search rules in
     let fault : IsHeadRefusal c.args.log.now c.place.result.now c.args.double.now c.space-id.result c.in_err-info.field-0.0 = c.in_err-info.ensures.fault in
     let moved = subst (λ (n : ℕ). IsHeadRefusal c.args.log.now (place 16384 0 c.args.bytes.now) c.args.double.now n c.in_err-info.field-0.0) c.space-id.ensures (subst (λ (b : List ℕ). IsHeadRefusal c.args.log.now b c.args.double.now c.space-id.result c.in_err-info.field-0.0) c.place.ensures.bytes fault) in
-    if_err c.from_residual.result (IsSpaceRefusal c.args.header.now c.args.keys.now c.args.log.now c.args.bytes.now c.args.double.now c.args.space.now) c.in_err-info.field-0.0 is
+    handed (IsSpaceRefusal c.args.header.now c.args.keys.now c.args.log.now c.args.bytes.now c.args.double.now c.args.space.now) c.from_residual.result c.in_err-info.field-0.0 is
     (AtHead moved)
 
 pub returns-then-not-is_space-clause-fault : goal.returns-then-not-is_space-clause-fault
@@ -30,7 +30,7 @@ returns-in_err-pages-clause-fault c =
     let fault : IsPagesRefusal c.args.header.now c.args.keys.now c.args.log.now c.args.bytes.now c.args.double.now c.in_ok-info.info.salt c.space-id.result c.pages.result c.in_err-pages.field-0.0 = c.in_err-pages.ensures.fault in
     let pages = subst (λ (n : ℕ). IsPagesRefusal c.args.header.now c.args.keys.now c.args.log.now c.args.bytes.now c.args.double.now c.in_ok-info.info.salt c.args.space.now.space n c.in_err-pages.field-0.0) c.pages.ensures
     (subst (λ (n : ℕ). IsPagesRefusal c.args.header.now c.args.keys.now c.args.log.now c.args.bytes.now c.args.double.now c.in_ok-info.info.salt n c.pages.result c.in_err-pages.field-0.0) c.space-id.ensures fault) in
-    if_err c.from_residual-in_err-pages.result (IsSpaceRefusal c.args.header.now c.args.keys.now c.args.log.now c.args.bytes.now c.args.double.now c.args.space.now) c.in_err-pages.field-0.0 is
+    handed (IsSpaceRefusal c.args.header.now c.args.keys.now c.args.log.now c.args.bytes.now c.args.double.now c.args.space.now) c.from_residual-in_err-pages.result c.in_err-pages.field-0.0 is
     (AtPage c.in_ok-info.info moved (c.is_space.ensures.yes c.if-not-is_space.false) pages)
 
 pub returns-clause-ok : goal.returns-clause-ok
