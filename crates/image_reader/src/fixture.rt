@@ -41,7 +41,7 @@ fn write_numbers(rt: &impl Abort, file: &mut [u8], at: usize, numbers: &[u32]) {
 }
 
 // Writes the checksum of the first bytes into the four behind them.
-fn write_sum(rt: &impl Abort, text: &mut [u8]) {
+pub(crate) fn write_sum(rt: &impl Abort, text: &mut [u8]) {
     assert!(rt; text.len() >= 4);
     let end = text.len() - 4;
     let sum = crc32c(&text[..end]).to_be_bytes();

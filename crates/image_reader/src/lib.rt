@@ -26,4 +26,6 @@ mod fixture;
 #[cfg(test)]
 mod place_rows;
 #[cfg(test)]
+mod run_rows;
+#[cfg(test)]
 mod tests;
