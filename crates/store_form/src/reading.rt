@@ -1,5 +1,5 @@
 // A page of a store at rest is read and taken apart in place.
-ghost use Rattle.std.specs.Prelude.{◌≡◌, ◌≢◌, ℕ, ◌≤◌, ◌*◌, true, length, All, IsSome, option_map, Ok, OnOk, IfErr, ◌⊎◌};
+ghost use Rattle.std.specs.Prelude.{◌≡◌, ◌≢◌, ℕ, ◌≤◌, ◌+◌, ◌*◌, IsErrOf, true, length, All, IsSome, option_map, Ok, OnOk, IfErr, ◌⊎◌};
 ghost use Rattle.byte_list.specs.Fields.{be32_at, be64_at};
 ghost use Rattle.cause_core.specs.Cause.{HasCauseOf};
 ghost use Rattle.disk_model.specs.Image.{InFile};
@@ -49,8 +49,9 @@ pub(crate) fn read_home<D: Disk>(
     ensures later { D.is_later disk.old disk.new }
     ensures cause { HasCauseOf DiskFault (D.faults disk.old) (D.faults disk.new) result }
     ensures memory { HasCauseOf OutOfMemory (D.memory_refusals disk.old) (D.memory_refusals disk.new) result }
-    ensures no_fault { OnOk result (D.faults disk.new ≡ D.faults disk.old) }
+    ensures no_fault { (IsErrOf result DiskFault → ⊥) → D.faults disk.new ≡ D.faults disk.old }
     ensures no_refusal { OnOk result (D.memory_refusals disk.new ≡ D.memory_refusals disk.old) }
+    ensures calls { D.clock disk.new ≤ D.clock disk.old + 1 }
 {
     let at = u64::from(page) * PAGE_BYTES;
     match disk.read(FileName::Space(space), at, into) {

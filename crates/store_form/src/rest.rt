@@ -36,7 +36,7 @@ impl<D: Disk + Drop> Model for AtRest<D> {
 }
 
 impl<D: Disk + Drop> AtRest<D> {
-    ghost use Rattle.std.specs.Prelude.{◌≡◌, ◌≢◌, ℕ, ◌<◌, true, List, length, slice_index_or, [], IfOk};
+    ghost use Rattle.std.specs.Prelude.{◌≡◌, ◌≢◌, ℕ, ◌<◌, ◌≤◌, ◌+◌, IsErrOf, OnOk, true, List, length, slice_index_or, [], IfOk};
     ghost use Rattle.space_head.specs.declared.space.Home.TheVariants.{Unused};
     ghost use Rattle.cause_core.specs.Cause.{HasCauseOf};
     ghost use Rattle.disk_model.specs.Past.{At};
@@ -170,6 +170,10 @@ impl<D: Disk + Drop> AtRest<D> {
         ensures later { D.is_later self.old.disk self.new.disk }
         ensures cause { HasCauseOf DiskFault (D.faults self.old.disk) (D.faults self.new.disk) result }
         ensures memory { HasCauseOf OutOfMemory (D.memory_refusals self.old.disk) (D.memory_refusals self.new.disk) result }
+        // No fault is dropped, and the disk is called once.
+        ensures no_fault { (IsErrOf result DiskFault → ⊥) → D.faults self.new.disk ≡ D.faults self.old.disk }
+        ensures no_refusal { OnOk result (D.memory_refusals self.new.disk ≡ D.memory_refusals self.old.disk) }
+        ensures calls { D.clock self.new.disk ≤ D.clock self.old.disk + 1 }
     {
         let place = place_of(self.spaces.as_slice(), space);
         let info = *self.spaces.get(place);
