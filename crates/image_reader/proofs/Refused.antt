@@ -61,7 +61,7 @@ module _ (image : Image) (keys : List RingEntry) (c : List SpaceContents) (last 
   never_refused (NoChanges first at) (header, files, fault) some = by_log header (log.NoChanges first at) files fault (λ e. cc)
   never_refused (OtherPages first) (header, text, is, f) some = f.other (run_at header.spaces text.run f.index f.entry _ (by_text header text is).of_store f.is)
   never_refused (Mixed s p) (header, text, is, has, placed) some = placed ((by_text header text is.log).placed s p has)
-  never_refused (NotChosen s p) (header, text, is, has, none) some = let page = (by_text header text is.log).pages.pages s p has in none page.chosen page.is
+  never_refused (NotChosen s p) (header, text, is, has, placed, none) some = let page = (by_text header text is.log).pages.pages s p has in none page.chosen page.is
   never_refused (NoText s p fault) (header, text, f) some = f.none.none c (by_text header text f.none.homes.run.log)
   never_refused (Head s) (header, text, f) some = f.none.none c (by_text header text f.none.homes.run.log)
   never_refused (Slot s p i) (header, text, f) some = f.none.none c (by_text header text f.none.homes.run.log)
@@ -125,8 +125,8 @@ module _ (files : ImageFiles) (keys : List RingEntry) (header : HeldHeader) (tex
       let p = f.fault.0 in
       let s = f.space.space in
       let fault = f.fault.2 in
-      let none = λ (o : Option Text) (is : IsChosen (view text (image_of files)) s p o). fault.2 o (chosen_over (view text (image_of files)) (page_view (place 16384 p (space_bytes files.spaces s)) files.double) s p refl (λ i. refl) o is) in
-      moved (λ s p. IsRefusalOf (image_of files) keys (NotChosen s p)) s p z q fault.0 fault.1 (header, text, run, has_named header.spaces f.space p order f.named f.fault.1, none)
+      let none = λ (o : Option Text) (is : IsChosen (view text (image_of files)) s p o). fault.3 o (chosen_over (view text (image_of files)) (page_view (place 16384 p (space_bytes files.spaces s)) files.double) s p refl (λ i. refl) o is) in
+      moved (λ s p. IsRefusalOf (image_of files) keys (NotChosen s p)) s p z q fault.0 fault.1 (header, text, run, has_named header.spaces f.space p order f.named f.fault.1, fault.2, none)
   home_refused NoHeader f = absurd f.fault.2
   home_refused (Length g) f = absurd f.fault.2
   home_refused NoCheckpoint f = absurd f.fault.2
@@ -169,6 +169,7 @@ module _ (files : ImageFiles) (keys : List RingEntry) (header : HeldHeader) (tex
           text,
           homes.run,
           has_named header.spaces h p ordered named within,
+          homes.placed h.space p (has_named header.spaces h p ordered named within),
           λ o chosen. is (λ _. salt) refl o (chosen_over (view text image) (run_view text (place 16384 p bytes) files.double) h.space p refl (λ i. refl) o chosen),
         )
     page_refused p salt within under (NoText z q fault) none (zs, qp, is) =

@@ -25,10 +25,10 @@ abbrev pub AreHomesRight : ImageFiles → List HeldSpace → Type 0
 AreHomesRight files [] = Unit {0}
 AreHomesRight files (h ∷ hs) = AreRightBelow (space_bytes files.spaces h.space) files.double h.space h.pages × AreHomesRight files hs
 
--- a home has the text of another page, or its page is read from nothing
+-- a home has the text of another page; or it hasn't, and its page is read from nothing
 abbrev pub IsHomeFault : List ℕ → List ℕ → ℕ → ℕ → Refusal → Type 0
 IsHomeFault home double s p (Mixed z q) = (z ≡ s) × (q ≡ p) × (IsPlaced p home → ⊥)
-IsHomeFault home double s p (NotChosen z q) = (z ≡ s) × (q ≡ p) × ((chosen : Option Text) → IsChosen (page_view home double) s p chosen → ⊥)
+IsHomeFault home double s p (NotChosen z q) = (z ≡ s) × (q ≡ p) × IsPlaced p home × ((chosen : Option Text) → IsChosen (page_view home double) s p chosen → ⊥)
 IsHomeFault home double s p r = ⊥
 
 abbrev pub IsSpaceFault : List ℕ → List ℕ → ℕ → ℕ → Refusal → Type 0

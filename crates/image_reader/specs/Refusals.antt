@@ -123,7 +123,7 @@ module _ (image : Image) (keys : List RingEntry) where
   IsRefusalOf (NoChanges first at) = (header : HeldHeader) × HasFiles header × IsLogTextFault header keys (image.bytes Log) (log.NoChanges first at)
   IsRefusalOf (OtherPages first) = (header : HeldHeader) × (text : LogView (List Change)) × HasLog header text × IsFirstForeign header.spaces text.run first
   IsRefusalOf (Mixed s p) = (header : HeldHeader) × (text : LogView (List Change)) × HasStoreRun header text × (has_page header.spaces s p ≡ true) × (IsPlaced p (place 16384 p (image.bytes (Space s))) → ⊥)
-  IsRefusalOf (NotChosen s p) = (header : HeldHeader) × (text : LogView (List Change)) × HasStoreRun header text × (has_page header.spaces s p ≡ true) × ((o : Option Text) → IsChosen (view text image) s p o → ⊥)
+  IsRefusalOf (NotChosen s p) = (header : HeldHeader) × (text : LogView (List Change)) × HasStoreRun header text × (has_page header.spaces s p ≡ true) × IsPlaced p (place 16384 p (image.bytes (Space s))) × ((o : Option Text) → IsChosen (view text image) s p o → ⊥)
   IsRefusalOf (NoText s p fault) = (header : HeldHeader) × (text : LogView (List Change)) × HasTextFault header text s p fault
   IsRefusalOf (Head s) = (header : HeldHeader) × (text : LogView (List Change)) × HasOtherHead header text s
   IsRefusalOf (Slot s p i) = (header : HeldHeader) × (text : LogView (List Change)) × HasOtherSlot header text s p i

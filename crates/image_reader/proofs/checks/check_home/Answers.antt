@@ -1,4 +1,4 @@
-use Rattle.std.proofs.Common.{Some, None}
+use Rattle.std.proofs.Common.{Some, None, refl}
 use Rattle.page_places.specs.Texts.{text_in}
 use Rattle.image_reader.proofs.checks.check_home.Goals as goal
 
@@ -10,3 +10,6 @@ returns-in-Copy-clause-ok c = record { placed = c.is_placed.ensures.yes c.if-not
 
 pub returns-in-Unused-clause-ok : goal.returns-in-Unused-clause-ok
 returns-in-Unused-clause-ok c = record { placed = c.is_placed.ensures.yes c.if-not-is_placed.false; chosen = None; is = c.in-Unused.ensures }
+
+pub returns-in-Nothing-clause-fault : goal.returns-in-Nothing-clause-fault
+returns-in-Nothing-clause-fault c = (refl, refl, c.is_placed.ensures.yes c.if-not-is_placed.false, c.in-Nothing.ensures)
