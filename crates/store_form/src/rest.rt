@@ -84,6 +84,8 @@ impl<D: Disk + Drop> AtRest<D> {
         ensures value { result.now ≡ self.now.spaces }
         // What is told fits together.
         ensures form { IsRestForm self.now.header self.now.spaces self.now.homes self.now.next self.now.sequence }
+        // And the disk reads as it tells.
+        ensures reads { At (ReadsAtRest self.now.header self.now.spaces self.now.homes self.now.next self.now.sequence) (D.past self.now.disk) }
     {
         self.spaces.as_slice()
     }
