@@ -47,14 +47,21 @@ module _ (g : FileName) where
   may_left_alone n i a b x s may = may_all n i s.news a x s.all (subst (λ (es : List Event). May g n i es x) s.is may)
 
   -- it reads as it did
+  pub reads_left_alone : (a b : List Event) → Since (LeavesFile g) a b → reads g b ≡ reads g a
+  reads_left_alone a b s = ap (reads g) s.is ∙ reads_all s.news a s.all
+
   pub shown_left_alone : (n i : ℕ) (a b : List Event) → Since (LeavesFile g) a b → shown g n i b ≡ shown g n i a
-  shown_left_alone n i a b s = ap (λ (l : List ℕ). place n i l) (ap (reads g) s.is ∙ reads_all s.news a s.all)
+  shown_left_alone n i a b s = ap (λ (l : List ℕ). place n i l) (reads_left_alone a b s)
+
+  -- it is there where it was
+  pub there_left_alone : (a b : List Event) → Since (LeavesFile g) a b → is_there g b ≡ is_there g a
+  there_left_alone a b s = ap (is_there g) s.is ∙ there_all s.news a s.all
 
   -- and it has its places
   pub places_left_alone : (layout : Layout) (a b : List Event) → Since (LeavesFile g) a b → HasPlaces g layout a → HasPlaces g layout b
   places_left_alone layout a b s h = record {
     some = h.some;
-    there = ap (is_there g) s.is ∙ there_all s.news a s.all ∙ h.there;
-    size = ap length (ap (reads g) s.is ∙ reads_all s.news a s.all) ∙ h.size;
+    there = there_left_alone a b s ∙ h.there;
+    size = ap length (reads_left_alone a b s) ∙ h.size;
     whole = subst (λ (es : List Event). AreWhole g layout es) (sym s.is) (whole_all layout s.news a s.all h.whole);
   }
