@@ -9,8 +9,9 @@ use Rattle.disk_model.specs.declared.names.FileName.TheVariants.{Double, Space}
 use Rattle.disk_model.proofs.Layers.{since_each, lift}
 use Rattle.places.specs.Places.{shown, MayRead, Whole, IsTorn}
 use Rattle.places.specs.Batches.{IsFileSettled, From}
+use Rattle.places.specs.Beside.{LeavesFile}
 use Rattle.places.proofs.Steps.{settled_honest}
-use Rattle.places.proofs.Beside.{IsBeside, may_beside, shown_beside, marks_beside}
+use Rattle.places.proofs.LeftAlone.{leaves_file, may_left_alone, shown_left_alone, marks_left_alone}
 use Rattle.space_head.specs.declared.space.SpaceInfo.{SpaceInfo}
 use Rattle.store_image.specs.View.{Text, Held, Holds, Slot, View, HasNoHome, IsChosen}
 use Rattle.store_image.specs.Recovers.{Theory, PageContents}
@@ -37,15 +38,12 @@ listed_or_not spaces (suc n) z = by (listed_or_not spaces n z) (cases_eq (space_
 
 -- On a disk that read as a view with nothing pending.
 module _ {M : Type 0} (v : View M) (may_log : LogView M → Type 0) (spaces : List SpaceInfo) (s m : List Event) (opened : IsReadAs may_log v s) (since : Since (IsRestoreEvent spaces) s m) where
-  beside_double : (e : Event) → IsRestoreEvent spaces e → IsBeside Double e
-  beside_double e on = record { file = Space (space_at spaces on.0).space; on = on.2; apart = refl }
-
-  double_since : Since (IsBeside Double) s m
-  double_since = since_each beside_double since
+  double_since : Since (LeavesFile Double) s m
+  double_since = since_each (λ e on. leaves_file (Space (space_at spaces on.0).space) Double refl e on.2) since
 
   -- a space that isn't listed
-  space_since : (z : ℕ) → ((i : ℕ) → i < length spaces → (space_at spaces i).space ≢ z) → Since (IsBeside (Space z)) s m
-  space_since z none = since_each (λ e on. record { file = Space (space_at spaces on.0).space; on = on.2; apart = other (space_at spaces on.0).space (none on.0 on.1) }) since
+  space_since : (z : ℕ) → ((i : ℕ) → i < length spaces → (space_at spaces i).space ≢ z) → Since (LeavesFile (Space z)) s m
+  space_since z none = since_each (λ e on. leaves_file (Space (space_at spaces on.0).space) (Space z) (other (space_at spaces on.0).space (none on.0 on.1)) e on.2) since
     where
       other : (y : ℕ) → y ≢ z → nat_eq z y ≡ false
       other y ne = let flip : z ≢ y = λ e. ne (sym e) in grind (arith, nat_tests)
@@ -55,20 +53,20 @@ module _ {M : Type 0} (v : View M) (may_log : LogView M → Type 0) (spaces : Li
   read_home z p h may = (read_within may_log v s opened).may_home z p h may
 
   home_unlisted : (z p : ℕ) (h : Held) → ((i : ℕ) → i < length spaces → (space_at spaces i).space ≢ z) → MayRead (held p) IsNoText (Space z) 16384 p m h → MayRead (held p) IsNoText (Space z) 16384 p s h
-  home_unlisted z p h none (Whole bytes may is) = Whole bytes (may_beside (Space z) 16384 p s m (Some bytes) (space_since z none) may) is
-  home_unlisted z p h none (IsTorn may torn) = IsTorn (may_beside (Space z) 16384 p s m None (space_since z none) may) torn
+  home_unlisted z p h none (Whole bytes may is) = Whole bytes (may_left_alone (Space z) 16384 p s m (Some bytes) (space_since z none) may) is
+  home_unlisted z p h none (IsTorn may torn) = IsTorn (may_left_alone (Space z) 16384 p s m None (space_since z none) may) torn
 
   pub slot_may : (i : ℕ) (h : Option Slot) → MayRead slot_held IsNoSlot Double 16896 i m h → h ≡ v.slot i
   slot_may i h (Whole bytes may is) =
-      let same : bytes ≡ shown Double 16896 i s = let e = opened.double i (Some bytes) (may_beside Double 16896 i s m (Some bytes) double_since may) in cc in
+      let same : bytes ≡ shown Double 16896 i s = let e = opened.double i (Some bytes) (may_left_alone Double 16896 i s m (Some bytes) double_since may) in cc in
       is ∙ ap slot_held same ∙ sym (opened.slot i)
-  slot_may i h (IsTorn may torn) = absurd (let e = opened.double i None (may_beside Double 16896 i s m None double_since may) in cc)
+  slot_may i h (IsTorn may torn) = absurd (let e = opened.double i None (may_left_alone Double 16896 i s m None double_since may) in cc)
 
   pub slot_reads : (i : ℕ) → slot_held (shown Double 16896 i m) ≡ v.slot i
-  slot_reads i = ap slot_held (shown_beside Double 16896 i s m double_since) ∙ sym (opened.slot i)
+  slot_reads i = ap slot_held (shown_left_alone Double 16896 i s m double_since) ∙ sym (opened.slot i)
 
   pub told_same : marks m ≡ v.told
-  told_same = marks_beside Double s m double_since ∙ sym opened.told
+  told_same = marks_left_alone (IsRestoreEvent spaces) (λ e on. (Space (space_at spaces on.0).space, on.2)) s m since ∙ sym opened.told
 
   -- a home of a listed page, at a moment inside
   abbrev pub IsLeft : ℕ → ℕ → Held → Type 0
@@ -98,7 +96,7 @@ module _ {M : Type 0} (v : View M) (may_log : LogView M → Type 0) (spaces : Li
       (λ (one : (i : ℕ) × (i < length spaces) × ((space_at spaces i).space ≡ z)).
       subst (λ (y : ℕ). IsFileSettled (Space y) 16384 m) one.2 ((restored one.0 one.1).settled (opened.spaces (space_at spaces one.0).space)))
       (λ (none : (i : ℕ) → i < length spaces → (space_at spaces i).space ≢ z). λ p x may.
-      opened.spaces z p x (may_beside (Space z) 16384 p s m x (space_since z none) may) ∙ ap (λ (y : List ℕ). Some y) (sym (shown_beside (Space z) 16384 p s m (space_since z none))))
+      opened.spaces z p x (may_left_alone (Space z) 16384 p s m x (space_since z none) may) ∙ ap (λ (y : List ℕ). Some y) (sym (shown_left_alone (Space z) 16384 p s m (space_since z none))))
       (listed_or_not spaces (length spaces) z)
 
   pub home_settled : HomesRestored spaces s m → (z p : ℕ) (h : Held) → MayRead (held p) IsNoText (Space z) 16384 p m h → h ≡ held p (shown (Space z) 16384 p m)

@@ -1,10 +1,12 @@
--- What events that leave a file as it is leave of its places: marks and files that are made among them.
-use Rattle.std.proofs.Common.{◌≡◌, inl, inr, ℕ, true≢false, List, [], ◌∷◌, ◌++◌, length, Option, refl, sym, ap, subst, ◌∙◌}
+-- What events that leave a file as it is leave of its places, and what writes and syncs leave of the marks.
+use Rattle.std.proofs.Common.{◌≡◌, inl, inr, ℕ, false, true≢false, List, [], ◌∷◌, ◌++◌, length, Option, refl, sym, ap, subst, ◌∙◌}
 use Rattle.std.proofs.lemmas.Bool.{cond-false, MatchBool-at_false}
-use Rattle.disk_model.specs.Event.{Event, Open, Make, Write, Sync, Tell, same_file, reads, is_there}
-use Rattle.disk_model.specs.Does.{AllAre, Since}
+use Rattle.disk_model.specs.Event.{Event, Open, Make, Write, Sync, Tell, same_file, reads, is_there, marks}
+use Rattle.disk_model.specs.Does.{AllAre, Since, IsOn}
 use Rattle.disk_model.specs.declared.names.FileName.{FileName}
 use Rattle.disk_model.proofs.CrashImage.{to_false}
+use Rattle.disk_model.proofs.FilesLemmas.{same_file-≡}
+use Rattle.disk_model.proofs.Frame.{since_marks}
 use Rattle.places.specs.Beside.{LeavesFile}
 use Rattle.places.specs.Places.{place, shown, May, Layout, AreWhole, HasPlaces}
 
@@ -57,11 +59,34 @@ module _ (g : FileName) where
   pub there_left_alone : (a b : List Event) → Since (LeavesFile g) a b → is_there g b ≡ is_there g a
   there_left_alone a b s = ap (is_there g) s.is ∙ there_all s.news a s.all
 
+  -- the writes that no sync covers are as they were
+  pub whole_left_alone : (layout : Layout) (a b : List Event) → Since (LeavesFile g) a b → AreWhole g layout a → AreWhole g layout b
+  whole_left_alone layout a b s whole = subst (λ (es : List Event). AreWhole g layout es) (sym s.is) (whole_all layout s.news a s.all whole)
+
   -- and it has its places
   pub places_left_alone : (layout : Layout) (a b : List Event) → Since (LeavesFile g) a b → HasPlaces g layout a → HasPlaces g layout b
   places_left_alone layout a b s h = record {
     some = h.some;
     there = there_left_alone a b s ∙ h.there;
     size = ap length (reads_left_alone a b s) ∙ h.size;
-    whole = subst (λ (es : List Event). AreWhole g layout es) (sym s.is) (whole_all layout s.news a s.all h.whole);
+    whole = whole_left_alone layout a b s h.whole;
   }
+
+-- a write or a sync of another file leaves it as it is
+pub leaves_file : (f g : FileName) → same_file g f ≡ false → (e : Event) → IsOn f e → LeavesFile g e
+leaves_file f g apart (Open files ms ws) on = absurd on
+leaves_file f g apart (Make h m) on = absurd on
+leaves_file f g apart (Write h at bytes shows) on = ap (λ (k : FileName). same_file g k) (same_file-≡ h f on) ∙ apart
+leaves_file f g apart (Sync h) on = ap (λ (k : FileName). same_file g k) (same_file-≡ h f on) ∙ apart
+leaves_file f g apart (Tell m) on = absurd on
+
+module _ (E : Event → Type 0) (on_file : (e : Event) → E e → (f : FileName) × IsOn f e) where
+  marks_all : (news es : List Event) → AllAre E news → marks (news ++ es) ≡ marks es
+  marks_all [] es all = refl
+  marks_all (e ∷ news) es all =
+      let (f, on) = on_file e all.0 in
+      since_marks f (news ++ es) (e ∷ (news ++ es)) (record { news = e ∷ []; is = refl; all = (on, tt) }) ∙ marks_all news es all.1
+
+  -- writes and syncs, of whichever files, tell no mark
+  pub marks_left_alone : (a b : List Event) → Since E a b → marks b ≡ marks a
+  marks_left_alone a b s = ap marks s.is ∙ marks_all s.news a s.all
