@@ -90,7 +90,7 @@ accepted info = record { flags_name = refl; mode_known = by info.ciphered }
     by true = omega arith
     by false = omega arith
 
-typed : (info : SpaceInfo) → IsTypedInfo info → IsTyped (head_of_space info)
+pub typed : (info : SpaceInfo) → IsTypedInfo info → IsTyped (head_of_space info)
 typed info t = record {
   space_fits = t.space_fits;
   pages_fits = t.pages_fit;

@@ -124,7 +124,7 @@ module _ (h : HeldHeader) (long : length h.salt ≡ 16) (few : length h.spaces �
       ∙ sym (append_assoc ((header_words h ++ (sw ++ zeros (200 - length sw))) ++ code) (zeros 3848) (zeros 4))
       ∙ ap (λ (l : List ℕ). l ++ zeros 4) (append_assoc (header_words h ++ (sw ++ zeros (200 - length sw))) code (zeros 3848) ∙ append_assoc (header_words h) (sw ++ zeros (200 - length sw)) (code ++ zeros 3848))
 
-  header_front-long : length (header_front h) ≡ 4092
+  pub header_front-long : length (header_front h) ≡ 4092
   unfolding header_front
   header_front-long =
       let a = front_240-long in

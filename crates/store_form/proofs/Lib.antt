@@ -7,3 +7,8 @@ pub mod FirstPages
 pub mod RestPages
 pub mod PageContents
 pub mod HeaderWrites
+pub mod CreationSteps
+pub mod SettledFiles
+pub mod ZeroPlaces
+pub mod FirstTexts
+pub mod CreatedFiles

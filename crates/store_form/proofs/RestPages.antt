@@ -147,7 +147,7 @@ salt_told header keys c s told bytes long (Means means) read =
 -- ---- what reading gives
 
 -- a text isn't zero bytes
-text_not_zero : (size space page lsn version : ℕ) (key : Option PageKey) (plain : Plain) (bytes : List ℕ) → 8 < length bytes → IsText size space page lsn version key plain bytes → are_zero bytes ≡ false
+pub text_not_zero : (size space page lsn version : ℕ) (key : Option PageKey) (plain : Plain) (bytes : List ℕ) → 8 < length bytes → IsText size space page lsn version key plain bytes → are_zero bytes ≡ false
 text_not_zero size space page lsn version key plain bytes long t = by (are_zero bytes) refl
   where
     by : (b : Bool) → are_zero bytes ≡ b → are_zero bytes ≡ false

@@ -1,0 +1,41 @@
+-- What a disk may hold while a store is created on it.
+use Rattle.std.specs.Prelude.{◌≡◌, ◌⊎◌, ℕ, false, List, [], ◌∷◌, ◌++◌, None, All}
+use Rattle.disk_model.specs.Event.{Event, is_there, marks, record_of}
+use Rattle.disk_model.specs.Image.{Image, IsImage}
+use Rattle.disk_model.specs.declared.names.FileName.TheVariants.{Log, Double, Space}
+use Rattle.key_ring.specs.Ring.{RingEntry}
+use Rattle.places.specs.Places.{place}
+use Rattle.space_head.specs.declared.space.SpaceInfo.{SpaceInfo}
+use Rattle.store_files.specs.Header.{header_in}
+use Rattle.store_image.specs.Record.{Item, PageText, RingBlock}
+use Rattle.store_model.specs.Fold.{empty}
+use Rattle.crash_image.specs.Recovers.{Recovers}
+use Rattle.crash_image.specs.Stands.{Lucky}
+use Rattle.crash_image.specs.Writes.{written_items}
+use Rattle.store_form.specs.declared.plan.SpacePlan.{SpacePlan}
+
+-- no file of a store with these spaces is there
+pub record HasNoFile (ids : List ℕ) (es : List Event) : Type 0 where
+  pub log : is_there Log es ≡ false
+  pub double : is_there Double es ≡ false
+  pub spaces : All (λ id. is_there (Space id) es ≡ false) ids
+
+-- there is no valid header
+abbrev pub IsNotFormatted : Image → Type 0
+IsNotFormatted image = (image.is_made Log ≡ false) ⊎ (header_in (place 4096 0 (image.bytes Log)) ≡ None)
+
+-- Each image whose torn places fail their checksums has no valid header, or recovers to the spaces with each page from page 1 on unused.
+abbrev pub LeaveNoneOrEmpty : List SpaceInfo → List Event → Type 0
+LeaveNoneOrEmpty spaces es = (image : Image) → IsImage es image → Lucky image → (keys : List RingEntry) → IsNotFormatted image ⊎ Recovers image keys (empty spaces) 1
+
+-- the text of a page 0 at LSN 8192, and no ring block
+abbrev pub IsFirstPage : Item → Type 0
+IsFirstPage (PageText s p t) = (p ≡ 0) × (t.lsn ≡ 8192)
+IsFirstPage (RingBlock n version bytes) = ⊥
+
+-- Since s no mark was told, and of page texts and ring blocks only texts of pages 0 were written.
+pub record WritesFirstPages (s m : List Event) : Type 0 where
+  pub told : marks m ≡ marks s
+  pub items : List Item
+  pub is : written_items (record_of m) ≡ items ++ written_items (record_of s)
+  pub first : All IsFirstPage items
