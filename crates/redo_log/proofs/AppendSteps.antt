@@ -24,6 +24,8 @@ use Rattle.redo_log.specs.Blocks.{Keys, IsStoreKey, redo_form}
 use Rattle.redo_log.specs.Log.{IsOpen, durable, free_of, pending_at, pending_count, FitsRing}
 use Rattle.redo_log.specs.Append.{appended, taken_back, IsEntry, HasLast, with_pending, JournalGrows, HasPending, logged_entry}
 use Rattle.redo_log.specs.Append.{IsRedoKey}
+use Rattle.redo_log.specs.Recorded.{BlocksOnce}
+use Rattle.disk_model.specs.Event.{Event}
 use Rattle.redo_log.proofs.PendingSteps.{pending_front, pending_back}
 use Rattle.redo_log.proofs.TextFacts.{IsNth, nth_is}
 
@@ -139,6 +141,8 @@ module _ (old : LogState) (mtr : List Change) (key : RedoKey) (is : IsOpen old) 
     below = is.below;
     order = let a = is.order in omega (arith, total);
     room = let a = is.order in let b = is.room in omega (arith, free);
+    handed_all = let a = is.handed_all in omega (arith, a, same_durable);
+    handed_few = let a = is.handed_few in omega (arith, a);
     whole = let w = is.whole in let l = length-append old.pending more in omega (arith, long, w, l, total);
     valid = λ j lt. ⊎_elim (λ (b : j < pending_count old). ap (is_ring_block (durable new + j)) (front_at j b) ∙ ap (λ (d : ℕ). is_ring_block (d + j) (pending_at old j)) same_durable ∙ is.valid j b)
         (λ (ge : pending_count old ≤ j). behind j (j - pending_count old) (omega (arith, ge)) (omega (arith, ge, lt, total))) (cases_lt j (pending_count old));
@@ -171,6 +175,7 @@ module _ (old : LogState) (mtr : List Change) (key : RedoKey) (is : IsOpen old) 
   appended_last = record {
     some = omega (arith, some);
     within = omega (arith, total);
+    kept = let a = is.handed_few in omega (arith, a);
     first = let e : pending_count new - needed ≡ pending_count old + 0 = omega (arith, total) in
         ap (λ (i : ℕ). is_first (block_flags (pending_at new i))) e ∙ ap (λ (b : List ℕ). is_first (block_flags b)) (back_at 0) ∙ (nth 0 (omega (arith, some))).first_is ∙ eq-eqb 0 0 refl;
     others = λ j gt lt.
@@ -188,7 +193,7 @@ module _ (old : LogState) (mtr : List Change) (key : RedoKey) (is : IsOpen old) 
   }
 
   pub appended_undone : taken_back new needed ≡ old
-  appended_undone = λ i. record { blocks = old.blocks; from = old.from; sequence = old.sequence; next = back i; pending = front i }
+  appended_undone = λ i. record { blocks = old.blocks; from = old.from; sequence = old.sequence; next = back i; handed = old.handed; pending = front i }
     where
       back : old.next + needed - needed ≡ old.next
       back = omega arith
@@ -198,6 +203,20 @@ module _ (old : LogState) (mtr : List Change) (key : RedoKey) (is : IsOpen old) 
           let w = is.whole in
           let e : (pending_count new - needed) * 4096 ≡ length old.pending = omega (arith, w, total) in
           ap (λ (n : ℕ). take n (old.pending ++ more)) e ∙ take-append_seam old.pending more
+
+  pub appended_once : (es : List Event) → BlocksOnce old es → BlocksOnce new es
+  appended_once es o = record {
+    once = o.once;
+    below = o.below;
+    pending = λ n v b x low.
+        let few = is.handed_few in
+        let order = is.order in
+        let lt = o.below n v b x in
+        let p = o.pending n v b x (omega (arith, low, same_durable)) in
+        let i : n - durable old ≡ n - durable new = omega (arith, same_durable) in
+        let e : pending_at old (n - durable old) ≡ pending_at new (n - durable new) = sym (front_at (n - durable old) (omega (arith, lt, few, order, low, same_durable))) ∙ ap (λ (k : ℕ). pending_at new k) i in
+        (p.0 ∙ ap block_version e, p.1 ∙ e);
+  }
 
   pub appended_journal : AreAllowed mtr → JournalGrows old new mtr key
   appended_journal allowed keys has r start journal fits state j =

@@ -9,7 +9,7 @@ use Rattle.redo_text.specs.declared.change.Change.{Change}
 use Rattle.redo_log.specs.Blocks.{Keys, redo_form}
 use Rattle.ring_log.specs.Batches.{settle, checkpointed}
 use Rattle.redo_log.specs.State.{LogState}
-use Rattle.redo_log.specs.Log.{IsOpen, durable, pending_count, empty_log, written_out, with_checkpoint, checked, FitsRing}
+use Rattle.redo_log.specs.Log.{IsOpen, durable, pending_count, empty_log, handed_over, written_out, with_checkpoint, checked, FitsRing}
 use Rattle.redo_log.proofs.CheckSteps.{checked_same, checked_other}
 
 -- a log with nothing pending
@@ -23,6 +23,8 @@ empty_open blocks from sequence least most low high some below = record {
   below = below;
   order = omega arith;
   room = omega arith;
+  handed_all = omega arith;
+  handed_few = omega arith;
   whole = refl;
   valid = λ j lt. absurd (omega (arith, lt));
 }
@@ -40,7 +42,24 @@ empty_journal blocks from keys r begins settled written none = record {
   settled = record { before = []; behind = []; parts = refl; left = sym settled };
 }
 
--- the pending blocks are given up
+-- the pending blocks were handed to the disk
+pub handed_open : (old : LogState) → IsOpen old → IsOpen (handed_over old)
+handed_open old is = record {
+  least = is.least;
+  most = is.most;
+  low = is.low;
+  high = is.high;
+  some = is.some;
+  below = is.below;
+  order = is.order;
+  room = is.room;
+  handed_all = omega arith;
+  handed_few = omega arith;
+  whole = is.whole;
+  valid = is.valid;
+}
+
+-- the pending blocks are durable
 pub cleared_open : (old : LogState) → IsOpen old → IsOpen (written_out old)
 cleared_open old is = record {
   least = is.least;
@@ -51,6 +70,8 @@ cleared_open old is = record {
   below = is.below;
   order = let a = is.order in omega arith;
   room = is.room;
+  handed_all = omega arith;
+  handed_few = omega arith;
   whole = refl;
   valid = λ j lt. absurd (omega (arith, lt));
 }
@@ -77,6 +98,8 @@ moved_open old f is low high = record {
   below = let a = is.below in omega (arith, low);
   order = let a = is.order in omega (arith, high);
   room = let a = is.room in omega (arith, low);
+  handed_all = is.handed_all;
+  handed_few = is.handed_few;
   whole = is.whole;
   valid = is.valid;
 }

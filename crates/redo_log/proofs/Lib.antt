@@ -12,3 +12,4 @@ pub mod TakeBackSteps
 pub mod FreshLog
 pub mod RunSteps
 pub mod OpeningSteps
+pub mod RecordSteps

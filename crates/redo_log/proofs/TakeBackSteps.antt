@@ -8,15 +8,17 @@ use Rattle.ring_log.proofs.Journals.{journal_less}
 use Rattle.store_image.specs.View.{Logged}
 use Rattle.store_files.specs.RingBlock.{is_ring_block}
 use Rattle.redo_text.specs.declared.change.Change.{Change}
-use Rattle.redo_text.specs.Reading.{block_flags, is_first}
+use Rattle.redo_text.specs.Reading.{block_version, block_flags, is_first}
 use Rattle.redo_log.specs.State.{LogState}
 use Rattle.redo_log.specs.Blocks.{Keys, redo_form}
 use Rattle.redo_log.specs.Log.{IsOpen, durable, pending_at, pending_count, FitsRing}
 use Rattle.redo_log.specs.Append.{taken_back, HasLast, JournalShrinks}
+use Rattle.redo_log.specs.Recorded.{BlocksOnce}
+use Rattle.disk_model.specs.Event.{Event}
 use Rattle.redo_log.proofs.AppendSteps.{place_front}
 
 -- A log whose last k blocks are dropped.
-module _ (old : LogState) (k : ℕ) (is : IsOpen old) (few : k ≤ pending_count old) where
+module _ (old : LogState) (k : ℕ) (is : IsOpen old) (few : k ≤ pending_count old) (free : old.handed + k ≤ old.next) where
   abbrev left : ℕ
   left = pending_count old - k
 
@@ -43,6 +45,8 @@ module _ (old : LogState) (k : ℕ) (is : IsOpen old) (few : k ≤ pending_count
     below = is.below;
     order = let a = is.order in omega (arith, kept_count, few);
     room = let a = is.room in omega arith;
+    handed_all = let a = is.handed_all in omega (arith, a, kept_durable);
+    handed_few = omega (arith, free);
     whole = omega (arith, kept_long);
     valid = λ j lt. let b : j < left = omega (arith, lt, kept_count) in
         ap (is_ring_block (durable (taken_back old k) + j)) (kept_at j b) ∙ ap (λ (d : ℕ). is_ring_block (d + j) (pending_at old j)) kept_durable ∙ is.valid j (omega (arith, b));
@@ -54,6 +58,19 @@ module _ (old : LogState) (k : ℕ) (is : IsOpen old) (few : k ≤ pending_count
     from = fits.from;
     written = fits.written ∙ sym kept_durable;
     blocks = λ j lt. let b : j < left = omega (arith, lt, kept_count) in fits.blocks j (omega (arith, b)) ∙ sym (kept_at j b);
+  }
+
+  pub taken_once : (es : List Event) → BlocksOnce old es → BlocksOnce (taken_back old k) es
+  taken_once es o = record {
+    once = o.once;
+    below = o.below;
+    pending = λ n v b x low.
+        let order = is.order in
+        let lt = o.below n v b x in
+        let p = o.pending n v b x (omega (arith, low, kept_durable)) in
+        let i : n - durable old ≡ n - durable (taken_back old k) = omega (arith, kept_durable) in
+        let e : pending_at old (n - durable old) ≡ pending_at (taken_back old k) (n - durable (taken_back old k)) = sym (kept_at (n - durable old) (omega (arith, lt, free, order, low, kept_durable))) ∙ ap (λ (j : ℕ). pending_at (taken_back old k) j) i in
+        (p.0 ∙ ap block_version e, p.1 ∙ e);
   }
 
 -- A journal of two parts has a number between them.

@@ -52,10 +52,11 @@ abbrev pub IsEntry : LogState → LogState → List Change → RedoKey → Type 
 IsEntry old new mtr key =
     (keys : Keys) → IsStoreKey keys key → (block : ℕ → List ℕ) → HasPending block new → AreWholeEntries old.blocks (redo_form keys) block old.next (logged_entry old mtr ∷ []) new.next
 
--- the last k pending blocks are those of one mini-transaction, by their flags
+-- the last k pending blocks are those of one mini-transaction, by their flags, and none of them was handed to the disk
 pub record HasLast (log : LogState) (k : ℕ) : Type 0 where
   pub some : 0 < k
   pub within : k ≤ pending_count log
+  pub kept : log.handed + k ≤ log.next
   pub first : is_first (block_flags (pending_at log (pending_count log - k))) ≡ true
   pub others : (j : ℕ) → pending_count log - k < j → j < pending_count log → is_first (block_flags (pending_at log j)) ≡ false
 

@@ -4,6 +4,7 @@ pub mod Check
 pub mod Log
 pub mod Events
 pub mod Append
+pub mod Recorded
 pub mod Fresh
 pub mod Runs
 pub mod Opening

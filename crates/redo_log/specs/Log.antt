@@ -18,7 +18,7 @@ durable log = log.next - pending_count log
 abbrev pub pending_at : LogState → ℕ → List ℕ
 pending_at log j = place 4096 j log.pending
 
--- the numbers are those of a ring, and each pending block is valid under its number
+-- the numbers are those of a ring, each durable block was handed to the disk, and each pending block is valid under its number
 pub record IsOpen (log : LogState) : Type 0 where
   pub least : 32 ≤ log.blocks
   pub most : log.blocks ≤ 4096
@@ -28,20 +28,26 @@ pub record IsOpen (log : LogState) : Type 0 where
   pub below : log.sequence < log.from
   pub order : log.from + pending_count log ≤ log.next
   pub room : log.next ≤ log.from + log.blocks
+  pub handed_all : durable log ≤ log.handed
+  pub handed_few : log.handed ≤ log.next
   pub whole : length log.pending ≡ pending_count log * 4096
   pub valid : (j : ℕ) → j < pending_count log → is_ring_block (durable log + j) (pending_at log j) ≡ true
 
 -- a log with nothing pending
 abbrev pub empty_log : ℕ → ℕ → ℕ → LogState
-empty_log blocks from sequence = record { blocks = blocks; from = from; sequence = sequence; next = from; pending = [] }
+empty_log blocks from sequence = record { blocks = blocks; from = from; sequence = sequence; next = from; handed = from; pending = [] }
 
 -- how many blocks of the ring are free
 abbrev pub free_of : LogState → ℕ
 free_of log = log.blocks - (log.next - log.from)
 
--- the log once its pending blocks are durable
+-- the log once its pending blocks were handed to the disk, which may have some of them
+abbrev pub handed_over : LogState → LogState
+handed_over log = record log { handed = log.next }
+
+-- and once they are durable
 abbrev pub written_out : LogState → LogState
-written_out log = record log { pending = [] }
+written_out log = record log { handed = log.next; pending = [] }
 
 -- and once the run begins at another block
 abbrev pub with_checkpoint : LogState → ℕ → LogState

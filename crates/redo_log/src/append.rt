@@ -1,14 +1,16 @@
 // Mini-transactions are added to the pending blocks, and taken back.
-ghost use Rattle.std.specs.Prelude.{◌≡◌, ℕ, ◌+◌, ◌-◌, ◌*◌, ◌<◌, ◌≤◌, ◌^◌, length, IfOk, OnOk, OnErr, IfErr};
+ghost use Rattle.std.specs.Prelude.{◌≡◌, ℕ, ◌+◌, ◌-◌, ◌*◌, ◌<◌, ◌≤◌, ◌^◌, List, length, IfOk, OnOk, OnErr, IfErr};
 ghost use Rattle.byte_list.specs.Bytes.{AreBytes};
 ghost use Rattle.redo_text.specs.Block.{block_count};
 ghost use Rattle.redo_text.specs.Reading.{block_flags, is_first};
 ghost use Rattle.redo_text.specs.Text.{text_of, AreAllowed};
+ghost use Rattle.disk_model.specs.Event.{Event};
 ghost use Rattle.disk_model.specs.Past.{Past, At};
 ghost use Rattle.ring_log.specs.Ring.{RingState, RingReady};
 ghost use Rattle.redo_log.specs.Blocks.{Keys, redo_form};
 ghost use Rattle.redo_log.specs.Log.{IsOpen, pending_at, pending_count, FitsRing};
 ghost use Rattle.redo_log.specs.Append.{appended, taken_back, with_pending, IsRedoKey, IsLogRefusal, IsEntry, HasLast, HasRoomFor, JournalGrows, JournalShrinks};
+ghost use Rattle.redo_log.specs.Recorded.{BlocksOnce};
 
 use crate::{Log, LogFault};
 use byte_list::fields::be16_at;
@@ -41,6 +43,8 @@ impl Log {
         ensures fits { OnOk result ((r : RingState) → FitsRing r self.old → FitsRing (with_pending r self.new) self.new) }
         ensures ready { OnOk result ((keys : Keys) (r : RingState) (past : Past) → At (RingReady self.old.blocks (redo_form keys) r) past → At (RingReady self.old.blocks (redo_form keys) (with_pending r self.new)) past) }
         ensures journal { OnOk result (JournalGrows self.old self.new mtr.now key.now) }
+        // A record of writes that agrees with the log agrees with it still.
+        ensures recorded { OnOk result ((es : List Event) → BlocksOnce self.old es → BlocksOnce self.new es) }
         ensures refusal { IfErr result (IsLogRefusal self.old (block_count (text_of mtr.now))) }
         ensures unchanged { OnErr result (self.new ≡ self.old) }
         ensures open { IsOpen self.new }
@@ -65,7 +69,8 @@ impl Log {
     }
 
     /// Takes back the mini-transaction of this LSN, whose blocks must be the last pending ones: they
-    /// are dropped, and the next block is the first of them again.
+    /// are dropped, and the next block is the first of them again. None of them may have been handed
+    /// to the disk, since other bytes get their numbers then, and with these their IVs.
     pub fn take_back(&mut self, lsn: u64)
         requires last { (k : ℕ) × HasLast self.old k }
         requires lsn { lsn ≡ self.old.next * 4096 }
@@ -73,6 +78,7 @@ impl Log {
         // A ring that the log fitted is fitted still, and its journal is without the mini-transaction.
         ensures fits { (r : RingState) → FitsRing r self.old → FitsRing r self.new }
         ensures journal { JournalShrinks self.old self.new }
+        ensures recorded { (es : List Event) → BlocksOnce self.old es → BlocksOnce self.new es }
         ensures open { IsOpen self.new }
     {
         let _ = lsn;

@@ -4,11 +4,13 @@ ghost use Rattle.disk_model.specs.Does.{Does};
 ghost use Rattle.disk_model.specs.Event.{Sync};
 ghost use Rattle.disk_model.specs.Past.{Past, At, Throughout, MayGrow, IsWrite, grow, HasDiskCause, HasDiskMemoryCause};
 ghost use Rattle.disk_model.specs.declared.names.FileName.TheVariants.{Log as LogFile};
+ghost use Rattle.key_ring.specs.Ring.{RingEntry};
 ghost use Rattle.places.specs.Batches.{From};
 ghost use Rattle.places.specs.Places.{HasPlaces};
 ghost use Rattle.ring_log.specs.Batches.{checking};
 ghost use Rattle.ring_log.specs.Ring.{RingState, Ringed, RingReady, IsBound, IsRingJournal, AllRingStand};
 ghost use Rattle.ring_log.specs.Opening.{IsFound};
+ghost use Rattle.store_files.specs.Header.{HeldHeader};
 ghost use Rattle.store_image.specs.Places.{LogView};
 ghost use Rattle.store_image.specs.View.{Logged};
 ghost use Rattle.redo_text.specs.declared.change.Change.{Change};
@@ -17,8 +19,9 @@ ghost use Rattle.redo_log.specs.Check.{check_bytes};
 ghost use Rattle.places.specs.Writes.{IsPart};
 ghost use Rattle.redo_log.specs.Events.{side_batch, CheckWriting, CheckWrote, CheckSettled, IsCheckEvent, check_event};
 ghost use Rattle.redo_log.specs.Fresh.{fresh_ring, IsFresh};
-ghost use Rattle.redo_log.specs.Opening.{IsOpening, IsOpenedLog};
+ghost use Rattle.redo_log.specs.Opening.{HasHeaderBlock, IsOpening, IsOpenedLog};
 ghost use Rattle.redo_log.specs.Log.{IsOpen, durable, checked, with_checkpoint, FitsRing};
+ghost use Rattle.redo_log.specs.Recorded.{KeepsItems, BlocksOnce, IsRecordOnce, AreBlocksSettled};
 
 use crate::Log;
 use crate::check_block::fill_check;
@@ -66,6 +69,7 @@ fn settle_check<D: Disk>(
     ensures does { Does (From (CheckWriting blocks sequence from) (D.past disk.old)) (IsCheckEvent sequence from) (From (CheckSettled blocks sequence from) (D.past disk.old)) (D.past disk.old) (D.past disk.new) result }
     ensures exact { OnOk result (D.past disk.new ≡ grow (Sync LogFile) (grow (check_event sequence from) (D.past disk.old))) }
     ensures part { OnErr result (IsPart LogFile 4096 (side_batch sequence from) 1 (D.past disk.old) (D.past disk.new)) }
+    ensures items { Throughout (From KeepsItems (D.past disk.old)) (D.past disk.old) (D.past disk.new) }
     ensures later { D.is_later disk.old disk.new }
     ensures calls { D.clock disk.new ≤ D.clock disk.old + 2 }
     ensures cause { HasDiskCause (D.faults disk.old) (D.faults disk.new) result }
@@ -90,6 +94,8 @@ pub fn write_first_checkpoint<D: Disk>(disk: &mut D, blocks: u64) -> Result<(), 
     ensures ready { (keys : Keys) → OnOk result (At (RingReady blocks (redo_form keys) (fresh_ring blocks)) (D.past disk.new)) }
     ensures exact { OnOk result (D.past disk.new ≡ grow (Sync LogFile) (grow (check_event 1 2) (D.past disk.old))) }
     ensures part { OnErr result (IsPart LogFile 4096 (side_batch 1 2) 1 (D.past disk.old) (D.past disk.new)) }
+    // Nothing of the record's page texts and ring blocks is changed by it.
+    ensures items { Throughout (From KeepsItems (D.past disk.old)) (D.past disk.old) (D.past disk.new) }
     ensures places { At (HasPlaces LogFile (file_layout blocks)) (D.past disk.new) }
     ensures later { D.is_later disk.old disk.new }
     ensures calls { D.clock disk.new ≤ D.clock disk.old + 2 }
@@ -119,10 +125,12 @@ pub fn write_opening_checkpoint<D: Disk>(
     requires order { sequence < end }
     requires high { end + blocks ≤ 2 ^ 50 }
     requires places { At (HasPlaces LogFile (file_layout blocks)) (D.past disk.old) }
-    // Each lucky image of each moment has the log that was found or the one behind it, and at Ok a session may begin there.
-    ensures opens { (keys : Keys) (found : LogView (List Change)) → found.end ≡ end → At (IsFound blocks (redo_form keys) sequence found) (D.past disk.old) → Does (IsOpening blocks (redo_form keys) found) (IsCheckEvent (sequence + 1) (end + blocks)) (IsOpenedLog blocks (redo_form keys) sequence found) (D.past disk.old) (D.past disk.new) result }
+    // Each lucky image of each moment has its length, its header, and the log that was found or the one behind it, and at Ok a session may begin there.
+    ensures opens { (keys : Keys) (found : LogView (List Change)) (header : List ℕ) → found.end ≡ end → At (IsFound blocks (redo_form keys) sequence found) (D.past disk.old) → At (HasHeaderBlock header) (D.past disk.old) → Does (IsOpening blocks (redo_form keys) header found) (IsCheckEvent (sequence + 1) (end + blocks)) (IsOpenedLog blocks (redo_form keys) sequence header found) (D.past disk.old) (D.past disk.new) result }
     ensures exact { OnOk result (D.past disk.new ≡ grow (Sync LogFile) (grow (check_event (sequence + 1) (end + blocks)) (D.past disk.old))) }
     ensures part { OnErr result (IsPart LogFile 4096 (side_batch (sequence + 1) (end + blocks)) 1 (D.past disk.old) (D.past disk.new)) }
+    // Nothing of the record's page texts and ring blocks is changed by it.
+    ensures items { Throughout (From KeepsItems (D.past disk.old)) (D.past disk.old) (D.past disk.new) }
     ensures places { At (HasPlaces LogFile (file_layout blocks)) (D.past disk.new) }
     ensures later { D.is_later disk.old disk.new }
     ensures calls { D.clock disk.new ≤ D.clock disk.old + 2 }
@@ -147,6 +155,7 @@ impl Log {
         ensures nothing { from ≡ self.now.from → (result ≡ Ok tt) × (D.past disk.new ≡ D.past disk.old) × (disk.new ≡ disk.old) }
         ensures exact { self.now.from < from → OnOk result (D.past disk.new ≡ grow (Sync LogFile) (grow (check_event (self.now.sequence + 1) from) (D.past disk.old))) }
         ensures part { OnErr result (IsPart LogFile 4096 (side_batch (self.now.sequence + 1) from) 1 (D.past disk.old) (D.past disk.new)) }
+        ensures items { Throughout (From KeepsItems (D.past disk.old)) (D.past disk.old) (D.past disk.new) }
         ensures later { D.is_later disk.old disk.new }
         ensures calls { D.clock disk.new ≤ D.clock disk.old + 2 }
         ensures cause { HasDiskCause (D.faults disk.old) (D.faults disk.new) result }
@@ -196,6 +205,11 @@ impl Log {
         ensures part { OnErr result (IsPart LogFile 4096 (side_batch (self.old.sequence + 1) from) 1 (D.past disk.old) (D.past disk.new)) }
         ensures moved { OnOk result (self.new ≡ with_checkpoint self.old from) }
         ensures kept { OnErr result (self.new ≡ self.old) }
+        // The record of writes agrees with the log at each moment, and nothing of its page texts and ring blocks is changed.
+        ensures items { Throughout (From KeepsItems (D.past disk.old)) (D.past disk.old) (D.past disk.new) }
+        ensures recorded { At (BlocksOnce self.old) (D.past disk.old) → Throughout (BlocksOnce self.old) (D.past disk.old) (D.past disk.new) × At (BlocksOnce self.new) (D.past disk.new) }
+        ensures record { (header : HeldHeader) (keys : List RingEntry) (salts : ℕ → List ℕ) → At (IsRecordOnce header keys salts) (D.past disk.old) → Throughout (IsRecordOnce header keys salts) (D.past disk.old) (D.past disk.new) }
+        ensures settles { (keys : Keys) (r : RingState) (start : ℕ) (journal : List (Logged (List Change))) → FitsRing r self.old → r.written ≡ r.settled → At (BlocksOnce self.old) (D.past disk.old) → Throughout (AreBlocksSettled self.old.blocks keys (checking r from) start journal self.old.next) (D.past disk.old) (D.past disk.new) }
         ensures open { IsOpen self.new }
         ensures places { At (HasPlaces LogFile (file_layout self.old.blocks)) (D.past disk.new) }
         ensures later { D.is_later disk.old disk.new }

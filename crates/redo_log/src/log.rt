@@ -1,9 +1,11 @@
 // The log in memory: which blocks of its ring are used, and the blocks that are pending.
-ghost use Rattle.std.specs.Prelude.{◌≡◌, ◌+◌, ◌*◌, ◌<◌, ◌≤◌, ◌^◌, Ok, None, []};
+ghost use Rattle.std.specs.Prelude.{◌≡◌, ◌+◌, ◌*◌, ◌<◌, ◌≤◌, ◌^◌, Ok, None, [], List};
+ghost use Rattle.disk_model.specs.Event.{Event};
 ghost use Rattle.places.specs.Places.{place};
 ghost use Rattle.ring_log.specs.Ring.{RingState, IsRingJournal};
 ghost use Rattle.redo_log.specs.Blocks.{Keys, redo_form};
 ghost use Rattle.redo_log.specs.Log.{IsOpen, durable, empty_log, free_of, pending_at, pending_count, FitsRing};
+ghost use Rattle.redo_log.specs.Recorded.{AreBlocksOnce, AreBlocksBelow, BlocksOnce};
 
 use cause_core::OutOfMemory;
 use std::alloc::Global;
@@ -25,14 +27,18 @@ pub enum LogFault {
 }
 
 /// The log of a session: a ring of so many blocks, whose last synced checkpoint has this sequence
-/// and this first block, the number of the next block, and the pending blocks, which are in memory
-/// alone. Contracts see these five.
+/// and this first block, the number of the next block, the number behind the blocks that were handed
+/// to the disk, and the pending blocks, which are in memory until they are durable. Contracts see
+/// these six.
 #[derive(Drop)]
 pub struct Log {
     pub(crate) blocks: u64,
     pub(crate) from: u64,
     pub(crate) sequence: u64,
     pub(crate) next: u64,
+    // Behind the blocks that were handed to the disk, which are more than the durable ones once a
+    // write out failed.
+    pub(crate) handed: u64,
     // The pending blocks, 4096 bytes each, one after another.
     pub(crate) pending: Vec<u8>,
 }
@@ -44,9 +50,9 @@ impl Model for Log {
 
     ghost use Rattle.redo_log.specs.Log.{IsOpen};
 
-    ghost view = { λ s. record { blocks = s.blocks; from = s.from; sequence = s.sequence; next = s.next; pending = s.pending.items } };
+    ghost view = { λ s. record { blocks = s.blocks; from = s.from; sequence = s.sequence; next = s.next; handed = s.handed; pending = s.pending.items } };
 
-    ghost invariant = { λ s. IsOpen (record { blocks = s.blocks; from = s.from; sequence = s.sequence; next = s.next; pending = s.pending.items }) };
+    ghost invariant = { λ s. IsOpen (record { blocks = s.blocks; from = s.from; sequence = s.sequence; next = s.next; handed = s.handed; pending = s.pending.items }) };
 }
 
 impl Log {
@@ -64,6 +70,8 @@ impl Log {
         requires below { sequence < from }
         ensures log { result ≡ Ok (empty_log blocks from sequence) }
         ensures open { IsOpen (empty_log blocks from sequence) }
+        // The record of writes agrees with it, where that has one block a number, and none of this number or a later one.
+        ensures recorded { (es : List Event) → AreBlocksOnce es → AreBlocksBelow from es → BlocksOnce (empty_log blocks from sequence) es }
         // A ring with these numbers is one that it fits, and its journal begins there.
         ensures fits { (r : RingState) → r.sequence ≡ sequence → r.from ≡ from → r.written ≡ from → FitsRing r (empty_log blocks from sequence) }
         ensures journal { (keys : Keys) (r : RingState) → r.from ≡ from → r.settled ≡ from → r.written ≡ from → r.newer ≡ None → IsRingJournal blocks (redo_form keys) r from [] from }
@@ -73,6 +81,7 @@ impl Log {
             from,
             sequence,
             next: from,
+            handed: from,
             pending: Vec::new(alloc),
         })
     }

@@ -7,13 +7,16 @@ ghost use Rattle.disk_model.specs.declared.names.FileName.TheVariants.{Log as Lo
 ghost use Rattle.places.specs.Batches.{From};
 ghost use Rattle.places.specs.Places.{HasPlaces};
 ghost use Rattle.ring_log.specs.Batches.{more, settle};
+ghost use Rattle.key_ring.specs.Ring.{RingEntry};
 ghost use Rattle.ring_log.specs.Ring.{RingState, Ringed, RingReady, IsRingJournal, AllRingStand};
+ghost use Rattle.store_files.specs.Header.{HeldHeader};
 ghost use Rattle.store_image.specs.View.{Logged};
 ghost use Rattle.redo_text.specs.declared.change.Change.{Change};
 ghost use Rattle.redo_log.specs.Blocks.{Keys, redo_form, file_layout};
 ghost use Rattle.places.specs.Writes.{writes_of, grows, IsPart};
 ghost use Rattle.redo_log.specs.Events.{block_batch, BlocksWriting, BlocksWrote, IsBlockEvent, out_events};
-ghost use Rattle.redo_log.specs.Log.{IsOpen, durable, pending_at, pending_count, written_out, FitsRing};
+ghost use Rattle.redo_log.specs.Log.{IsOpen, durable, pending_at, pending_count, handed_over, written_out, FitsRing};
+ghost use Rattle.redo_log.specs.Recorded.{BlocksOnce, IsRecordOnce, AreBlocksSettled};
 
 use crate::Log;
 use disk_model::{Disk, DiskError, FileName};
@@ -63,6 +66,9 @@ impl Log {
     fn settle_blocks<D: Disk>(&self, disk: &mut D) -> Result<(), DiskError>
         requires places { At (HasPlaces LogFile (file_layout self.now.blocks)) (D.past disk.old) }
         ensures does { (keys : Keys) (r : RingState) → FitsRing r self.now → At (RingReady self.now.blocks (redo_form keys) r) (D.past disk.old) → Does (Ringed self.now.blocks (redo_form keys) (more r (pending_count self.now))) (IsBlockEvent self.now) (RingReady self.now.blocks (redo_form keys) (settle r (pending_count self.now))) (D.past disk.old) (D.past disk.new) result }
+        ensures recorded { At (BlocksOnce (handed_over self.now)) (D.past disk.old) → Throughout (BlocksOnce (handed_over self.now)) (D.past disk.old) (D.past disk.new) }
+        ensures record { (header : HeldHeader) (keys : List RingEntry) (salts : ℕ → List ℕ) → At (BlocksOnce (handed_over self.now)) (D.past disk.old) → At (IsRecordOnce header keys salts) (D.past disk.old) → Throughout (IsRecordOnce header keys salts) (D.past disk.old) (D.past disk.new) }
+        ensures open { IsOpen self.now }
         ensures places { At (HasPlaces LogFile (file_layout self.now.blocks)) (D.past disk.new) }
         ensures nothing { pending_count self.now ≡ 0 → (result ≡ Ok tt) × (disk.new ≡ disk.old) }
         ensures exact { OnOk result (D.past disk.new ≡ grows (out_events (pending_count self.now) self.now) (D.past disk.old)) }
@@ -82,11 +88,30 @@ impl Log {
         disk.sync(FileName::Log)
     }
 
+    // The pending blocks were handed to the disk, and may be there.
+    fn hand_over(&mut self)
+        ensures handed { self.new ≡ handed_over self.old }
+        ensures open { IsOpen self.new }
+    {
+        self.handed = self.next;
+    }
+
+    // The pending blocks are durable.
+    fn end_pending(&mut self)
+        ensures ended { self.new ≡ written_out self.old }
+        ensures fits { (r : RingState) → FitsRing r self.old → FitsRing (settle r (pending_count self.old)) self.new }
+        ensures open { IsOpen self.new }
+    {
+        self.hand_over();
+        self.pending.clear();
+    }
+
     /// Writes the pending blocks in order, each at its place in the ring, and syncs the log. Where
     /// nothing is pending nothing is done. Then no block is pending. It takes no memory.
     ///
     /// # Errors
-    /// As the disk gives them. Some of the pending blocks may then be on the disk; they stay pending.
+    /// As the disk gives them. Some of the pending blocks may then be on the disk; they stay pending,
+    /// and can't be taken back.
     pub fn write_out<D: Disk>(&mut self, disk: &mut D) -> Result<(), DiskError>
         requires places { At (HasPlaces LogFile (file_layout self.old.blocks)) (D.past disk.old) }
         // Each lucky image of each moment stands for a part of the journal, and at Ok all is durable.
@@ -98,7 +123,11 @@ impl Log {
         ensures exact { OnOk result (D.past disk.new ≡ grows (out_events (pending_count self.old) self.old) (D.past disk.old)) }
         ensures part { OnErr result (IsPart LogFile 4096 (block_batch self.old) (pending_count self.old) (D.past disk.old) (D.past disk.new)) }
         ensures given_up { OnOk result (self.new ≡ written_out self.old) }
-        ensures kept { OnErr result (self.new ≡ self.old) }
+        ensures kept { OnErr result (self.new ≡ handed_over self.old) }
+        // At each moment the record of writes has one block a number, and none that wasn't handed to the disk; and what a store's record says of its texts.
+        ensures recorded { At (BlocksOnce self.old) (D.past disk.old) → Throughout (BlocksOnce (handed_over self.old)) (D.past disk.old) (D.past disk.new) × At (BlocksOnce self.new) (D.past disk.new) }
+        ensures record { (header : HeldHeader) (keys : List RingEntry) (salts : ℕ → List ℕ) → At (BlocksOnce self.old) (D.past disk.old) → At (IsRecordOnce header keys salts) (D.past disk.old) → Throughout (IsRecordOnce header keys salts) (D.past disk.old) (D.past disk.new) }
+        ensures settles { (keys : Keys) (r : RingState) (start : ℕ) (journal : List (Logged (List Change))) → FitsRing r self.old → r.written ≡ r.settled → At (BlocksOnce self.old) (D.past disk.old) → Throughout (AreBlocksSettled self.old.blocks keys (more r (pending_count self.old)) start journal self.old.next) (D.past disk.old) (D.past disk.new) }
         ensures open { IsOpen self.new }
         ensures places { At (HasPlaces LogFile (file_layout self.old.blocks)) (D.past disk.new) }
         ensures later { D.is_later disk.old disk.new }
@@ -109,8 +138,15 @@ impl Log {
         ensures no_fault_at_want { IsErrOf result DiskError.NoMemory → D.faults disk.new ≡ D.faults disk.old }
         ensures no_refusal { OnOk result (D.memory_refusals disk.new ≡ D.memory_refusals disk.old) }
     {
-        self.settle_blocks(disk)?;
-        self.pending.clear();
-        Ok(())
+        match self.settle_blocks(disk) {
+            Ok(()) => {
+                self.end_pending();
+                Ok(())
+            }
+            Err(error) => {
+                self.hand_over();
+                Err(error)
+            }
+        }
     }
 }

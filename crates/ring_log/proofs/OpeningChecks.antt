@@ -73,7 +73,18 @@ module _ {M : Type 0} (N : ℕ) (F : Form M) (L : IsForm F) (some : 0 < N) (sequ
     could_shown : (i : ℕ) (x : Option (List ℕ)) → Could Log block_bytes i s x → x ≡ Some (shown Log block_bytes i s)
     could_shown i x could = ⊎_elim (λ (may : May Log block_bytes i s x). found.settled i x may) (λ (e : x ≡ Some (shown Log block_bytes i s)). e) could
 
-    -- While it is written: in each lucky image the log is the one that was found, or the one behind it.
+    -- While it is written each other place is, in each lucky image, what it was.
+    pub opening_others : Writing Log (layout N F) (opening_batch sequence bytes) 1 s m → (test : FileName → List ℕ → Bool) → ((b : List ℕ) → passes b ≡ true → test Log b ≡ true) → (image : Image) → IsImage m image → IsLucky test image
+        → (i : ℕ) → i ≢ side → place block_bytes i (image.bytes Log) ≡ shown Log block_bytes i s
+    opening_others writing test same image is lucky i ne = ⊎_elim
+        (λ (may : May Log block_bytes i m (Some (place block_bytes i (image.bytes Log)))). same_Some _ _ (elsewhere _ may))
+        (λ (t : May Log block_bytes i m None × (passes (place block_bytes i (image.bytes Log)) ≡ false)). absurd (none-some _ (elsewhere None t.0)))
+        (place_or_torn N F L m writing.places test same image is lucky i)
+      where
+        elsewhere : (x : Option (List ℕ)) → May Log block_bytes i m x → x ≡ Some (shown Log block_bytes i s)
+        elsewhere x may = ⊎_elim (could_shown i x) (λ (one : IsOneOf (opening_batch sequence bytes) 1 i x). absurd (ne (sym one.here))) (writing.may i x may)
+
+    -- In each of them the log is the one that was found, or the one behind it.
     pub opening_writing : Writing Log (layout N F) (opening_batch sequence bytes) 1 s m → (test : FileName → List ℕ → Bool) → ((b : List ℕ) → passes b ≡ true → test Log b ≡ true) → (image : Image) → IsImage m image → IsLucky test image
         → (IsRingLog N F (image.bytes Log) l ⊎ IsRingLog N F (image.bytes Log) (log_behind N F l)) × IsRingClear N F (image.bytes Log) l.end
     opening_writing writing test same image is lucky = (at_side (at side), clear_too (reads Log s) file found.log found.is_newest found.clear others)
@@ -84,14 +95,8 @@ module _ {M : Type 0} (N : ℕ) (F : Form M) (L : IsForm F) (some : 0 < N) (sequ
         at : (i : ℕ) → May Log block_bytes i m (Some (place block_bytes i file)) ⊎ (May Log block_bytes i m None × (passes (place block_bytes i file) ≡ false))
         at = place_or_torn N F L m writing.places test same image is lucky
 
-        elsewhere : (i : ℕ) (x : Option (List ℕ)) → i ≢ side → May Log block_bytes i m x → x ≡ Some (shown Log block_bytes i s)
-        elsewhere i x ne may = ⊎_elim (could_shown i x) (λ (one : IsOneOf (opening_batch sequence bytes) 1 i x). absurd (ne (sym one.here))) (writing.may i x may)
-
         others : (i : ℕ) → i ≢ side → place block_bytes i file ≡ place block_bytes i (reads Log s)
-        others i ne = ⊎_elim
-            (λ (may : May Log block_bytes i m (Some (place block_bytes i file))). same_Some _ _ (elsewhere i _ ne may))
-            (λ (t : May Log block_bytes i m None × (passes (place block_bytes i file) ≡ false)). absurd (none-some _ (elsewhere i None ne t.0)))
-            (at i)
+        others = opening_others writing test same image is lucky
 
         stay : ((c : HeldCheckpoint) → checkpoint side (place block_bytes side file) ≡ Some c → c.sequence ≤ sequence) → IsRingLog N F file l
         stay = stays (reads Log s) file found.log found.is_newest found.clear others
@@ -110,7 +115,7 @@ module _ {M : Type 0} (N : ℕ) (F : Form M) (L : IsForm F) (some : 0 < N) (sequ
             written (inr none) = absurd (none-some _ (sym none))
 
     module _ (settled : BatchSettled Log (layout N F) (opening_batch sequence bytes) 1 s m) where
-      shown_others : (i : ℕ) → i ≢ side → shown Log block_bytes i m ≡ shown Log block_bytes i s
+      pub shown_others : (i : ℕ) → i ≢ side → shown Log block_bytes i m ≡ shown Log block_bytes i s
       shown_others i ne = settled.wrote.old i (λ j lt e. ne (sym e))
 
       shown_side : shown Log block_bytes side m ≡ bytes

@@ -9,6 +9,7 @@ use Rattle.places.specs.Writes.{Done}
 use Rattle.redo_log.specs.Events.{side_batch, IsCheckEvent}
 use Rattle.places.proofs.WriteLemmas.{grows_none, write_more, write_failed}
 use Rattle.redo_log.proofs.CheckSteps.{check_now, check_sync, check_then}
+use Rattle.redo_log.proofs.RecordSteps.{check_items}
 use Rattle.redo_log.proofs.checkpoint.settle_check.Goals as goal
 
 pub returns-in_err-write_check-clause-does : goal.returns-in_err-write_check-clause-does
@@ -35,3 +36,9 @@ pub returns-clause-part : goal.returns-clause-part
 returns-clause-part g c =
     let first : Past = g.D.Disk.past c.args.disk.now in
     on_err_weaker c.sync.result (λ e. Done 1 (omega arith) (e ∙ write_more LogFile 4096 (side_batch c.args.sequence c.args.from) 0 first first _ (sym (grows_none first)) c.in_ok-write_check.ensures.ok)) c.sync.ensures.err
+
+pub returns-in_err-write_check-clause-items : goal.returns-in_err-write_check-clause-items
+returns-in_err-write_check-clause-items g c = let does = c.in_err-write_check.ensures.does in check_items c.args.sequence c.args.from does.moments.later does.adds
+
+pub returns-clause-items : goal.returns-clause-items
+returns-clause-items g c = let does = returns-clause-does g c in check_items c.args.sequence c.args.from does.moments.later does.adds

@@ -10,12 +10,14 @@ use Rattle.disk_model.specs.Past.{Past, At}
 use Rattle.ring_log.specs.Ring.{RingState, RingReady}
 use Rattle.redo_log.specs.Blocks.{Keys, redo_form}
 use Rattle.redo_log.specs.Append.{appended, taken_back, with_pending, IsEntry, HasLast, JournalGrows}
-use Rattle.redo_log.proofs.AppendSteps.{appended_open, appended_entry, appended_last, appended_fits, appended_undone, appended_journal, text_some}
+use Rattle.redo_log.proofs.AppendSteps.{appended_open, appended_entry, appended_last, appended_fits, appended_undone, appended_journal, appended_once, text_some}
+use Rattle.redo_log.specs.Recorded.{BlocksOnce}
+use Rattle.disk_model.specs.Event.{Event}
 use Rattle.redo_log.proofs.log.Log.append.Goals as goal
 
 -- what stands behind the call
 record Appended (c : goal.After-drop-blocks-2) : Type 0 where
-  new_is : appended c.args.self.now c.args.mtr.now c.args.key.now ≡ record { blocks = c.self.inside.blocks; from = c.self.inside.from; sequence = c.self.inside.sequence; next = c.self.inside.next + c.mtr_blocks-needed.result; pending = c.extend_from_slice.new.self.items }
+  new_is : appended c.args.self.now c.args.mtr.now c.args.key.now ≡ record { blocks = c.self.inside.blocks; from = c.self.inside.from; sequence = c.self.inside.sequence; next = c.self.inside.next + c.mtr_blocks-needed.result; handed = c.self.inside.handed; pending = c.extend_from_slice.new.self.items }
   is : IsOpen c.args.self.now
   spent : c.args.self.now.next + block_count (text_of c.args.mtr.now) ≤ 34359738368
   free : block_count (text_of c.args.mtr.now) ≤ free_of c.args.self.now
@@ -34,7 +36,7 @@ behind c =
     let items : now.pending ++ blocks key now.next (text_of mtr) ≡ c.extend_from_slice.new.self.items =
     ap (λ (w : LogState). w.pending ++ blocks key w.next (text_of mtr)) (sym view) ∙ sym (c.in-Ok-extend_from_slice.ensures.items ∙ ap (λ (l : List ℕ). c.self.inside.pending.items ++ l) (c.deref.ensures.value ∙ c.in-Ok.ensures.blocks)) in
     record {
-      new_is = λ i. record { blocks = size i; from = from i; sequence = ((sym view) i).sequence; next = next i + (sym count) i; pending = items i };
+      new_is = λ i. record { blocks = size i; from = from i; sequence = ((sym view) i).sequence; next = next i + (sym count) i; handed = ((sym view) i).handed; pending = items i };
       is = subst IsOpen view c.self.invariant;
       spent = omega (arith, c.if-self-needed-gt-LAST_BLOCK.false, count, next);
       free = omega (arith, c.if-needed-free.false, c.free-free.ensures.free, count, next, from, size);
@@ -89,3 +91,9 @@ returns-clause-journal c =
     let b = behind c in
     subst (λ (w : LogState). JournalGrows c.args.self.now w c.args.mtr.now c.args.key.now) b.new_is
     (appended_journal c.args.self.now c.args.mtr.now c.args.key.now b.is (text_some c.args.mtr.now c.requires.some) c.requires.most c.in-Ok.ensures.bytes (c.known_key.ensures) b.each b.spent b.free c.requires.allowed)
+
+pub returns-clause-recorded : goal.returns-clause-recorded
+returns-clause-recorded c =
+    let b = behind c in
+    subst (λ (w : LogState). (es : List Event) → BlocksOnce c.args.self.now es → BlocksOnce w es) b.new_is
+    (appended_once c.args.self.now c.args.mtr.now c.args.key.now b.is (text_some c.args.mtr.now c.requires.some) c.requires.most c.in-Ok.ensures.bytes (c.known_key.ensures) b.each b.spent b.free)

@@ -12,6 +12,7 @@ use Rattle.places.specs.Writes.{IsPart}
 use Rattle.redo_log.specs.Events.{side_batch, check_event, CheckWriting, CheckSettled, IsCheckEvent}
 use Rattle.redo_log.proofs.BlockSteps.{places_after}
 use Rattle.redo_log.proofs.CheckSteps.{ring_check, checked_none, checking_none}
+use Rattle.redo_log.proofs.RecordSteps.{items_same}
 use Rattle.redo_log.proofs.log.Log.move_from.Goals as goal
 
 pub settle_check-requires-clause-places : goal.settle_check-requires-clause-places
@@ -51,3 +52,6 @@ returns-clause-exact g c = λ lt. subst (λ (s : ℕ). OnOk c.settle_check.resul
 
 pub returns-clause-part : goal.returns-clause-part
 returns-clause-part g c = subst (λ (s : ℕ). OnErr c.settle_check.result (IsPart LogFile 4096 (side_batch (s + 1) c.args.from) 1 (g.D.Disk.past c.args.disk.now) (g.D.Disk.past c.settle_check.new.disk))) c.sequence.ensures c.settle_check.ensures.part
+
+pub returns-then-from-clause-items : goal.returns-then-from-clause-items
+returns-then-from-clause-items g c = items_same (g.D.Disk.past c.args.disk.now)

@@ -3,11 +3,13 @@ use Rattle.std.proofs.lemmas.Result.{on_ok_weaker, on_err_weaker}
 use Rattle.disk_model.specs.Event.{Event, Sync}
 use Rattle.disk_model.specs.declared.names.FileName.TheVariants.{Log as LogFile}
 use Rattle.disk_model.proofs.Layers.{does_err, does_then, does_sync}
-use Rattle.disk_model.proofs.Moments.{at_each}
+use Rattle.disk_model.proofs.Moments.{at_each, begins}
 use Rattle.places.specs.Batches.{Syncs}
 use Rattle.places.proofs.Batches.{does_stay}
 use Rattle.redo_log.specs.State.{LogState}
-use Rattle.redo_log.specs.Log.{pending_count}
+use Rattle.redo_log.specs.Log.{pending_count, handed_over}
+use Rattle.redo_log.specs.Recorded.{BlocksOnce, IsRecordOnce}
+use Rattle.redo_log.proofs.RecordSteps.{out_once, out_record}
 use Rattle.places.specs.Writes.{writes_of, grows, Done}
 use Rattle.redo_log.specs.Events.{block_batch, IsBlockEvent, out_events}
 use Rattle.redo_log.proofs.BlockSteps.{ring_out, ready_none, ringed_none, places_after, blocks_now, blocks_then, blocks_sync}
@@ -74,3 +76,37 @@ returns-then-pending_count-eq0-clause-exact g c =
     let first = g.D.Disk.past c.args.disk.now in
     let none : pending_count log ≡ 0 = sym c.pending_count.ensures.count ∙ c.if-pending_count-eq0.true in
     sym (ap (λ (k : ℕ). grows (out_events k log) first) none ∙ grows_none first)
+
+-- ---- the record of writes
+
+pub returns-in_err-write_blocks-clause-recorded : goal.returns-in_err-write_blocks-clause-recorded
+returns-in_err-write_blocks-clause-recorded g c = λ once.
+    let does = c.in_err-write_blocks.ensures.does in
+    out_once c.args.self.now c.pending_count.ensures.open does.moments.later does.adds once
+
+pub returns-in_err-write_blocks-clause-record : goal.returns-in_err-write_blocks-clause-record
+returns-in_err-write_blocks-clause-record g c = λ header keys salts once is.
+    let does = c.in_err-write_blocks.ensures.does in
+    out_record c.args.self.now c.pending_count.ensures.open header keys salts does.moments.later does.adds once is
+
+pub returns-clause-recorded : goal.returns-clause-recorded
+returns-clause-recorded g c = λ once.
+    let log = c.args.self.now in
+    let first = g.D.Disk.past c.args.disk.now in
+    let does = does_then c.in_ok-write_blocks.ensures.does
+    (does_sync (IsBlockEvent log) (Sync LogFile) c.in_ok-write_blocks.ensures.does.next (blocks_now log (pending_count log) (omega arith) first) (blocks_then log first) (Syncs refl) (blocks_sync log first) c.sync.ensures.ok c.sync.ensures.err) in
+    out_once log c.pending_count.ensures.open does.moments.later does.adds once
+
+pub returns-clause-record : goal.returns-clause-record
+returns-clause-record g c = λ header keys salts once is.
+    let log = c.args.self.now in
+    let first = g.D.Disk.past c.args.disk.now in
+    let does = does_then c.in_ok-write_blocks.ensures.does
+    (does_sync (IsBlockEvent log) (Sync LogFile) c.in_ok-write_blocks.ensures.does.next (blocks_now log (pending_count log) (omega arith) first) (blocks_then log first) (Syncs refl) (blocks_sync log first) c.sync.ensures.ok c.sync.ensures.err) in
+    out_record log c.pending_count.ensures.open header keys salts does.moments.later does.adds once is
+
+pub returns-then-pending_count-eq0-clause-recorded : goal.returns-then-pending_count-eq0-clause-recorded
+returns-then-pending_count-eq0-clause-recorded g c = λ once. begins (BlocksOnce (handed_over c.args.self.now)) (g.D.Disk.past c.args.disk.now) once
+
+pub returns-then-pending_count-eq0-clause-record : goal.returns-then-pending_count-eq0-clause-record
+returns-then-pending_count-eq0-clause-record g c = λ header keys salts once is. begins (IsRecordOnce header keys salts) (g.D.Disk.past c.args.disk.now) is
