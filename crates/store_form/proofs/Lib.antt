@@ -12,3 +12,6 @@ pub mod SettledFiles
 pub mod ZeroPlaces
 pub mod FirstTexts
 pub mod CreatedFiles
+pub mod EmptyStore
+pub mod CreationFiles
+pub mod CreationMoments
