@@ -53,7 +53,7 @@ record IsLeftAt (f : FileName) (n i : ℕ) (es : List Event) (bytes : List ℕ) 
   here : place n i file ≡ bytes
 
 -- and one is that in which every pending write is lost
-lost_all : (f : FileName) (es : List Event) → (file : List ℕ) × (torn : List (ℕ × ℕ)) × Leaves f es file torn
+pub lost_all : (f : FileName) (es : List Event) → (file : List ℕ) × (torn : List (ℕ × ℕ)) × Leaves f es file torn
 lost_all f [] = ([], [], (refl, refl))
 lost_all f (Open files ms ws ∷ es) = (file_in f files, [], (refl, refl))
 lost_all f (Tell m ∷ es) = lost_all f es
