@@ -1,5 +1,5 @@
 // A sink in memory.
-ghost use Rattle.std.specs.Prelude.{◌≡◌, ◌≢◌, ◌↔◌, ℕ, Some, [], ◌++◌, OnOk, OnErr};
+ghost use Rattle.std.specs.Prelude.{◌≡◌, ◌≢◌, ◌↔◌, ℕ, Some, [], ◌++◌, OnOk, OnErr, IsErrOf};
 ghost use Rattle.io_core.specs.Stream.{extended, IsPartlyGiven};
 ghost use Rattle.io_core.specs.Cause.{HasIoCause, HasIoMemoryCause};
 ghost use Rattle.io_core.specs.Calls.{IsToFail, IsOneMore};
@@ -61,9 +61,11 @@ impl Sink for ByteSink {
         ensures err { OnErr result (IsPartlyGiven bytes.now (Some self.old.given) (Some self.new.given)) }
         ensures cause { HasIoCause self.old.calls.faults self.new.calls.faults result }
         ensures memory { HasIoMemoryCause self.old.memory_refusals self.new.memory_refusals result }
+        ensures no_fault { OnOk result (self.new.calls.faults ≡ self.old.calls.faults) }
+        ensures no_fault_at_want { IsErrOf result IoError.NoMemory → self.new.calls.faults ≡ self.old.calls.faults }
+        ensures no_refusal { OnOk result (self.new.memory_refusals ≡ self.old.memory_refusals) }
         ensures failed { (result ≡ Err IoError.Failed) ↔ IsToFail self.old.calls }
         ensures kept { OnErr result (self.new.given ≡ self.old.given) }
-        ensures steady { result ≢ Err IoError.Failed → self.new.calls.faults ≡ self.old.calls.faults }
         ensures granted { result ≢ Err IoError.NoMemory → self.new.memory_refusals ≡ self.old.memory_refusals }
         ensures one_more { IsOneMore self.old.calls self.new.calls }
     {

@@ -1,5 +1,5 @@
 // A source in memory.
-ghost use Rattle.std.specs.Prelude.{◌≡◌, ◌≢◌, ◌↔◌, ◌+◌, ◌≤◌, ◌<◌, ℕ, min, Some, [], length, take, drop, IfOk, OnOk, OnErr, IsErr};
+ghost use Rattle.std.specs.Prelude.{◌≡◌, ◌≢◌, ◌↔◌, ◌+◌, ◌≤◌, ◌<◌, ℕ, min, Some, [], length, take, drop, IfOk, OnOk, OnErr, IsErr, IsErrOf};
 ghost use Rattle.io_core.specs.Told.{Told};
 ghost use Rattle.io_core.specs.Stream.{prefixed};
 ghost use Rattle.io_core.specs.Cause.{HasIoCause, HasIoMemoryCause};
@@ -59,11 +59,13 @@ impl Source for ByteSource {
         ensures err { OnErr result (Some self.new.left ≡ Some self.old.left) }
         ensures cause { HasIoCause self.old.calls.faults self.new.calls.faults result }
         ensures memory { HasIoMemoryCause 0 0 result }
+        ensures no_fault { OnOk result (self.new.calls.faults ≡ self.old.calls.faults) }
+        ensures no_fault_at_want { IsErrOf result IoError.NoMemory → self.new.calls.faults ≡ self.old.calls.faults }
+        ensures no_refusal { OnOk result (◌≡◌ {A = ℕ} 0 0) }
         ensures count { IfOk result (λ n. n ≡ min (length into.old) (length self.old.left)) }
         ensures failed { IsErr result ↔ IsToFail self.old.calls }
         ensures only { result ≢ Err IoError.NoMemory }
         ensures unread { OnErr result (into.new ≡ into.old) }
-        ensures steady { OnOk result (self.new.calls.faults ≡ self.old.calls.faults) }
         ensures one_more { IsOneMore self.old.calls self.new.calls }
     {
         self.calls.begin()?;

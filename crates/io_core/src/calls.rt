@@ -43,7 +43,7 @@ impl CountedCalls {
         ensures only { result ≢ Err IoError.NoMemory }
         ensures one_more { IsOneMore self.old self.new }
         ensures cause { HasIoCause self.old.faults self.new.faults result }
-        ensures steady { OnOk result (self.new.faults ≡ self.old.faults) }
+        ensures no_fault { OnOk result (self.new.faults ≡ self.old.faults) }
     {
         self.made = self.made.saturating_add(1);
         if self.failing.contains(&self.made) {

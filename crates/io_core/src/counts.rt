@@ -1,5 +1,5 @@
 // How an adapter over std answers for what std answered.
-ghost use Rattle.std.specs.Prelude.{◌≡◌, ◌↔◌, ◌≤◌, ◌<◌, length, take, IfOk, IfErr, IsErr, OnOk};
+ghost use Rattle.std.specs.Prelude.{◌≡◌, ◌↔◌, ◌≤◌, ◌<◌, length, take, IfOk, IfErr, IsErr, IsErrOf, OnOk};
 ghost use Rattle.std.specs.IoError.{error_kind};
 ghost use Rattle.std.specs.Io.KnownBytes.{Consumes, IsAtEnd, ReadConsumes};
 ghost use Rattle.io_core.specs.Cause.{HasIoCause, HasIoMemoryCause};
@@ -43,9 +43,10 @@ impl Counts {
         ensures ok { IfOk result (λ value. outcome ≡ Ok value) }
         ensures err { IsErr result ↔ IsErr outcome }
         ensures kind { IfErr outcome (λ e. (result ≡ Err IoError.NoMemory) ↔ (error_kind e ≡ ErrorKind.OutOfMemory)) }
-        ensures steady { OnOk result (self.new ≡ self.old) }
+        ensures unchanged { OnOk result (self.new ≡ self.old) }
         ensures cause { HasIoCause self.old.faults self.new.faults result }
         ensures memory { HasIoMemoryCause self.old.memory_refusals self.new.memory_refusals result }
+        ensures no_fault_at_want { IsErrOf result IoError.NoMemory → self.new.faults ≡ self.old.faults }
     {
         match outcome {
             Ok(value) => Ok(value),

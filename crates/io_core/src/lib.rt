@@ -10,7 +10,8 @@
 //!    equation, so no caller splits on it.
 //! 2. A count of faults never falls, and [`IoError::Failed`] is answered only where it rose in that
 //!    call. A count of refused memory stands to [`IoError::NoMemory`] in the same way, and a count
-//!    of absences to the answer that a library has no file of a name.
+//!    of absences to the answer that a library has no file of a name. At Ok neither faults nor
+//!    refusals rose, and at `NoMemory` no fault did: no call is made again with a fault dropped.
 //! 3. An error of a source leaves what is to come as it was. An error of a sink leaves some of the
 //!    bytes given, from their front on. No call of a library changes its files.
 //!

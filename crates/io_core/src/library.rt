@@ -1,5 +1,5 @@
 // Named files that are read.
-ghost use Rattle.std.specs.Prelude.{◌≡◌, ◌≤◌, ℕ, List, length, Option, IfOk, IsErrOf};
+ghost use Rattle.std.specs.Prelude.{◌≡◌, ◌≤◌, ℕ, List, length, Option, IfOk, OnOk, IsErrOf};
 ghost use Rattle.std.specs.Option.{option_map};
 ghost use Rattle.io_core.specs.Told.{Told};
 ghost use Rattle.io_core.specs.Files.{Files, bytes_from, IsFilled};
@@ -35,6 +35,9 @@ pub trait Library {
         ensures absence { HasAbsence (absences self.old) (absences self.new) result }
         ensures cause { HasIoCause (faults self.old) (faults self.new) result }
         ensures memory { HasIoMemoryCause (memory_refusals self.old) (memory_refusals self.new) result }
+        ensures no_fault { OnOk result (faults self.new ≡ faults self.old) }
+        ensures no_fault_at_want { IsErrOf result IoError.NoMemory → faults self.new ≡ faults self.old }
+        ensures no_refusal { OnOk result (memory_refusals self.new ≡ memory_refusals self.old) }
         ensures failed_last { IsErrOf result IoError.Failed → failed_last self.new name.now };
 
     /// Fills the front of `into` with as many bytes as the file has from byte `at` on, at most
@@ -52,5 +55,8 @@ pub trait Library {
         ensures absences { absences self.old ≤ absences self.new }
         ensures cause { HasIoCause (faults self.old) (faults self.new) result }
         ensures memory { HasIoMemoryCause (memory_refusals self.old) (memory_refusals self.new) result }
+        ensures no_fault { OnOk result (faults self.new ≡ faults self.old) }
+        ensures no_fault_at_want { IsErrOf result IoError.NoMemory → faults self.new ≡ faults self.old }
+        ensures no_refusal { OnOk result (memory_refusals self.new ≡ memory_refusals self.old) }
         ensures failed_last { IsErrOf result IoError.Failed → failed_last self.new name.now };
 }

@@ -76,12 +76,14 @@ impl Library for Shelf {
         ensures absence { HasAbsence self.old.absences self.new.absences result }
         ensures cause { HasIoCause self.old.calls.faults self.new.calls.faults result }
         ensures memory { HasIoMemoryCause 0 0 result }
+        ensures no_fault { OnOk result (self.new.calls.faults ≡ self.old.calls.faults) }
+        ensures no_fault_at_want { IsErrOf result IoError.NoMemory → self.new.calls.faults ≡ self.old.calls.faults }
+        ensures no_refusal { OnOk result (◌≡◌ {A = ℕ} 0 0) }
         ensures failed_last { IsErrOf result IoError.Failed → Unit {0} }
         ensures failed { IsErr result ↔ IsToFail self.old.calls }
         ensures only { result ≢ Err IoError.NoMemory }
         ensures kept { self.new.files ≡ self.old.files }
         ensures present { result ≢ Ok None → self.new.absences ≡ self.old.absences }
-        ensures steady { OnOk result (self.new.calls.faults ≡ self.old.calls.faults) }
         ensures one_more { IsOneMore self.old.calls self.new.calls }
     {
         self.calls.begin()?;
@@ -101,13 +103,15 @@ impl Library for Shelf {
         ensures absences { self.old.absences ≤ self.new.absences }
         ensures cause { HasIoCause self.old.calls.faults self.new.calls.faults result }
         ensures memory { HasIoMemoryCause 0 0 result }
+        ensures no_fault { OnOk result (self.new.calls.faults ≡ self.old.calls.faults) }
+        ensures no_fault_at_want { IsErrOf result IoError.NoMemory → self.new.calls.faults ≡ self.old.calls.faults }
+        ensures no_refusal { OnOk result (◌≡◌ {A = ℕ} 0 0) }
         ensures failed_last { IsErrOf result IoError.Failed → Unit {0} }
         ensures failed { IsErr result ↔ IsToFail self.old.calls }
         ensures only { result ≢ Err IoError.NoMemory }
         ensures unread { OnErr result (into.new ≡ into.old) }
         ensures kept { self.new.files ≡ self.old.files }
         ensures none_absent { self.new.absences ≡ self.old.absences }
-        ensures steady { OnOk result (self.new.calls.faults ≡ self.old.calls.faults) }
         ensures one_more { IsOneMore self.old.calls self.new.calls }
     {
         self.calls.begin()?;

@@ -1,5 +1,5 @@
 // A sink for bytes.
-ghost use Rattle.std.specs.Prelude.{◌≡◌, ℕ, List, Option, OnOk, OnErr};
+ghost use Rattle.std.specs.Prelude.{◌≡◌, ℕ, List, Option, OnOk, OnErr, IsErrOf};
 ghost use Rattle.io_core.specs.Stream.{extended, IsPartlyGiven};
 ghost use Rattle.io_core.specs.Cause.{HasIoCause, HasIoMemoryCause};
 
@@ -25,5 +25,8 @@ pub trait Sink {
         ensures ok { OnOk result (given self.new ≡ extended bytes.now (given self.old)) }
         ensures err { OnErr result (IsPartlyGiven bytes.now (given self.old) (given self.new)) }
         ensures cause { HasIoCause (faults self.old) (faults self.new) result }
-        ensures memory { HasIoMemoryCause (memory_refusals self.old) (memory_refusals self.new) result };
+        ensures memory { HasIoMemoryCause (memory_refusals self.old) (memory_refusals self.new) result }
+        ensures no_fault { OnOk result (faults self.new ≡ faults self.old) }
+        ensures no_fault_at_want { IsErrOf result IoError.NoMemory → faults self.new ≡ faults self.old }
+        ensures no_refusal { OnOk result (memory_refusals self.new ≡ memory_refusals self.old) };
 }

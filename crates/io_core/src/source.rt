@@ -1,5 +1,5 @@
 // A source of bytes.
-ghost use Rattle.std.specs.Prelude.{◌≡◌, ◌≤◌, ◌<◌, ℕ, List, [], length, take, drop, Option, IfOk, OnErr};
+ghost use Rattle.std.specs.Prelude.{◌≡◌, ◌≤◌, ◌<◌, ℕ, List, [], length, take, drop, Option, IfOk, OnOk, OnErr, IsErrOf};
 ghost use Rattle.io_core.specs.Told.{Told};
 ghost use Rattle.io_core.specs.Stream.{prefixed};
 ghost use Rattle.io_core.specs.Cause.{HasIoCause, HasIoMemoryCause};
@@ -33,5 +33,8 @@ pub trait Source {
         ensures end { IfOk result (λ n. n ≡ 0 → 0 < length into.old → Told (λ bytes. bytes ≡ []) (left self.old)) }
         ensures err { OnErr result (left self.new ≡ left self.old) }
         ensures cause { HasIoCause (faults self.old) (faults self.new) result }
-        ensures memory { HasIoMemoryCause (memory_refusals self.old) (memory_refusals self.new) result };
+        ensures memory { HasIoMemoryCause (memory_refusals self.old) (memory_refusals self.new) result }
+        ensures no_fault { OnOk result (faults self.new ≡ faults self.old) }
+        ensures no_fault_at_want { IsErrOf result IoError.NoMemory → faults self.new ≡ faults self.old }
+        ensures no_refusal { OnOk result (memory_refusals self.new ≡ memory_refusals self.old) };
 }
