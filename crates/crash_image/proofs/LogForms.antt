@@ -218,7 +218,7 @@ module _ (header : HeldHeader) (keys : List RingEntry) (file : List ℕ) where
   entries_there n (e ∷ es) end (k, text, w, texts, reads, first, lsn, rest) = (k, whole_there n k w, (text, texts_there n k text texts, reads), first, lsn, entries_there (n + k) es end rest)
 
   -- each block of the run is valid
-  valid_in : (n : ℕ) (es : List (Logged (List Change))) (end : ℕ) → AreLogEntries header keys file n es end → (m : ℕ) → n ≤ m → m < end → is_ring_block m (block_at N file m) ≡ true
+  pub valid_in : (n : ℕ) (es : List (Logged (List Change))) (end : ℕ) → AreLogEntries header keys file n es end → (m : ℕ) → n ≤ m → m < end → is_ring_block m (block_at N file m) ≡ true
   valid_in n [] end is m low high = absurd (omega (arith, is, low, high))
   valid_in n (e ∷ es) end (k, text, w, texts, reads, first, lsn, rest) m low high = by (valid_in (n + k) es end rest m) (cases_lt m (n + k))
     where

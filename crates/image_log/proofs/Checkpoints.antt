@@ -1,5 +1,5 @@
 -- The newest of two checkpoints.
-use Rattle.std.proofs.Common.{◌≡◌, ◌⊎◌, ℕ, zero, suc, ◌+◌, ◌%◌, ◌<◌, ◌≤◌, Bool, true, false, nat_eq, nat_le, ◌^◌, if◌then◌else◌, List, Option, Some, None, refl, sym, ap, subst, ◌∙◌, arith, inl, inr, ⊎_elim}
+use Rattle.std.proofs.Common.{◌≡◌, ◌⊎◌, ℕ, zero, suc, ◌+◌, ◌%◌, ◌<◌, ◌≤◌, Bool, true, false, nat_eq, if◌then◌else◌, List, Option, Some, None, refl, sym, ap, subst, ◌∙◌, arith, inl, inr, ⊎_elim}
 use Rattle.std.specs.Prelude.{codes, option_map, IfSome, IfNone}
 use Rattle.std.specs.Str.{bytes_eq}
 use Rattle.std.proofs.lemmas.Bool.Decides.{nat_tests}
@@ -25,27 +25,6 @@ side_is i b c is = by (is_checkpoint i b) refl is
   where
     by : (t : Bool) → is_checkpoint i b ≡ t → (if t then Some (record { sequence = be64_at b 8; from = be64_at b 16 }) else None) ≡ Some c → i ≡ side_of c.sequence
     by true valid e = side_tested i b valid ∙ ap (λ (d : HeldCheckpoint). side_of d.sequence) (same_Some (record { sequence = be64_at b 8; from = be64_at b 16 }) c e)
-    by false valid e = absurd cc
-
-from_tested : (i : ℕ) (b : List ℕ) → is_checkpoint i b ≡ true → (2 ≤ be64_at b 16) × (be64_at b 16 ≤ 2 ^ 50)
-unfolding is_checkpoint
-from_tested i b is =
-    let rest = and_right (nat_eq i (side_of (be64_at b 8))) _ (and_right (bytes_eq (range 0 8 b) (codes "KEYCHK01")) _ (and_right (ends_in_sum b) _ is)) in
-    let some : nat_le 1 (be64_at b 8) ≡ true = and_left _ _ rest in
-    let last = and_right (nat_le 1 (be64_at b 8)) _ rest in
-    let below : nat_le (be64_at b 8 + 1) (be64_at b 16) ≡ true = and_left _ _ last in
-    let within : nat_le (be64_at b 16) (2 ^ 50) ≡ true = and_right (nat_le (be64_at b 8 + 1) (be64_at b 16)) _ last in
-    let a : 1 ≤ be64_at b 8 = grind (arith, nat_tests) in
-    let c : be64_at b 8 + 1 ≤ be64_at b 16 = grind (arith, nat_tests) in
-    (omega (arith, a, c), grind (arith, nat_tests))
-
--- a run begins with a block from 2 up to 2 ^ 50
-pub from_bounds : (i : ℕ) (b : List ℕ) (c : HeldCheckpoint) → checkpoint_in i b ≡ Some c → (2 ≤ c.from) × (c.from ≤ 2 ^ 50)
-unfolding checkpoint_in
-from_bounds i b c is = by (is_checkpoint i b) refl is
-  where
-    by : (t : Bool) → is_checkpoint i b ≡ t → (if t then Some (record { sequence = be64_at b 8; from = be64_at b 16 }) else None) ≡ Some c → (2 ≤ c.from) × (c.from ≤ 2 ^ 50)
-    by true valid e = subst (λ (d : HeldCheckpoint). (2 ≤ d.from) × (d.from ≤ 2 ^ 50)) (same_Some (record { sequence = be64_at b 8; from = be64_at b 16 }) c e) (from_tested i b valid)
     by false valid e = absurd cc
 
 module _ (file : List ℕ) where

@@ -1,7 +1,6 @@
 pub mod Passes
 pub mod Takes
 pub mod Firsts
-pub mod HeaderBounds
 pub mod HeaderSpaces
 pub mod Recovery
 pub mod Refused

@@ -6,6 +6,8 @@ pub mod CheckpointsWritten
 pub mod RingBlocks
 pub mod RunsOnce
 pub mod SpacesInOrder
+pub mod HeaderBounds
+pub mod CheckpointBounds
 pub mod ContentsOnce
 pub mod Folds
 pub mod TextsHeld

@@ -7,7 +7,7 @@ use Rattle.store_files.specs.Run.{IsLogOf, MakeWholeMtrs}
 use Rattle.image_log.specs.declared.fault.LogTextFault.{LogTextFault}
 use Rattle.image_log.specs.declared.fault.LogTextFault.TheVariants.{NoCheckpoint, OutOfMemory}
 use Rattle.image_log.specs.Logs.{IsLongest, checkpoint_of}
-use Rattle.image_log.proofs.Checkpoints.{from_bounds}
+use Rattle.store_files.proofs.CheckpointBounds.{from_bounds}
 use Rattle.image_log.proofs.Entries.{entry_fault, fault_refuses}
 use Rattle.image_log.proofs.log.read_log.Goals as goal
 

@@ -2,7 +2,7 @@ use Rattle.std.proofs.Common.{◌≡◌, ◌≤◌, ◌<◌, ℕ, List, sym, sub
 use Rattle.places.specs.Places.{place}
 use Rattle.store_files.proofs.ContentsOnce.{header_order}
 use Rattle.image_reader.specs.Naming.{AddsNames, Below, IsBlockName}
-use Rattle.image_reader.proofs.HeaderBounds.{header_blocks}
+use Rattle.store_files.proofs.HeaderBounds.{header_blocks}
 use Rattle.image_reader.proofs.NamedKeys.{named_of}
 use Rattle.image_reader.proofs.naming.named.Goals as goal
 

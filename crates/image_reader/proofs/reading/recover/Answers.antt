@@ -17,7 +17,7 @@ use Rattle.image_reader.specs.Refusals.{HasLog, HasStoreRun, HasContents, IsRefu
 use Rattle.image_reader.specs.Spaces.{AllGive}
 use Rattle.image_reader.specs.declared.refusal.Refusal.{Refusal}
 use Rattle.image_reader.specs.declared.refusal.Refusal.TheVariants.{OtherPages, LateBlock, OutOfMemory as NoMemory}
-use Rattle.image_reader.proofs.HeaderBounds.{header_blocks}
+use Rattle.store_files.proofs.HeaderBounds.{header_blocks}
 use Rattle.image_reader.proofs.Recovery.{spaces_of, view_recovers}
 use Rattle.image_reader.proofs.Refused.{never_refused, contents_refused, home_refused, homes_of, length_refused}
 use Rattle.image_reader.proofs.reading.recover.Goals as goal
