@@ -1,0 +1,3 @@
+pub mod StoreRuns
+pub mod KeyLaws
+pub mod Images
