@@ -5,8 +5,8 @@ use Rattle.io_core.specs.Stream.{IsPartlyGiven}
 use Rattle.key_ring.specs.Ring.{RingEntry}
 use Rattle.binlog_text.specs.Advances.{Advances}
 use Rattle.binlog_text.specs.Events.{BinlogEvent, answered}
-use Rattle.binlog_text.specs.Faults.{is_outside}
-use Rattle.binlog_text.specs.Reading.{IsAnswer, IsBehindEvent, StandsAt, is_outside_fault}
+use Rattle.binlog_text.specs.Faults.{is_outside, is_outside_fault}
+use Rattle.binlog_text.specs.Reading.{IsAnswer, IsBehindEvent, StandsAt}
 use Rattle.binlog_text.specs.declared.fault.BinlogFault.{BinlogFault}
 use Rattle.binlog_text.specs.declared.reader.LogReader.{LogReader}
 use Rattle.binlog_text.specs.declared.stage.Stage.{Stage}

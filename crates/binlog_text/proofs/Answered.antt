@@ -5,8 +5,9 @@ use Rattle.io_core.specs.Files.{Files, bytes_from}
 use Rattle.io_core.specs.Told.{Told}
 use Rattle.key_ring.specs.Ring.{RingEntry}
 use Rattle.binlog_text.specs.Held.{IsFront}
+use Rattle.binlog_text.specs.Faults.{is_outside_fault}
 use Rattle.binlog_text.specs.Events.{Found, answered, event_in, placed, placed_event}
-use Rattle.binlog_text.specs.Reading.{Holds, Keeps, Moves, Starts, is_outside_fault}
+use Rattle.binlog_text.specs.Reading.{Holds, Keeps, Moves, Starts}
 use Rattle.binlog_text.specs.Sealed.{IsStoredEvent, StandsStored}
 use Rattle.binlog_text.specs.declared.fault.BinlogFault.{BinlogFault}
 use Rattle.binlog_text.specs.declared.stage.Position.{Position}

@@ -6,3 +6,4 @@ pub mod Refusals
 pub mod Answered
 pub mod Room
 pub mod Passed
+pub mod ReadOn

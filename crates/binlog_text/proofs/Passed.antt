@@ -1,11 +1,12 @@
 -- What a reader does that passes an event.
-use Rattle.std.proofs.Common.{◌≡◌, ◌≤◌, ◌<◌, ℕ, max, false, List, refl, sym, subst, Option, Some, Result, Ok, IfOk, IfSome}
+use Rattle.std.proofs.Common.{◌≡◌, ◌≤◌, ◌<◌, ℕ, max, false, true, List, refl, sym, subst, Option, Some, Result, Ok, IfOk, IfSome}
 use Rattle.io_core.specs.Files.{Files}
 use Rattle.io_core.specs.Told.{Told}
 use Rattle.key_ring.specs.Ring.{RingEntry}
 use Rattle.binlog_text.specs.Advances.{Advances}
+use Rattle.binlog_text.specs.Faults.{is_outside_fault}
 use Rattle.binlog_text.specs.Events.{BinlogEvent, answered, placed}
-use Rattle.binlog_text.specs.Reading.{IsBehindEvent, Keeps, due_at, is_outside_fault, left_at, shown_step}
+use Rattle.binlog_text.specs.Reading.{IsBehindEvent, Keeps, due_at, left_at, shown_step}
 use Rattle.binlog_text.specs.Sealed.{StandsStored}
 use Rattle.binlog_text.specs.declared.fault.BinlogFault.{BinlogFault}
 use Rattle.binlog_text.specs.declared.reader.LogReader.{LogReader}
@@ -41,6 +42,7 @@ advances_event ring files name old new step r at is answer sealed keeps left beh
       stage =
           subst (λ (s : Stage). left_at s < left_at old.stage) (sym at)
           (subst (λ (x : Result (Option StageStep) BinlogFault). IfOk x (λ passed. IfSome passed (λ s. left_at (Events s.next) < left_at old.stage))) is left);
+      held = λ position at out. let two : false ≡ true = out in absurd (cc);
       behind =
           subst (IsBehindEvent old.stage event) (sym at)
           (subst (λ (x : Result (Option StageStep) BinlogFault). IfOk x (λ passed. IfSome passed (λ s. IsBehindEvent old.stage (record { mark = s.mark; bytes = new.buffer.event }) (Events s.next)))) is behind);

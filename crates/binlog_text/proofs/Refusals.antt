@@ -1,7 +1,6 @@
 -- What a refusal of an event that is there isn't, and what is known of a step.
 use Rattle.std.proofs.Common.{◌≡◌, ℕ, false, rules, refl, subst, Option, Some, None, Result, Ok, Err, IfOk, IfErr, IfSome}
-use Rattle.binlog_text.specs.Faults.{HasBinlogCauses, IsBinlogRefusal, is_outside}
-use Rattle.binlog_text.specs.Reading.{is_outside_fault}
+use Rattle.binlog_text.specs.Faults.{HasBinlogCauses, IsBinlogRefusal, is_outside, is_outside_fault}
 use Rattle.binlog_text.specs.declared.fault.BinlogFault.{BinlogFault}
 use Rattle.binlog_text.specs.declared.fault.BinlogFault.TheVariants.{Algorithm, BadLength, BadMagic, Checksum, FileFault, Missing, MissingKey, NoFormat, OutOfMemory, Scheme, ShortEvent}
 

@@ -1,5 +1,5 @@
 -- Faults that come from outside.
-use Rattle.std.specs.Prelude.{◌≡◌, ◌≤◌, ℕ, Bool, true, false, Result, Err}
+use Rattle.std.specs.Prelude.{◌≡◌, ◌≤◌, ℕ, Bool, true, false, Result, Ok, Err}
 use Rattle.cause_core.specs.Counts.{Rose}
 use Rattle.binlog_text.specs.declared.fault.BinlogFault.{BinlogFault}
 use Rattle.binlog_text.specs.declared.fault.BinlogFault.TheVariants.{Algorithm, BadLength, BadMagic, Checksum, FileFault, Missing, MissingKey, NoFormat, OutOfMemory, Scheme, ShortEvent}
@@ -17,6 +17,11 @@ is_outside (Algorithm n) = false
 is_outside (Scheme n) = false
 is_outside (MissingKey version) = false
 is_outside (Checksum at stored computed) = false
+
+-- an answer that comes from outside
+abbrev pub is_outside_fault : {T : Type 0} → Result T BinlogFault → Bool
+is_outside_fault (Ok x) = false
+is_outside_fault (Err fault) = is_outside fault
 
 -- a refusal of an event that is there
 abbrev pub IsBinlogRefusal : BinlogFault → Type 0

@@ -1,5 +1,5 @@
 -- What a reader holds of the file, and what it answers.
-use Rattle.std.specs.Prelude.{◌≡◌, ◌≤◌, ◌<◌, ℕ, ◌+◌, ◌-◌, ◌^◌, min, Bool, false, List, [], length, drop, unwrap_or, if◌then◌else◌, IfOk}
+use Rattle.std.specs.Prelude.{◌≡◌, ◌≤◌, ◌<◌, ◌⊎◌, ℕ, ◌+◌, ◌-◌, ◌^◌, min, List, [], length, drop, unwrap_or, if◌then◌else◌, IfOk}
 use Rattle.std.specs.Prelude.{Option, Some, None, Result, Ok, Err}
 use Rattle.std.specs.Option.{option_map}
 use Rattle.binlog_text.specs.Events.{BinlogEvent, Found, placed}
@@ -28,11 +28,6 @@ Keeps file Start rest = Unit {0}
 Keeps None (Events position) rest = ⊥
 Keeps (Some file) (Events position) rest = Holds file position rest
 Keeps file (Refused fault) rest = Unit {0}
-
--- an answer that comes from outside
-abbrev pub is_outside_fault : {T : Type 0} → Result T BinlogFault → Bool
-is_outside_fault (Ok x) = false
-is_outside_fault (Err fault) = is_outside fault
 
 -- the event and the position that a step and the event's bytes are
 abbrev pub shown_step : List ℕ → Result (Option StageStep) BinlogFault → Result (Option Found) BinlogFault
@@ -116,10 +111,17 @@ IsStage old new (Err fault) = new ≡ (if is_outside fault then old else Refused
 IsStage old new (Ok None) = new ≡ old
 IsStage old new (Ok (Some event)) = left_at new < left_at old
 
--- The file is read on only where fewer bytes of it are held behind a stage than it has there; at the start none are.
+-- Bytes of the event at a position are to be read: fewer are held than its header has, or than the event whose header is held,
+-- as far as the file has them.
+abbrev pub WantsEvent : Position → List ℕ → Type 0
+WantsEvent position rest =
+    (length rest < min 19 (position.size - position.place))
+    ⊎ (length rest < event_part (position.size - position.place) (framed position.format position.place rest))
+
+-- At a stage the file is read on only where bytes of the next event are to be read; at the start none are held.
 abbrev pub WantsFile : Stage → List ℕ → Type 0
 WantsFile Start rest = Unit {0}
-WantsFile (Events position) rest = length rest < position.size - position.place
+WantsFile (Events position) rest = WantsEvent position rest
 WantsFile (Refused fault) rest = ⊥
 
 -- where the next event of a stage begins

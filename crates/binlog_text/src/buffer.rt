@@ -1,16 +1,16 @@
 // The bytes of the file that a reader holds: the event that it lends, and what of the file follows it.
 
-ghost use Rattle.std.specs.Prelude.{◌≡◌, ◌+◌, ◌<◌, ◌≤◌, [], length, take, drop, min, max, true, IfOk, IfErr, IsErrOf, OnOk};
+ghost use Rattle.std.specs.Prelude.{◌≡◌, ◌+◌, ◌^◌, ◌<◌, ◌≤◌, [], length, take, drop, max, false, true, IfOk, IfErr, IsErrOf, OnErr, OnOk};
 ghost use Rattle.io_core.specs.Told.{Told};
 ghost use Rattle.io_core.specs.Files.{bytes_from};
-ghost use Rattle.binlog_text.specs.Faults.{HasBinlogCauses, IsBinlogRefusal, is_outside};
+ghost use Rattle.binlog_text.specs.Faults.{HasBinlogCauses, IsBinlogRefusal, is_outside, is_outside_fault};
 ghost use Rattle.binlog_text.specs.Header.{kind_of, least_stored, sum_length};
 ghost use Rattle.binlog_text.specs.Events.{judged_event, opened, opened_event};
 ghost use Rattle.binlog_text.specs.Sealed.{IsStoredEvent};
 
 use crate::BinlogFault;
 use crate::format::LogFormat;
-use crate::piece::{grow, read_front};
+use crate::piece::read_on;
 use crate::reading::read_within;
 use crate::stage::Position;
 use io_core::Library;
@@ -45,7 +45,7 @@ impl Model for EventBuffer {
 }
 
 impl EventBuffer {
-    ghost use Rattle.binlog_text.specs.Held.{HeldEvent, IsFront};
+    ghost use Rattle.binlog_text.specs.Held.{HeldEvent, IsFront, IsReadOn};
 
     /// No bytes.
     pub(crate) fn new(alloc: Global) -> EventBuffer
@@ -119,18 +119,18 @@ impl EventBuffer {
         self.end = 0;
     }
 
-    // Keeps no more bytes behind the event than the file has.
-    fn keep(&mut self, left: u64)
+    /// Forgets the bytes after the event but for the first ones.
+    pub(crate) fn shorten(&mut self, count: usize)
+        requires { count ≤ length self.old.rest }
         ensures event { self.new.event ≡ self.old.event }
-        ensures rest { self.new.rest ≡ take left self.old.rest }
-        ensures long { length self.new.rest ≡ min left (length self.old.rest) }
+        ensures rest { self.new.rest ≡ take count self.old.rest }
         ensures room { self.new.room ≡ self.old.room }
     {
-        let here = ((self.end - self.rest) as u64).min(left) as usize;
-        self.end = self.rest + here;
+        self.end = self.rest + count;
     }
 
-    // Reads bytes of the file in place of all that are here. After an error none are here.
+    // Reads on in the file from a place on, behind the bytes that are here, until `want` are here. After
+    // an error the same are here as before.
     fn load<L: Library>(
         &mut self,
         files: &mut L,
@@ -138,25 +138,38 @@ impl EventBuffer {
         place: u64,
         want: usize,
     ) -> Result<(), BinlogFault>
-        ensures front { Told (λ fs. IsFront self.new.rest (bytes_from place name.now fs)) (L.files files.old) }
-        ensures enough { OnOk result (Told (λ fs. min want (length (bytes_from place name.now fs)) ≤ length self.new.rest) (L.files files.old)) }
+        requires order { length self.old.rest ≤ want }
+        ensures more { OnOk result (Told (λ fs. IsReadOn self.old.rest self.new.rest (bytes_from place name.now fs) want) (L.files files.old)) }
+        ensures kept { OnErr result (self.new.rest ≡ self.old.rest) }
+        ensures goes_on { take (length self.old.rest) self.new.rest ≡ self.old.rest }
         ensures bounded { length self.new.rest ≤ want }
         ensures room { self.new.room ≤ max self.old.room want }
         ensures same { L.files files.new ≡ L.files files.old }
         ensures causes { HasBinlogCauses (L.faults files.old) (L.faults files.new) (L.absences files.old) (L.absences files.new) result }
+        ensures no_fault { is_outside_fault result ≡ false → L.faults files.new ≡ L.faults files.old }
+        ensures no_fault_at_want { IsErrOf result BinlogFault.OutOfMemory → L.faults files.new ≡ L.faults files.old }
         ensures failed { IsErrOf result BinlogFault.FileFault → L.failed_last files.new name.now }
         ensures outside { IfErr result (λ fault. is_outside fault ≡ true) }
     {
+        let held = self.end - self.rest;
+        let count = read_on(
+            files,
+            name,
+            place,
+            &mut self.bytes,
+            self.rest,
+            self.end,
+            want,
+        );
         self.event = 0;
         self.rest = 0;
-        self.end = 0;
-        grow(&mut self.bytes, want)?;
-        self.end = read_front(files, name, place, &mut self.bytes, want)?;
+        self.end = held;
+        self.end += count?;
         Ok(())
     }
 
     /// Reads on in the file until at least `need` bytes are here, of which the file has `left` from
-    /// `place` on. After an error no bytes are here.
+    /// `place` on. After an error the same bytes are here as before.
     ///
     /// # Errors
     /// `FileFault`, `OutOfMemory`.
@@ -168,23 +181,29 @@ impl EventBuffer {
         left: u64,
         need: usize,
     ) -> Result<(), BinlogFault>
-        requires { need ≤ left }
+        requires need { need ≤ left }
+        requires within { length self.old.rest ≤ left }
+        requires fits { place + left < 2 ^ 64 }
         ensures front { Told (λ fs. IsFront self.old.rest (bytes_from place name.now fs) → IsFront self.new.rest (bytes_from place name.now fs)) (L.files files.old) }
         ensures enough { OnOk result (Told (λ fs. length (bytes_from place name.now fs) ≡ left → need ≤ length self.new.rest) (L.files files.old)) }
         ensures bounded { length self.new.rest ≤ left }
+        ensures kept { OnErr result (self.new.rest ≡ self.old.rest) }
+        ensures goes_on { take (length self.old.rest) self.new.rest ≡ self.old.rest }
+        ensures held { need ≤ length self.old.rest → self.new.rest ≡ self.old.rest }
         ensures room { self.new.room ≤ max self.old.room (max need PIECE) }
         ensures same { L.files files.new ≡ L.files files.old }
         ensures causes { HasBinlogCauses (L.faults files.old) (L.faults files.new) (L.absences files.old) (L.absences files.new) result }
+        ensures no_fault { is_outside_fault result ≡ false → L.faults files.new ≡ L.faults files.old }
+        ensures no_fault_at_want { IsErrOf result BinlogFault.OutOfMemory → L.faults files.new ≡ L.faults files.old }
         ensures failed { IsErrOf result BinlogFault.FileFault → L.failed_last files.new name.now }
         ensures outside { IfErr result (λ fault. is_outside fault ≡ true) }
-        ensures wanted { IsErrOf result BinlogFault.FileFault → length self.old.rest < left }
-        ensures held { left ≤ length self.old.rest → left ≤ length self.new.rest }
+        ensures wanted { IsErrOf result BinlogFault.FileFault → length self.old.rest < need }
     {
-        self.keep(left);
-        if self.rest().len() >= need {
+        let held = self.rest().len();
+        if held >= need {
             return Ok(());
         }
         let want = (need.max(PIECE) as u64).min(left) as usize;
-        self.load(files, name, place, want)
+        self.load(files, name, place + held as u64, want)
     }
 }

@@ -1,7 +1,7 @@
 // A reader of a binary log, event by event.
 
 ghost use Rattle.std.specs.Prelude.{◌≡◌, ⊤, true};
-ghost use Rattle.binlog_text.specs.Stages.{is_settled};
+ghost use Rattle.binlog_text.specs.Stages.{holds_within, is_settled};
 
 use crate::buffer::EventBuffer;
 use crate::fault::is_outside;
@@ -20,6 +20,7 @@ pub struct LogReader {
     stage: Stage,
     buffer: EventBuffer,
     ghost settled: { is_settled stage ≡ true },
+    ghost within: { holds_within stage buffer.rest ≡ true },
 }
 
 impl LogReader {
@@ -27,10 +28,10 @@ impl LogReader {
     ghost use Rattle.std.specs.Borrow.{sem, follows_so};
     ghost use mathlib.Core.Option.{none};
     ghost use Rattle.io_core.specs.Told.{Told};
-    ghost use Rattle.binlog_text.specs.Faults.{HasBinlogCauses};
+    ghost use Rattle.binlog_text.specs.Faults.{HasBinlogCauses, is_outside_fault};
     ghost use Rattle.binlog_text.specs.Events.{answered, placed};
     ghost use Rattle.binlog_text.specs.Sealed.{StandsStored};
-    ghost use Rattle.binlog_text.specs.Reading.{FitsMark, IsBehindEvent, Keeps, StandsAt, WantsFile, due_at, is_outside_fault, left_at, marked, shown_step, viewed};
+    ghost use Rattle.binlog_text.specs.Reading.{FitsMark, IsBehindEvent, Keeps, StandsAt, WantsFile, due_at, left_at, marked, shown_step, viewed};
     ghost use Rattle.binlog_text.specs.Advances.{Advances, ReaderCauses};
     ghost use Rattle.binlog_text.specs.contracts.reader.LogReader.{the_row};
 
@@ -55,10 +56,13 @@ impl LogReader {
         ensures left { IfOk result (λ position. position.size - position.place ≤ left_at self.old.stage) }
         ensures at { IfOk result (λ position. StandsAt self.old.stage position.place) }
         ensures held { (position : Position) → self.old.stage ≡ Stage.Events position → (result ≡ Ok position) × (self.new.buffer.rest ≡ self.old.buffer.rest) }
+        ensures within { IfOk result (λ position. length self.new.buffer.rest ≤ position.size - position.place) }
         ensures room { self.new.buffer.room ≤ max self.old.buffer.room 65536 }
         ensures again { (fault : BinlogFault) → self.old.stage ≡ Stage.Refused fault → result ≡ Err fault }
         ensures same { L.files files.new ≡ L.files files.old }
         ensures causes { ReaderCauses self.old.stage (L.faults files.old) (L.faults files.new) (L.absences files.old) (L.absences files.new) result }
+        ensures no_fault { is_outside_fault result ≡ false → L.faults files.new ≡ L.faults files.old }
+        ensures no_fault_at_want { IsErrOf result BinlogFault.OutOfMemory → L.faults files.new ≡ L.faults files.old }
         ensures failed { IsErrOf result BinlogFault.FileFault → L.failed_last files.new name.now }
         ensures wanted { IsErrOf result BinlogFault.FileFault → WantsFile self.old.stage self.old.buffer.rest }
     {
@@ -81,6 +85,8 @@ impl LogReader {
         ensures keeps { IfOk result (λ found. IfSome found (λ step. Told (λ fs. Keeps (fs name.now) (Stage.Events step.next) self.new.buffer.rest) (L.files files.old))) }
         ensures kept { (is_outside_fault result ≡ true) ⊎ (result ≡ Ok None) → Told (λ fs. Keeps (fs name.now) self.old.stage self.new.buffer.rest) (L.files files.old) }
         ensures stage { self.new.stage ≡ self.old.stage }
+        ensures held { (position : Position) → self.old.stage ≡ Stage.Events position → is_outside_fault result ≡ true → self.new.buffer.rest ≡ self.old.buffer.rest }
+        ensures within { IfOk result (λ found. IfSome found (λ step. length self.new.buffer.rest ≤ step.next.size - step.next.place)) }
         ensures left { IfOk result (λ found. IfSome found (λ step. left_at (Stage.Events step.next) < left_at self.old.stage)) }
         ensures fits { IfOk result (λ found. IfSome found (λ step. FitsMark step.mark self.new.buffer.event)) }
         ensures sealed { Told (λ fs. IfOk result (λ found. IfSome found (λ step. StandsStored ring.now (fs name.now) (placed (fs name.now) self.old.stage) (record { mark = step.mark; bytes = self.new.buffer.event })))) (L.files files.old) }
@@ -90,6 +96,8 @@ impl LogReader {
         ensures again { (fault : BinlogFault) → self.old.stage ≡ Stage.Refused fault → result ≡ Err fault }
         ensures same { L.files files.new ≡ L.files files.old }
         ensures causes { ReaderCauses self.old.stage (L.faults files.old) (L.faults files.new) (L.absences files.old) (L.absences files.new) result }
+        ensures no_fault { is_outside_fault result ≡ false → L.faults files.new ≡ L.faults files.old }
+        ensures no_fault_at_want { IsErrOf result BinlogFault.OutOfMemory → L.faults files.new ≡ L.faults files.old }
         ensures failed { IsErrOf result BinlogFault.FileFault → L.failed_last files.new name.now }
         ensures wanted { IsErrOf result BinlogFault.FileFault → WantsFile self.old.stage self.old.buffer.rest }
     {
@@ -110,6 +118,8 @@ impl LogReader {
         ensures again { (fault : BinlogFault) → self.old.stage ≡ Stage.Refused fault → result ≡ Err fault }
         ensures same { L.files files.new ≡ L.files files.old }
         ensures causes { ReaderCauses self.old.stage (L.faults files.old) (L.faults files.new) (L.absences files.old) (L.absences files.new) result }
+        ensures no_fault { is_outside_fault result ≡ false → L.faults files.new ≡ L.faults files.old }
+        ensures no_fault_at_want { IsErrOf result BinlogFault.OutOfMemory → L.faults files.new ≡ L.faults files.old }
         ensures failed { IsErrOf result BinlogFault.FileFault → L.failed_last files.new name.now }
         ensures wanted { IsErrOf result BinlogFault.FileFault → WantsFile self.old.stage self.old.buffer.rest }
     {
@@ -133,8 +143,9 @@ impl LogReader {
     ///
     /// # Errors
     /// The first refusal in the file, which is answered again from then on; `FileFault` and
-    /// `OutOfMemory`, after which the reader stands where it stood. A fault of the file is one of this name,
-    /// and comes only where the reader doesn't hold all that the file has behind the events before.
+    /// `OutOfMemory`, after which the reader stands where it stood, with the bytes that it had read ahead. A
+    /// fault of the file is one of this name, and comes only where the reader doesn't hold all bytes of the
+    /// next event, or of its header, that the file has.
     pub fn next<L: Library>(
         &mut self,
         files: &mut L,
@@ -147,6 +158,8 @@ impl LogReader {
         ensures again { (fault : BinlogFault) → self.old.stage ≡ Stage.Refused fault → result ≡ Err fault }
         ensures same { L.files files.new ≡ L.files files.old }
         ensures causes { ReaderCauses self.old.stage (L.faults files.old) (L.faults files.new) (L.absences files.old) (L.absences files.new) result }
+        ensures no_fault { is_outside_fault result ≡ false → L.faults files.new ≡ L.faults files.old }
+        ensures no_fault_at_want { IsErrOf result BinlogFault.OutOfMemory → L.faults files.new ≡ L.faults files.old }
         ensures failed { IsErrOf result BinlogFault.FileFault → L.failed_last files.new name.now }
         ensures wanted { IsErrOf result BinlogFault.FileFault → WantsFile self.old.stage self.old.buffer.rest }
     {

@@ -1,14 +1,14 @@
 // One event read.
 
-ghost use Rattle.std.specs.Prelude.{◌≡◌, ◌+◌, ◌-◌, ◌<◌, ◌≤◌, ◌⊎◌, ℕ, List, Ok, Some, length, take, drop, min, max, IfOk, IfErr, IfSome, IsErrOf, OnOk, false, true};
+ghost use Rattle.std.specs.Prelude.{◌≡◌, ◌+◌, ◌-◌, ◌^◌, ◌<◌, ◌≤◌, ◌⊎◌, ℕ, List, Ok, Some, length, take, drop, min, max, IfOk, IfErr, IfSome, IsErrOf, OnErr, OnOk, false, true};
 ghost use Rattle.io_core.specs.Told.{Told};
 ghost use Rattle.io_core.specs.Files.{bytes_from};
 ghost use Rattle.byte_list.specs.Bytes.{part_of};
-ghost use Rattle.binlog_text.specs.Faults.{HasBinlogCauses, IsBinlogRefusal, is_outside};
+ghost use Rattle.binlog_text.specs.Faults.{HasBinlogCauses, IsBinlogRefusal, is_outside, is_outside_fault};
 ghost use Rattle.binlog_text.specs.Header.{kind_of, least_stored, sum_length};
 ghost use Rattle.binlog_text.specs.Held.{IsFront};
 ghost use Rattle.binlog_text.specs.Events.{event_in, judged_event, opened, opened_event, step_of};
-ghost use Rattle.binlog_text.specs.Reading.{Moves, Reaches, due_in, is_outside_fault, shown_step};
+ghost use Rattle.binlog_text.specs.Reading.{Moves, Reaches, WantsEvent, due_in, shown_step};
 ghost use Rattle.binlog_text.specs.Sealed.{IsStoredEvent};
 
 use crate::BinlogFault;
@@ -60,18 +60,21 @@ pub(crate) fn read_within(
 
 // How many bytes the file has from a position on.
 fn left_of(position: &Position) -> u64
-    ensures { result ≡ position.now.size - position.now.place }
+    ensures left { result ≡ position.now.size - position.now.place }
+    ensures fits { position.now.place + result < 2 ^ 64 }
 {
     position.size.saturating_sub(position.place)
 }
 
-// Reads on in the file until the event at a position is here, or all that the file has of it.
+// Reads on in the file until the event at a position is here, or all that the file has of it. After an
+// error the same bytes are here as before.
 fn reach<L: Library>(
     buffer: &mut EventBuffer,
     position: &Position,
     files: &mut L,
     name: &str,
 ) -> Result<(), BinlogFault>
+    requires { length buffer.old.rest ≤ position.now.size - position.now.place }
     ensures front { Told (λ fs. IsFront buffer.old.rest (bytes_from position.now.place name.now fs) → IsFront buffer.new.rest (bytes_from position.now.place name.now fs)) (L.files files.old) }
     ensures reached { OnOk result (Told (λ fs. IsFront buffer.old.rest (bytes_from position.now.place name.now fs)
         → length (bytes_from position.now.place name.now fs) ≡ position.now.size - position.now.place
@@ -80,20 +83,30 @@ fn reach<L: Library>(
     ensures grown { Told (λ fs. IsFront buffer.old.rest (bytes_from position.now.place name.now fs)
         → length (bytes_from position.now.place name.now fs) ≡ position.now.size - position.now.place
         → buffer.new.room ≤ max buffer.old.room (max 65536 (due_in position.now (bytes_from position.now.place name.now fs)))) (L.files files.old) }
-    ensures bounded { OnOk result (length buffer.new.rest ≤ position.now.size - position.now.place) }
+    ensures bounded { length buffer.new.rest ≤ position.now.size - position.now.place }
+    ensures kept { OnErr result (buffer.new.rest ≡ buffer.old.rest) }
     ensures outside { IfErr result (λ fault. is_outside fault ≡ true) }
     ensures same { L.files files.new ≡ L.files files.old }
     ensures causes { HasBinlogCauses (L.faults files.old) (L.faults files.new) (L.absences files.old) (L.absences files.new) result }
+    ensures no_fault { is_outside_fault result ≡ false → L.faults files.new ≡ L.faults files.old }
+    ensures no_fault_at_want { IsErrOf result BinlogFault.OutOfMemory → L.faults files.new ≡ L.faults files.old }
     ensures failed { IsErrOf result BinlogFault.FileFault → L.failed_last files.new name.now }
-    ensures wanted { IsErrOf result BinlogFault.FileFault → length buffer.old.rest < position.now.size - position.now.place }
+    ensures wanted { IsErrOf result BinlogFault.FileFault → WantsEvent position.now buffer.old.rest }
 {
+    let held = buffer.rest().len();
     let left = left_of(position);
     let header = left.min(HEADER_LEN as u64) as usize;
     buffer.fill(files, name, position.place, left, header)?;
     match framed(&position.format, position.place, buffer.rest()) {
         Ok(Some(length)) => {
             let need = left.min(length as u64) as usize;
-            buffer.fill(files, name, position.place, left, need)
+            match buffer.fill(files, name, position.place, left, need) {
+                Ok(()) => Ok(()),
+                Err(fault) => {
+                    buffer.shorten(held);
+                    Err(fault)
+                }
+            }
         }
         Ok(None) => Ok(()),
         Err(_) => Ok(()),
@@ -115,6 +128,8 @@ fn take_event(
     ensures moves { IfOk result (λ step. IfSome step (Moves position.now buffer.new.event)) }
     ensures room { buffer.new.room ≡ buffer.old.room }
     ensures within { IfOk result (λ step. IfSome step (λ s. length buffer.new.event ≤ length buffer.old.rest)) }
+    ensures bounded { length buffer.new.rest ≤ length buffer.old.rest }
+    ensures left { IfOk result (λ step. IfSome step (λ s. length buffer.new.rest ≤ s.next.size - s.next.place)) }
     ensures sealed { IfOk result (λ step. IfSome step (λ s. IsStoredEvent ring.now position.now.format position.now.place buffer.new.event (take (length buffer.new.event) buffer.old.rest))) }
 {
     let Some(length) = whole(&position.format, position.place, buffer.rest())? else {
@@ -148,7 +163,8 @@ fn step_of(position: &Position, length: usize, format: LogFormat) -> StageStep
     }
 }
 
-/// Reads the event at a position.
+/// Reads the event at a position. After a fault of the file or want of memory the same bytes are held as
+/// before.
 ///
 /// # Errors
 /// The first refusal; `FileFault`, `OutOfMemory`.
@@ -159,6 +175,7 @@ pub(crate) fn read_event<L: Library>(
     name: &str,
     ring: &Ring,
 ) -> Result<Option<StageStep>, BinlogFault>
+    requires { length buffer.old.rest ≤ position.now.size - position.now.place }
     ensures event { Told (λ fs. IsFront buffer.old.rest (bytes_from position.now.place name.now fs)
         → length (bytes_from position.now.place name.now fs) ≡ position.now.size - position.now.place
         → is_outside_fault result ≡ false → event_in ring.now (bytes_from position.now.place name.now fs) position.now ≡ shown_step buffer.new.event result) (L.files files.old) }
@@ -168,14 +185,19 @@ pub(crate) fn read_event<L: Library>(
     ensures stays { Told (λ fs. IsFront buffer.old.rest (bytes_from position.now.place name.now fs)
         → (is_outside_fault result ≡ true) ⊎ (result ≡ Ok None) → IsFront buffer.new.rest (bytes_from position.now.place name.now fs)) (L.files files.old) }
     ensures moves { IfOk result (λ step. IfSome step (Moves position.now buffer.new.event)) }
+    ensures kept { is_outside_fault result ≡ true → buffer.new.rest ≡ buffer.old.rest }
+    ensures bounded { length buffer.new.rest ≤ position.now.size - position.now.place }
+    ensures left { IfOk result (λ step. IfSome step (λ s. length buffer.new.rest ≤ s.next.size - s.next.place)) }
     ensures room { buffer.new.room ≤ max buffer.old.room 16777216 }
     ensures grown { Told (λ fs. IsFront buffer.old.rest (bytes_from position.now.place name.now fs)
         → length (bytes_from position.now.place name.now fs) ≡ position.now.size - position.now.place
         → buffer.new.room ≤ max buffer.old.room (max 65536 (due_in position.now (bytes_from position.now.place name.now fs)))) (L.files files.old) }
     ensures same { L.files files.new ≡ L.files files.old }
     ensures causes { HasBinlogCauses (L.faults files.old) (L.faults files.new) (L.absences files.old) (L.absences files.new) result }
+    ensures no_fault { is_outside_fault result ≡ false → L.faults files.new ≡ L.faults files.old }
+    ensures no_fault_at_want { IsErrOf result BinlogFault.OutOfMemory → L.faults files.new ≡ L.faults files.old }
     ensures failed { IsErrOf result BinlogFault.FileFault → L.failed_last files.new name.now }
-    ensures wanted { IsErrOf result BinlogFault.FileFault → length buffer.old.rest < position.now.size - position.now.place }
+    ensures wanted { IsErrOf result BinlogFault.FileFault → WantsEvent position.now buffer.old.rest }
     ensures sealed { Told (λ fs. IsFront buffer.old.rest (bytes_from position.now.place name.now fs)
         → IfOk result (λ step. IfSome step (λ s. IsStoredEvent ring.now position.now.format position.now.place buffer.new.event (take (length buffer.new.event) (bytes_from position.now.place name.now fs))))) (L.files files.old) }
 {

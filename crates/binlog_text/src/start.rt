@@ -1,10 +1,10 @@
 // The beginning of a file: its length, and its first bytes.
 
-ghost use Rattle.std.specs.Prelude.{◌≡◌, ◌≤◌, max, length, IfOk, IsErrOf, true, false};
+ghost use Rattle.std.specs.Prelude.{◌≡◌, ◌-◌, ◌≤◌, max, length, IfOk, IsErrOf, true, false};
 ghost use Rattle.io_core.specs.Told.{Told};
 ghost use Rattle.binlog_text.specs.Events.{first_position, is_log, placed};
-ghost use Rattle.binlog_text.specs.Faults.{HasBinlogCauses};
-ghost use Rattle.binlog_text.specs.Reading.{IsSize, Starts, is_outside_fault};
+ghost use Rattle.binlog_text.specs.Faults.{HasBinlogCauses, is_outside_fault};
+ghost use Rattle.binlog_text.specs.Reading.{IsSize, Starts};
 
 use crate::BinlogFault;
 use crate::buffer::EventBuffer;
@@ -26,6 +26,8 @@ fn size_of<L: Library>(files: &mut L, name: &str) -> Result<u64, BinlogFault>
     ensures size { Told (λ fs. is_outside_fault result ≡ false → IsSize (fs name.now) result) (L.files files.old) }
     ensures same { L.files files.new ≡ L.files files.old }
     ensures causes { HasBinlogCauses (L.faults files.old) (L.faults files.new) (L.absences files.old) (L.absences files.new) result }
+    ensures no_fault { is_outside_fault result ≡ false → L.faults files.new ≡ L.faults files.old }
+    ensures no_fault_at_want { IsErrOf result BinlogFault.OutOfMemory → L.faults files.new ≡ L.faults files.old }
     ensures failed { IsErrOf result BinlogFault.FileFault → L.failed_last files.new name.now }
 {
     match files.length(name) {
@@ -48,8 +50,11 @@ pub(crate) fn start<L: Library>(
     ensures position { Told (λ fs. is_outside_fault result ≡ false → Starts (fs name.now) buffer.new.rest result) (L.files files.old) }
     ensures room { buffer.new.room ≤ max buffer.old.room 65536 }
     ensures first { IfOk result (λ position. position ≡ first_position position.size) }
+    ensures within { IfOk result (λ position. length buffer.new.rest ≤ position.size - position.place) }
     ensures same { L.files files.new ≡ L.files files.old }
     ensures causes { HasBinlogCauses (L.faults files.old) (L.faults files.new) (L.absences files.old) (L.absences files.new) result }
+    ensures no_fault { is_outside_fault result ≡ false → L.faults files.new ≡ L.faults files.old }
+    ensures no_fault_at_want { IsErrOf result BinlogFault.OutOfMemory → L.faults files.new ≡ L.faults files.old }
     ensures failed { IsErrOf result BinlogFault.FileFault → L.failed_last files.new name.now }
 {
     let size = size_of(files, name)?;

@@ -48,8 +48,8 @@ fn push_event(
     key: Option<&BlockKey>,
     nonce: &[u8; 12],
 ) -> Result<(), AllocError> {
-    let length = (body.len() & 0xffff) as u32 + 23;
-    let place = (log.len() & 0xffff) as u32;
+    let length = (body.len() & 0xff_ffff) as u32 + 23;
+    let place = (log.len() & 0xff_ffff) as u32;
     let mut event = Vec::new(alloc);
     event.extend_from_slice(&[0, 0, 0, 0, kind, 1, 0, 0, 0])?;
     event.extend_from_slice(&length.to_le_bytes())?;
@@ -125,18 +125,20 @@ struct Row {
     body: Vec<u8>,
 }
 
-// The events of a file, and how it ends.
+// The events of a file, and how it ends. The call of the library of this number fails, if there is one,
+// and after a fault of the file the reader is called again.
 fn read_log(
     alloc: Global,
     file: &[u8],
     ring: &Ring,
+    failing: u64,
 ) -> Result<(Vec<Row>, Result<(), BinlogFault>), AllocError> {
     let mut rows = Vec::new(alloc);
     let mut files = Vec::new(alloc);
     let name = String::from_str(alloc, "log")?;
     let bytes = Vec::from_slice(alloc, file)?;
     files.push((name, bytes)).map_err(AllocError::from)?;
-    let mut shelf = Shelf::new(files, Vec::new(alloc));
+    let mut shelf = Shelf::new(files, vec![in alloc; failing]?);
     let mut reader = LogReader::new(alloc);
     'events: for _ in 0..20 {
         match reader.next(&mut shelf, "log", ring) {
@@ -151,6 +153,7 @@ fn read_log(
                 rows.push(row).map_err(AllocError::from)?;
             }
             Ok(None) => return Ok((rows, Ok(()))),
+            Err(BinlogFault::FileFault) => continue,
             Err(fault) => return Ok((rows, Err(fault))),
         }
     }
@@ -163,7 +166,7 @@ fn count_events(
     file: &[u8],
     ring: &Ring,
 ) -> Result<(usize, Result<(), BinlogFault>), AllocError> {
-    let (rows, end) = read_log(alloc, file, ring)?;
+    let (rows, end) = read_log(alloc, file, ring, 0)?;
     Ok((rows.len(), end))
 }
 
@@ -264,7 +267,7 @@ fn each_event_shows_its_fields(rt: HostRuntime) -> Result<(), Fail> {
     let alloc = rt.alloc();
     let log = rotated_log(alloc)?;
     let ring = small_ring(alloc)?;
-    let (rows, end) = read_log(alloc, &log, &ring)?;
+    let (rows, end) = read_log(alloc, &log, &ring, 0)?;
     let (format, first, second) = (description(), first_start(), second_start());
     let table: [(u8, u16, u64, Option<u32>, &[u8]); 5] = [
         (15, 1, 4, None, &format),
@@ -323,5 +326,33 @@ fn a_first_byte_00_is_no_log(rt: HostRuntime) -> Result<(), Fail> {
     }
     let ring = small_ring(alloc)?;
     assert!(rt; count_events(alloc, &log, &ring)? == (0, Err(BinlogFault::BadMagic)));
+    Ok(())
+}
+
+// A format description at 4, events of 60,000 and 70,000 bytes at 249 and 60249, a stop at 130249.
+fn long_log(alloc: Global) -> Result<Vec<u8>, AllocError> {
+    let mut log = small_log(alloc)?;
+    log.truncate(249);
+    for length in [59_977usize, 69_977] {
+        let body = vec![in alloc; 7u8; length]?;
+        push_event(alloc, &mut log, 2, &body, None, &NONCE)?;
+    }
+    push_event(alloc, &mut log, 3, &[], None, &NONCE)?;
+    Ok(log)
+}
+
+#[test]
+fn a_reader_goes_on_after_a_fault(rt: HostRuntime) -> Result<(), Fail> {
+    let alloc = rt.alloc();
+    let log = long_log(alloc)?;
+    let ring = Ring::new(alloc);
+    for failing in 1..6 {
+        let (rows, end) = read_log(alloc, &log, &ring, failing)?;
+        assert!(rt; end.is_ok() && rows.len() == 4, "{failing}");
+        let table = [(4, 222), (249, 59_977), (60_249, 69_977), (130_249, 0)];
+        for (row, (place, length)) in rows.iter().zip(table) {
+            assert!(rt; row.place == place && row.body.len() == length, "{failing}");
+        }
+    }
     Ok(())
 }

@@ -1,5 +1,4 @@
-use Rattle.std.proofs.Common.{◌≡◌, ℕ, ◌≤◌, min, max, List, length, Some, None, Ok, Err, Result, Option, sym, ap, ◌∙◌, arith}
-use Rattle.std.proofs.lemmas.Result.{on_ok_weaker}
+use Rattle.std.proofs.Common.{◌≡◌, ℕ, ◌≤◌, min, max, List, length, Some, None, Ok, Err, Result, Option, sym, ap, subst, ◌∙◌, arith}
 use Rattle.io_core.specs.Files.{bytes_from}
 use Rattle.binlog_text.specs.Header.{framed}
 use Rattle.binlog_text.specs.declared.fault.BinlogFault.{BinlogFault}
@@ -21,9 +20,9 @@ returns-in-Ok-None-clause-reached g c = record {
       let p = c.args.position.now in
       let all : List ℕ = bytes_from p.place c.args.name.now fs in
       let rest : List ℕ = c.fill.new.self.rest in
-      let enough : c.min-header.result ≤ length rest = c.in_ok-fill.ensures.enough.here fs is (size ∙ sym c.left_of-left.ensures) in
+      let enough : c.min-header.result ≤ length rest = c.in_ok-fill.ensures.enough.here fs is (size ∙ sym c.left_of-left.ensures.left) in
       let says : framed p.format p.place rest ≡ Ok None = ap (framed p.format p.place) (sym c.rest.ensures) ∙ sym c.framed.ensures.value ∙ c.in-Ok-None.is ∙ ap Ok c.in-Ok-None.field-0-is in
-      reaches_header p rest all (c.in_ok-fill.ensures.front.here fs is front) (omega (arith, enough, c.min-header.ensures, c.left_of-left.ensures, size))
+      reaches_header p rest all (c.in_ok-fill.ensures.front.here fs is front) (omega (arith, enough, c.min-header.ensures, c.left_of-left.ensures.left, size))
       (λ long e. none_said (sym says ∙ e));
 }
 
@@ -33,32 +32,11 @@ returns-in-Err-clause-reached g c = record {
       let p = c.args.position.now in
       let all : List ℕ = bytes_from p.place c.args.name.now fs in
       let rest : List ℕ = c.fill.new.self.rest in
-      let enough : c.min-header.result ≤ length rest = c.in_ok-fill.ensures.enough.here fs is (size ∙ sym c.left_of-left.ensures) in
+      let enough : c.min-header.result ≤ length rest = c.in_ok-fill.ensures.enough.here fs is (size ∙ sym c.left_of-left.ensures.left) in
       let says = ap (framed p.format p.place) (sym c.rest.ensures) ∙ sym c.framed.ensures.value ∙ c.in-Err.is in
-      reaches_header p rest all (c.in_ok-fill.ensures.front.here fs is front) (omega (arith, enough, c.min-header.ensures, c.left_of-left.ensures, size))
+      reaches_header p rest all (c.in_ok-fill.ensures.front.here fs is front) (omega (arith, enough, c.min-header.ensures, c.left_of-left.ensures.left, size))
       (λ long e. fault_said (sym says ∙ e));
 }
-
-pub returns-in-Ok-Some-clause-reached : goal.returns-in-Ok-Some-clause-reached
-returns-in-Ok-Some-clause-reached g c =
-    let p = c.args.position.now in
-    let before : List ℕ = c.fill.new.self.rest in
-    let says : framed p.format p.place before ≡ Ok (Some c.in-Ok-Some.length) =
-    ap (framed p.format p.place) (sym c.rest.ensures) ∙ sym c.framed.ensures.value ∙ c.in-Ok-Some.is ∙ ap Ok c.in-Ok-Some.field-0-is in
-    let header : 19 ≤ c.in-Ok-Some.length = rw c.in-Ok-Some.field-0-is at c.in-Ok-Some.ensures.header in
-    on_ok_weaker c.fill-in-Ok-Some.result
-    (λ filled. record {
-      here = λ fs is front size.
-          let all : List ℕ = bytes_from p.place c.args.name.now fs in
-          let known = size ∙ sym c.left_of-left.ensures in
-          let enough : c.min-header.result ≤ length before = c.in_ok-fill.ensures.enough.here fs is known in
-          let first = c.in_ok-fill.ensures.front.here fs is front in
-          let same = c.in_ok-fill.ensures.same ∙ is in
-          let more : c.min-need.result ≤ length c.fill-in-Ok-Some.new.self.rest = filled.here fs same known in
-          reaches_event p before c.fill-in-Ok-Some.new.self.rest all c.in-Ok-Some.length first (omega (arith, enough, c.min-header.ensures, c.left_of-left.ensures, size)) says header
-          (c.fill-in-Ok-Some.ensures.front.here fs same first) (omega (arith, more, c.min-need.ensures, c.left_of-left.ensures, size));
-    })
-    c.fill-in-Ok-Some.ensures.enough
 
 pub returns-in_err-fill-clause-grown : goal.returns-in_err-fill-clause-grown
 returns-in_err-fill-clause-grown g c = record {
@@ -81,18 +59,54 @@ returns-in-Err-clause-grown g c = record {
       (omega (arith, c.min-header.ensures)) c.fill.ensures.room;
 }
 
-pub returns-in-Ok-Some-clause-grown : goal.returns-in-Ok-Some-clause-grown
-returns-in-Ok-Some-clause-grown g c = record {
+pub returns-in-Ok-clause-reached : goal.returns-in-Ok-clause-reached
+returns-in-Ok-clause-reached g c =
+    let p = c.args.position.now in
+    let before : List ℕ = c.fill.new.self.rest in
+    let says : framed p.format p.place before ≡ Ok (Some c.in-Ok-Some.length) =
+    ap (framed p.format p.place) (sym c.rest.ensures) ∙ sym c.framed.ensures.value ∙ c.in-Ok-Some.is ∙ ap Ok c.in-Ok-Some.field-0-is in
+    let header : 19 ≤ c.in-Ok-Some.length = rw c.in-Ok-Some.field-0-is at c.in-Ok-Some.ensures.header in
+    record {
+      here = λ fs is front size.
+          let all : List ℕ = bytes_from p.place c.args.name.now fs in
+          let known = size ∙ sym c.left_of-left.ensures.left in
+          let enough : c.min-header.result ≤ length before = c.in_ok-fill.ensures.enough.here fs is known in
+          let first = c.in_ok-fill.ensures.front.here fs is front in
+          let same = c.in_ok-fill.ensures.same ∙ is in
+          let more : c.min-need.result ≤ length c.fill-in-Ok-Some.new.self.rest = c.in-Ok.ensures.enough.here fs same known in
+          reaches_event p before c.fill-in-Ok-Some.new.self.rest all c.in-Ok-Some.length first (omega (arith, enough, c.min-header.ensures, c.left_of-left.ensures.left, size)) says header
+          (c.in-Ok.ensures.front.here fs same first) (omega (arith, more, c.min-need.ensures, c.left_of-left.ensures.left, size));
+    }
+
+pub returns-in-Ok-clause-grown : goal.returns-in-Ok-clause-grown
+returns-in-Ok-clause-grown g c = record {
   here = λ fs is front size.
       let p = c.args.position.now in
       let all : List ℕ = bytes_from p.place c.args.name.now fs in
       let before : List ℕ = c.fill.new.self.rest in
       let says : framed p.format p.place before ≡ Ok (Some c.in-Ok-Some.length) =
       ap (framed p.format p.place) (sym c.rest.ensures) ∙ sym c.framed.ensures.value ∙ c.in-Ok-Some.is ∙ ap Ok c.in-Ok-Some.field-0-is in
-      let enough : c.min-header.result ≤ length before = c.in_ok-fill.ensures.enough.here fs is (size ∙ sym c.left_of-left.ensures) in
+      let enough : c.min-header.result ≤ length before = c.in_ok-fill.ensures.enough.here fs is (size ∙ sym c.left_of-left.ensures.left) in
       let due : due_in p all ≡ min c.in-Ok-Some.length (length all) =
-      due_said p before all c.in-Ok-Some.length (c.in_ok-fill.ensures.front.here fs is front) (omega (arith, enough, c.min-header.ensures, c.left_of-left.ensures, size)) says in
+      due_said p before all c.in-Ok-Some.length (c.in_ok-fill.ensures.front.here fs is front) (omega (arith, enough, c.min-header.ensures, c.left_of-left.ensures.left, size)) says in
       let middle : c.fill.new.self.room ≤ max c.args.buffer.now.room 65536 = omega (arith, c.fill.ensures.room, c.min-header.ensures) in
       event_room c.args.buffer.now.room c.fill.new.self.room c.fill-in-Ok-Some.new.self.room (due_in p all) c.min-need.result middle
-      (omega (arith, due, c.min-need.ensures, c.left_of-left.ensures, size)) c.fill-in-Ok-Some.ensures.room;
+      (omega (arith, due, c.min-need.ensures, c.left_of-left.ensures.left, size)) c.fill-in-Ok-Some.ensures.room;
+}
+
+pub returns-in-Err-fill-clause-grown : goal.returns-in-Err-fill-clause-grown
+returns-in-Err-fill-clause-grown g c = record {
+  here = λ fs is front size.
+      let p = c.args.position.now in
+      let all : List ℕ = bytes_from p.place c.args.name.now fs in
+      let before : List ℕ = c.fill.new.self.rest in
+      let says : framed p.format p.place before ≡ Ok (Some c.in-Ok-Some.length) =
+      ap (framed p.format p.place) (sym c.rest.ensures) ∙ sym c.framed.ensures.value ∙ c.in-Ok-Some.is ∙ ap Ok c.in-Ok-Some.field-0-is in
+      let enough : c.min-header.result ≤ length before = c.in_ok-fill.ensures.enough.here fs is (size ∙ sym c.left_of-left.ensures.left) in
+      let due : due_in p all ≡ min c.in-Ok-Some.length (length all) =
+      due_said p before all c.in-Ok-Some.length (c.in_ok-fill.ensures.front.here fs is front) (omega (arith, enough, c.min-header.ensures, c.left_of-left.ensures.left, size)) says in
+      let middle : c.fill.new.self.room ≤ max c.args.buffer.now.room 65536 = omega (arith, c.fill.ensures.room, c.min-header.ensures) in
+      subst (λ (n : ℕ). n ≤ max c.args.buffer.now.room (max 65536 (due_in p all))) (sym c.shorten.ensures.room)
+      (event_room c.args.buffer.now.room c.fill.new.self.room c.fill-in-Ok-Some.new.self.room (due_in p all) c.min-need.result middle
+      (omega (arith, due, c.min-need.ensures, c.left_of-left.ensures.left, size)) c.fill-in-Ok-Some.ensures.room);
 }
