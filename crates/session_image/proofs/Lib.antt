@@ -1,3 +1,5 @@
 pub mod StoreRuns
 pub mod KeyLaws
 pub mod Images
+pub mod Told
+pub mod Starts
