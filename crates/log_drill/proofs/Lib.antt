@@ -1,1 +1,2 @@
 pub mod LogFiles
+pub mod Sessions

@@ -1,10 +1,12 @@
 // Copies of a disk that stop at each turn of a call, and the three crashes of each.
-ghost use Rattle.std.specs.Prelude.{◌≡◌, ℕ, ◌+◌, ◌*◌, ◌<◌, ◌≤◌, Some, OnOk, IfOk, length};
+ghost use Rattle.std.specs.Prelude.{◌≡◌, ℕ, ◌+◌, ◌*◌, ◌<◌, ◌≤◌, Some, OnOk, IfOk, IsErrOf, length};
 ghost use Rattle.disk_model.specs.Contents.{events};
 ghost use Rattle.disk_model.specs.Past.{At};
 ghost use Rattle.disk_model.specs.declared.names.FileName.TheVariants.{Log as LogFile};
 ghost use Rattle.places.specs.Places.{HasPlaces};
-ghost use Rattle.redo_log.specs.Blocks.{file_layout};
+ghost use Rattle.redo_log.specs.Blocks.{Keys, IsStoreKey, file_layout};
+ghost use Rattle.redo_log.specs.Log.{durable, handed_over};
+ghost use Rattle.log_drill.specs.Kept.{drill_key, KeepsJournal, MayBegin, IsBetween};
 
 use crate::rows::{CrashTally, Expected, crash_rows, crashed, settled};
 use crate::session::{
@@ -18,7 +20,9 @@ use std::alloc::Global;
 const ROUNDS: u64 = 12;
 
 // A call was to meet the stop of its disk.
-fn stopped(done: Result<(), DrillHalt>) -> Result<(), DrillHalt> {
+fn stopped(done: Result<(), DrillHalt>) -> Result<(), DrillHalt>
+    ensures { OnOk result (IsErrOf done DrillHalt.DiskFault) }
+{
     match done {
         Ok(()) => Err(DrillHalt::NotStopped),
         Err(DrillHalt::DiskFault) => Ok(()),
@@ -38,6 +42,7 @@ fn stop_out(
     requires ring { log.old.blocks ≡ 32 }
     requires places { HasPlaces LogFile (file_layout 32) (events disk.now.contents) }
     ensures ring { log.new.blocks ≡ 32 }
+    ensures same { OnOk result (log.new ≡ handed_over log.old) }
 {
     let mut copy = crashed(disk, Choice::Kept)?;
     copy.stop_at(turn);
@@ -63,6 +68,7 @@ fn stop_checkpoint(
     requires ring { log.old.blocks ≡ 32 }
     requires places { HasPlaces LogFile (file_layout 32) (events disk.now.contents) }
     ensures ring { log.new.blocks ≡ 32 }
+    ensures same { OnOk result (log.new ≡ log.old) }
 {
     let mut copy = crashed(disk, Choice::Kept)?;
     copy.stop_at(turn);
@@ -90,6 +96,7 @@ fn drill_out(
     requires places { HasPlaces LogFile (file_layout 32) (events disk.old.contents) }
     ensures ring { log.new.blocks ≡ 32 }
     ensures places { HasPlaces LogFile (file_layout 32) (events disk.new.contents) }
+    ensures journal { (keys : Keys) (count : ℕ) → KeepsJournal keys count log.old (events disk.old.contents) → OnOk result (MayBegin keys count (durable log.old) log.new (events disk.new.contents) × (durable log.new ≡ log.new.next)) }
 {
     for turn in 1..10u64 {
         stop_out(alloc, disk, log, blocks, turn, tally)?;
@@ -111,6 +118,7 @@ fn drill_checkpoint(
     requires places { HasPlaces LogFile (file_layout 32) (events disk.old.contents) }
     ensures ring { log.new.blocks ≡ 32 }
     ensures places { HasPlaces LogFile (file_layout 32) (events disk.new.contents) }
+    ensures journal { (keys : Keys) (count : ℕ) → MayBegin keys count from log.old (events disk.old.contents) → durable log.old ≡ log.old.next → OnOk result (IsBetween keys count log.new (events disk.new.contents)) }
 {
     for turn in 1..3u64 {
         stop_checkpoint(alloc, disk, log, blocks, from, turn, tally)?;
@@ -132,6 +140,7 @@ fn drill_round(
     requires places { HasPlaces LogFile (file_layout 32) (events disk.old.contents) }
     ensures ring { log.new.blocks ≡ 32 }
     ensures places { OnOk result (HasPlaces LogFile (file_layout 32) (events disk.new.contents)) }
+    ensures journal { (keys : Keys) (count : ℕ) → IsStoreKey keys drill_key → IsBetween keys count log.old (events disk.old.contents) → OnOk result (IsBetween keys (count + 3) log.new (events disk.new.contents)) }
 {
     let from = log.next();
     append_eight(alloc, log, blocks)?;
@@ -155,6 +164,7 @@ pub(crate) fn plain_round(
     requires places { HasPlaces LogFile (file_layout 32) (events disk.old.contents) }
     ensures ring { log.new.blocks ≡ 32 }
     ensures places { OnOk result (HasPlaces LogFile (file_layout 32) (events disk.new.contents)) }
+    ensures journal { (keys : Keys) (count : ℕ) → IsStoreKey keys drill_key → IsBetween keys count log.old (events disk.old.contents) → OnOk result (IsBetween keys (count + 3) log.new (events disk.new.contents)) }
 {
     let from = log.next();
     append_eight(alloc, log, blocks)?;
@@ -166,6 +176,14 @@ pub(crate) fn plain_round(
     Ok(())
 }
 
+/// What a drill ends with: the rows that it counted, and the disk and the log of its session.
+#[derive(Drop)]
+pub struct Drilled {
+    pub tally: CrashTally,
+    pub disk: MemDisk,
+    pub log: Log,
+}
+
 /// Goes three times round a ring of 32 blocks: 96 blocks are appended in twelve rounds, and the run
 /// begins anew in each third one, before three of which the ring is full. In one of the three turns of
 /// the ring, from 0, each call of the log is made on a copy of the disk for each of the call's turns,
@@ -174,7 +192,10 @@ pub(crate) fn plain_round(
 ///
 /// # Errors
 /// A refusal that is no stop of a disk.
-pub fn drill_log(alloc: Global, ring_turn: u64) -> Result<CrashTally, DrillHalt> {
+pub fn drill_log(alloc: Global, ring_turn: u64) -> Result<Drilled, DrillHalt>
+    // The disk that it ends with has a ring that the log fits, whose journal has the three mini-transactions of each round, all of them durable.
+    ensures journal { IfOk result (λ end. (keys : Keys) → IsStoreKey keys drill_key → IsBetween keys 36 end.log (events end.disk.contents)) }
+{
     let mut disk = MemDisk::new(alloc, Vec::new(alloc));
     make_log(&mut disk)?;
     let Ok(mut log) = Log::new(alloc, RING_BLOCKS, 2, 1) else {
@@ -190,7 +211,7 @@ pub fn drill_log(alloc: Global, ring_turn: u64) -> Result<CrashTally, DrillHalt>
             plain_round(alloc, &mut disk, &mut log, &mut blocks, moves)?;
         }
     }
-    Ok(tally)
+    Ok(Drilled { tally, disk, log })
 }
 
 /// How many blocks the run of a log has, and how many calls of the disk its scan made.

@@ -7,8 +7,9 @@
 //! last synced block, or up to the last mini-transaction whose blocks were all written where writes
 //! are kept.
 //!
-//! That no call of the log is made where its contract does not allow it is proved, call by call, and of
-//! one session more: [`commit`] carries the journal of a ring on.
+//! That no call of the log is made where its contract does not allow it is proved, call by call, and
+//! that the session's ring has the journal of what was appended, through its stops and crashes too.
+//! [`commit`] carries the journal of any ring on, over any disk.
 #![tactic(auto)]
 
 mod committing;
@@ -18,7 +19,7 @@ mod rows;
 mod session;
 
 pub use committing::commit;
-pub use crashing::{ScanCount, count_scan, drill_log};
+pub use crashing::{Drilled, ScanCount, count_scan, drill_log};
 pub use reading::{RunHeld, newest_checkpoint, read_run};
 pub use rows::CrashTally;
 pub use session::{DrillHalt, RING_BLOCKS, make_log};

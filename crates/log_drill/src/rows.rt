@@ -1,6 +1,7 @@
 // The images of a disk that crashes, and what the log in them must say.
-ghost use Rattle.std.specs.Prelude.{◌≡◌, ℕ, ◌+◌, ◌<◌, ◌≤◌, IfOk, length};
+ghost use Rattle.std.specs.Prelude.{◌≡◌, ℕ, ◌+◌, ◌<◌, ◌≤◌, IfOk, length, [], ◌∷◌};
 ghost use Rattle.disk_model.specs.Contents.{events};
+ghost use Rattle.disk_model.specs.Crash.{IsCrash};
 ghost use Rattle.disk_model.specs.Past.{At};
 ghost use Rattle.disk_model.specs.declared.names.FileName.TheVariants.{Log as LogFile};
 ghost use Rattle.places.specs.Places.{HasPlaces};
@@ -40,7 +41,8 @@ pub(crate) fn settled(log: &Log) -> Expected {
 // The disk after a crash in which each unsynced write has this choice.
 pub(crate) fn crashed(disk: &MemDisk, choice: Choice) -> Result<MemDisk, DrillHalt>
     requires { HasPlaces LogFile (file_layout 32) (events disk.now.contents) }
-    ensures { IfOk result (λ after. HasPlaces LogFile (file_layout 32) (events after.contents)) }
+    ensures places { IfOk result (λ after. HasPlaces LogFile (file_layout 32) (events after.contents)) }
+    ensures crash { IfOk result (λ after. IsCrash (choice ∷ []) (events disk.now.contents) (events after.contents)) }
 {
     let Ok(after) = disk.crash(&[choice]) else {
         return Err(DrillHalt::OutOfMemory);

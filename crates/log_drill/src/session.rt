@@ -1,17 +1,23 @@
 // The calls of a session: mini-transactions of 1, 2 and 5 blocks, a write out, and a checkpoint.
-ghost use Rattle.std.specs.Prelude.{◌≡◌, ℕ, ◌+◌, ◌<◌, ◌≤◌, Ok, OnOk, IfOk, length, [], ◌∷◌, false};
-ghost use Rattle.disk_model.specs.Event.{is_there};
-ghost use Rattle.disk_model.specs.Past.{At};
+ghost use Rattle.std.specs.Prelude.{◌≡◌, ℕ, ◌+◌, ◌<◌, ◌≤◌, Ok, OnOk, OnErr, IfOk, List, length, [], ◌∷◌, false};
+ghost use Rattle.disk_model.specs.Contents.{events};
+ghost use Rattle.disk_model.specs.Event.{Event, is_there};
+ghost use Rattle.disk_model.specs.Past.{At, Throughout};
 ghost use Rattle.disk_model.specs.declared.names.FileName.TheVariants.{Log as LogFile};
 ghost use Rattle.places.specs.Places.{HasPlaces};
 ghost use Rattle.redo_text.specs.Block.{block_count};
 ghost use Rattle.redo_text.specs.Text.{text_of, AreAllowed};
-ghost use Rattle.redo_log.specs.Blocks.{file_layout};
-ghost use Rattle.redo_log.specs.Fresh.{IsFresh};
+ghost use Rattle.places.specs.Batches.{From};
+ghost use Rattle.ring_log.specs.Ring.{RingReady};
+ghost use Rattle.redo_log.specs.Blocks.{Keys, IsStoreKey, redo_form, file_layout};
+ghost use Rattle.redo_log.specs.Fresh.{IsFresh, fresh_ring};
+ghost use Rattle.redo_log.specs.Log.{durable, handed_over};
+ghost use Rattle.redo_log.specs.Recorded.{KeepsItems};
+ghost use Rattle.log_drill.specs.Kept.{drill_key, KeepsJournal, MayBegin, IsBetween};
 
 use aes_core::Algorithm;
 use cause_core::OutOfMemory;
-use disk_model::{Disk, DiskError, FileName};
+use disk_model::{Disk, DiskError, FileName, MemDisk};
 use redo_log::{Log, LogFault, write_first_checkpoint};
 use redo_text::{Change, Mtr, Piece, RedoKey, encode};
 use std::alloc::Global;
@@ -49,7 +55,8 @@ pub(crate) fn halt_of(error: DiskError) -> DrillHalt {
 
 // The key of the session.
 pub(crate) fn session_key() -> RedoKey
-    ensures { 1 ≤ result.version }
+    ensures version { 1 ≤ result.version }
+    ensures is { result ≡ drill_key }
 {
     RedoKey {
         version: 3,
@@ -91,7 +98,9 @@ pub(crate) fn put_of(alloc: Global, n: usize) -> Result<Mtr, OutOfMemory>
 /// Makes the log's file, with its first checkpoint.
 pub fn make_log<D: Disk>(disk: &mut D) -> Result<(), DrillHalt>
     requires { At (λ es. is_there LogFile es ≡ false) (D.past disk.old) }
-    ensures { OnOk result (At (HasPlaces LogFile (file_layout 32)) (D.past disk.new)) }
+    ensures places { OnOk result (At (HasPlaces LogFile (file_layout 32)) (D.past disk.new)) }
+    ensures ready { (keys : Keys) → OnOk result (At (RingReady 32 (redo_form keys) (fresh_ring 32)) (D.past disk.new)) }
+    ensures items { OnOk result (At (From KeepsItems (D.past disk.old)) (D.past disk.new)) }
 {
     if let Err(error) = disk.make(FileName::Log, 143_360) {
         return Err(halt_of(error));
@@ -101,7 +110,9 @@ pub fn make_log<D: Disk>(disk: &mut D) -> Result<(), DrillHalt>
 
 fn write_first<D: Disk>(disk: &mut D) -> Result<(), DrillHalt>
     requires { At (IsFresh 32) (D.past disk.old) }
-    ensures { OnOk result (At (HasPlaces LogFile (file_layout 32)) (D.past disk.new)) }
+    ensures places { OnOk result (At (HasPlaces LogFile (file_layout 32)) (D.past disk.new)) }
+    ensures ready { (keys : Keys) → OnOk result (At (RingReady 32 (redo_form keys) (fresh_ring 32)) (D.past disk.new)) }
+    ensures items { Throughout (From KeepsItems (D.past disk.old)) (D.past disk.old) (D.past disk.new) }
 {
     match write_first_checkpoint(disk, RING_BLOCKS) {
         Ok(()) => Ok(()),
@@ -130,6 +141,7 @@ fn append_put(alloc: Global, log: &mut Log, blocks: &mut Vec<u8>, n: usize) -> R
     requires most { n ≤ 16338 }
     requires ring { log.old.blocks ≡ 32 }
     ensures ring { log.new.blocks ≡ 32 }
+    ensures journal { (keys : Keys) (count : ℕ) (es : List Event) → IsStoreKey keys drill_key → KeepsJournal keys count log.old es → OnOk result (KeepsJournal keys (count + 1) log.new es × (durable log.new ≡ durable log.old)) }
 {
     let Ok(mtr) = put_of(alloc, n) else {
         return Err(DrillHalt::OutOfMemory);
@@ -152,6 +164,7 @@ pub(crate) fn append_eight(
 ) -> Result<(), DrillHalt>
     requires ring { log.old.blocks ≡ 32 }
     ensures ring { log.new.blocks ≡ 32 }
+    ensures journal { (keys : Keys) (count : ℕ) (es : List Event) → IsStoreKey keys drill_key → KeepsJournal keys count log.old es → OnOk result (KeepsJournal keys (count + 3) log.new es × (durable log.new ≡ durable log.old)) }
 {
     append_put(alloc, log, blocks, 1)?;
     append_put(alloc, log, blocks, 5000)?;
@@ -168,12 +181,14 @@ pub(crate) fn whole_of(written: u64) -> u64 {
     }
 }
 
-// Writes the pending blocks out.
-pub(crate) fn write_all<D: Disk>(disk: &mut D, log: &mut Log) -> Result<(), DrillHalt>
+// Writes the pending blocks out. At an error the log has handed them over, and else is as it was.
+pub(crate) fn write_all(disk: &mut MemDisk, log: &mut Log) -> Result<(), DrillHalt>
     requires ring { log.old.blocks ≡ 32 }
-    requires places { At (HasPlaces LogFile (file_layout 32)) (D.past disk.old) }
+    requires places { HasPlaces LogFile (file_layout 32) (events disk.old.contents) }
     ensures ring { log.new.blocks ≡ 32 }
-    ensures places { At (HasPlaces LogFile (file_layout 32)) (D.past disk.new) }
+    ensures places { HasPlaces LogFile (file_layout 32) (events disk.new.contents) }
+    ensures kept { OnErr result (log.new ≡ handed_over log.old) }
+    ensures journal { (keys : Keys) (count : ℕ) → KeepsJournal keys count log.old (events disk.old.contents) → OnOk result (MayBegin keys count (durable log.old) log.new (events disk.new.contents) × (durable log.new ≡ log.new.next)) }
 {
     match log.write_out(disk) {
         Ok(()) => Ok(()),
@@ -182,11 +197,13 @@ pub(crate) fn write_all<D: Disk>(disk: &mut D, log: &mut Log) -> Result<(), Dril
 }
 
 // Lets the run begin at this block.
-pub(crate) fn move_from<D: Disk>(disk: &mut D, log: &mut Log, from: u64) -> Result<(), DrillHalt>
+pub(crate) fn move_from(disk: &mut MemDisk, log: &mut Log, from: u64) -> Result<(), DrillHalt>
     requires ring { log.old.blocks ≡ 32 }
-    requires places { At (HasPlaces LogFile (file_layout 32)) (D.past disk.old) }
+    requires places { HasPlaces LogFile (file_layout 32) (events disk.old.contents) }
     ensures ring { log.new.blocks ≡ 32 }
-    ensures places { At (HasPlaces LogFile (file_layout 32)) (D.past disk.new) }
+    ensures places { HasPlaces LogFile (file_layout 32) (events disk.new.contents) }
+    ensures kept { OnErr result (log.new ≡ log.old) }
+    ensures journal { (keys : Keys) (count : ℕ) → MayBegin keys count from log.old (events disk.old.contents) → durable log.old ≡ log.old.next → OnOk result (IsBetween keys count log.new (events disk.new.contents)) }
 {
     if from < log.from() || log.durable() < from {
         return Err(DrillHalt::OutOfOrder);

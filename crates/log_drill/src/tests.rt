@@ -10,40 +10,40 @@ use std::test::Fail;
 
 #[test]
 fn first_turn_of_the_ring(rt: HostRuntime) -> Result<(), Fail> {
-    let Ok(tally) = drill_log(rt.alloc(), 0) else {
+    let Ok(drilled) = drill_log(rt.alloc(), 0) else {
         return Err(Fail::from("no answer"));
     };
     let all = CrashTally {
         rows: 129,
         sound: 129,
     };
-    assert_eq!(rt; tally, all);
+    assert_eq!(rt; drilled.tally, all);
     Ok(())
 }
 
 #[test]
 fn second_turn_of_the_ring(rt: HostRuntime) -> Result<(), Fail> {
-    let Ok(tally) = drill_log(rt.alloc(), 1) else {
+    let Ok(drilled) = drill_log(rt.alloc(), 1) else {
         return Err(Fail::from("no answer"));
     };
     let all = CrashTally {
         rows: 129,
         sound: 129,
     };
-    assert_eq!(rt; tally, all);
+    assert_eq!(rt; drilled.tally, all);
     Ok(())
 }
 
 #[test]
 fn third_turn_of_the_ring(rt: HostRuntime) -> Result<(), Fail> {
-    let Ok(tally) = drill_log(rt.alloc(), 2) else {
+    let Ok(drilled) = drill_log(rt.alloc(), 2) else {
         return Err(Fail::from("no answer"));
     };
     let all = CrashTally {
         rows: 138,
         sound: 138,
     };
-    assert_eq!(rt; tally, all);
+    assert_eq!(rt; drilled.tally, all);
     Ok(())
 }
 

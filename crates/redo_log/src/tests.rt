@@ -1,7 +1,7 @@
 // The worked rows.
 ghost use Rattle.std.specs.Prelude.{◌≡◌, ◌<◌, ◌≤◌, IfOk, length};
 ghost use Rattle.redo_text.specs.Block.{block_count};
-ghost use Rattle.redo_text.specs.Text.{text_of, AreAllowed};
+ghost use Rattle.redo_text.specs.Text.{text_of, change_text, AreAllowed, IsAllowed};
 
 use crate::{Log, LogFault};
 use aes_core::Algorithm;
@@ -44,6 +44,40 @@ fn put_of(alloc: Global, n: usize) -> Result<Mtr, AllocError>
         return Err(AllocError);
     };
     Ok(Mtr::of(changes))
+}
+
+fn put_at(alloc: Global, page: u32) -> Result<Change, AllocError>
+    requires { 0 < page }
+    ensures { IfOk result (λ change. IsAllowed change × (length (change_text change) ≡ 18)) }
+{
+    let bytes = Piece::of(bytes_of(alloc, 1)?);
+    Ok(Change::Put {
+        space: 5,
+        page,
+        at: 38,
+        bytes,
+    })
+}
+
+// The LSN of two puts in one block, and the numbers of the log behind them.
+fn two_puts(alloc: Global) -> Result<Option<(u64, u64, u64)>, AllocError> {
+    let Ok(mut log) = Log::new(alloc, 32, 2, 1) else {
+        return Ok(None);
+    };
+    let one = put_at(alloc, 1)?;
+    let two = put_at(alloc, 2)?;
+    let mut changes = Vec::new(alloc);
+    let Ok(()) = changes.push(one) else {
+        return Err(AllocError);
+    };
+    let Ok(()) = changes.push(two) else {
+        return Err(AllocError);
+    };
+    let mtr = Mtr::of(changes);
+    match log.append(alloc, &mtr, &key()) {
+        Ok(lsn) => Ok(Some((lsn, log.durable(), log.next()))),
+        Err(_) => Ok(None),
+    }
 }
 
 // Two mini-transactions of one block where one number is left: the first LSN, and the refusal.
@@ -105,6 +139,15 @@ fn numbers_end_at_the_last_block(rt: HostRuntime) -> Result<(), Fail> {
             next: 34_359_738_368
         }
     );
+    Ok(())
+}
+
+#[test]
+fn two_puts_end_at_block_3(rt: HostRuntime) -> Result<(), Fail> {
+    let Ok(Some(numbers)) = two_puts(rt.alloc()) else {
+        return Err(Fail::from("no answer"));
+    };
+    assert_eq!(rt; numbers, (12_288, 2, 3));
     Ok(())
 }
 

@@ -4,5 +4,5 @@ use Rattle.redo_log.specs.Blocks.{file_layout}
 use Rattle.log_drill.proofs.LogFiles.{places_crashed}
 use Rattle.log_drill.proofs.rows.crashed.Goals as goal
 
-pub returns : goal.returns
-returns c = places_crashed LogFile (file_layout 32) _ (events c.args.disk.now.contents) (events c.in-Ok.after.contents) c.requires c.in-Ok.ensures.crash
+pub returns-clause-places : goal.returns-clause-places
+returns-clause-places c = places_crashed LogFile (file_layout 32) _ (events c.args.disk.now.contents) (events c.in-Ok.after.contents) c.requires c.in-Ok.ensures.crash
