@@ -3,3 +3,5 @@ pub mod KeyLaws
 pub mod Images
 pub mod Told
 pub mod Starts
+pub mod MomentSteps
+pub mod Tells
