@@ -178,7 +178,7 @@ pub(crate) fn plain_round(
 
 /// What a drill ends with: the rows that it counted, and the disk and the log of its session.
 #[derive(Drop)]
-pub struct Drilled {
+pub struct DrilledLog {
     pub tally: CrashTally,
     pub disk: MemDisk,
     pub log: Log,
@@ -192,7 +192,7 @@ pub struct Drilled {
 ///
 /// # Errors
 /// A refusal that is no stop of a disk.
-pub fn drill_log(alloc: Global, ring_turn: u64) -> Result<Drilled, DrillHalt>
+pub fn drill_log(alloc: Global, ring_turn: u64) -> Result<DrilledLog, DrillHalt>
     // The disk that it ends with has a ring that the log fits, whose journal has the three mini-transactions of each round, all of them durable.
     ensures journal { IfOk result (λ end. (keys : Keys) → IsStoreKey keys drill_key → IsBetween keys 36 end.log (events end.disk.contents)) }
 {
@@ -211,7 +211,7 @@ pub fn drill_log(alloc: Global, ring_turn: u64) -> Result<Drilled, DrillHalt>
             plain_round(alloc, &mut disk, &mut log, &mut blocks, moves)?;
         }
     }
-    Ok(Drilled { tally, disk, log })
+    Ok(DrilledLog { tally, disk, log })
 }
 
 /// How many blocks the run of a log has, and how many calls of the disk its scan made.

@@ -19,7 +19,7 @@ mod rows;
 mod session;
 
 pub use committing::commit;
-pub use crashing::{Drilled, ScanCount, count_scan, drill_log};
+pub use crashing::{DrilledLog, ScanCount, count_scan, drill_log};
 pub use reading::{RunHeld, newest_checkpoint, read_run};
 pub use rows::CrashTally;
 pub use session::{DrillHalt, RING_BLOCKS, make_log};
