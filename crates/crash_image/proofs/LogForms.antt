@@ -26,6 +26,7 @@ use Rattle.store_files.specs.Run.{block_at, MakeWholeMtr, MakeWholeMtrs, HasText
 use Rattle.store_files.proofs.RingBlocks.{block_number, block_sum}
 use Rattle.store_files.proofs.RunsOnce.{changes_one}
 use Rattle.crash_image.specs.LogForm.{AreTexts, log_form}
+use Rattle.std.proofs.lemmas.Option.{same_Some}
 
 -- ---- what is valid
 
@@ -34,10 +35,7 @@ unfolding checkpoint_in
 check_is i b c is = by (is_checkpoint i b) is
   where
     by : (v : Bool) → (if v then Some (record { sequence = be64_at b 8; from = be64_at b 16 }) else None) ≡ Some c → (v ≡ true) × (be64_at b 8 ≡ c.sequence)
-    by true e = (refl, ap (λ (x : HeldCheckpoint). x.sequence) (one _ e))
-      where
-        one : (x : HeldCheckpoint) → Some x ≡ Some c → x ≡ c
-        one x e = cc
+    by true e = (refl, ap (λ (x : HeldCheckpoint). x.sequence) (same_Some _ c e))
     by false e = absurd (cc)
 
 checkpoint_parts : (i : ℕ) (b : List ℕ) → is_checkpoint i b ≡ true → (ends_in_sum b ≡ true) × (i ≡ side_of (be64_at b 8))
@@ -50,11 +48,8 @@ module _ (header : HeldHeader) (keys : List RingEntry) where
   texts_one : (bs : List (List ℕ)) (t u : List ℕ) → AreTexts header keys bs t → AreTexts header keys bs u → t ≡ u
   texts_one [] t u a b = a ∙ sym b
   texts_one (x ∷ xs) t u (l, r, kl, hr, et) (m, s, km, hs, eu) =
-      let same : l ≡ m = one l m (sym kl ∙ km) in
+      let same : l ≡ m = same_Some l m (sym kl ∙ km) in
       et ∙ ap₂ (λ (k e : List ℕ). block_text header.algorithm k x ++ e) same (texts_one xs r s hr hs) ∙ sym eu
-    where
-      one : (a b : List ℕ) → Some a ≡ Some b → a ≡ b
-      one a b e = cc
 
   -- the laws that the ring asks of a form
   pub is_form : IsForm (log_form header keys)

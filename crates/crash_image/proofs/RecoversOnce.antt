@@ -19,6 +19,7 @@ use Rattle.store_files.proofs.PageLaws.{means_one}
 use Rattle.store_files.proofs.RunsOnce.{log_one}
 use Rattle.crash_image.specs.StoreTheory.{store_theory}
 use Rattle.crash_image.specs.Recovers.{RecoversBy, Recovers}
+use Rattle.std.proofs.lemmas.Option.{same_Some}
 
 -- the text of a page 0 says one thing, whatever the salts are
 head_text_one : (header : HeldHeader) (keys : List RingEntry) (a b : ℕ → List ℕ) (s : ℕ) (t : Text) (x y : Page) → MeansPage header keys a s 0 t x → MeansPage header keys b s 0 t y → x ≡ y
@@ -45,13 +46,10 @@ module _ (image : Image) (keys : List RingEntry) where
       let as_c : pages.ViewRecovers (store_theory header keys (salts_of c)) v (pages_of d) = subst (λ (f : ℕ → List ℕ). pages.ViewRecovers (store_theory header keys f) v (pages_of d)) (sym salts) rd.pages in
       contents_one 0 header.spaces c d order rc.spaces rd.spaces (λ s p is. page_one (store_theory header keys (salts_of c)) v (pages_of c) (pages_of d) s p (rc.pages.pages s p is) (as_c.pages s p is))
 
-  one_header : (h g : HeldHeader) → Some h ≡ Some g → h ≡ g
-  one_header h g e = cc
-
   -- An image recovers to one contents with one last block.
   pub recovers_one : (c d : List SpaceContents) (last end : ℕ) → Recovers image keys c last → Recovers image keys d end → (c ≡ d) × (last ≡ end)
   recovers_one c d last end rc rd =
-      let header : rd.header ≡ rc.header = one_header rd.header rc.header (sym rd.is_header ∙ rc.is_header) in
+      let header : rd.header ≡ rc.header = same_Some rd.header rc.header (sym rd.is_header ∙ rc.is_header) in
       let same_header : RecoversBy image keys rc.header rd.log d = subst (λ (h : HeldHeader). RecoversBy image keys h rd.log d) header rd.by in
       let log : rd.log ≡ rc.log = log_one rc.header keys (image.bytes Log) rd.log rc.log same_header.run rc.by.run in
       let same_log : RecoversBy image keys rc.header rc.log d = subst (λ (l : LogView (List Change)). RecoversBy image keys rc.header l d) log same_header in

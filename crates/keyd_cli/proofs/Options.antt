@@ -5,7 +5,7 @@ use Rattle.std.specs.List.{count_by}
 use Rattle.std.specs.Str.{bytes_eq}
 use Rattle.std.proofs.lemmas.List.Sums.{sum_by-append, sum_by-cons}
 use Rattle.std.proofs.lemmas.List.{take_more, take-take, take-append-drop, append-nil}
-use Rattle.std.proofs.lemmas.Bool.{cases_lt}
+use Rattle.std.proofs.lemmas.Bool.{cases_Bool, cases_lt}
 use mathlib.Core.List.{append_assoc}
 use Rattle.std.proofs.Math.Nat.{add-mod_left}
 use Rattle.std.proofs.lemmas.Bool.Decides.{Decides-eqb}
@@ -90,10 +90,6 @@ times_unnamed : (f : Flag) (word value : CommandWord) → bytes_eq word (flag_wo
 unfolding option_words
 times_unnamed f word value none = rw none refl
 
-either_way : (b : Bool) → (b ≡ true) ⊎ (b ≡ false)
-either_way true = inl refl
-either_way false = inr refl
-
 -- One more option keeps every limit where its own leaves room.
 pub options_more : (xs : List CommandWord) (f : Flag) (word value : CommandWord) → AreOptions xs → word ≡ flag_word f → IsValue f value → occurrences f xs < most_of f
     → AreOptions (xs ++ (word ∷ value ∷ []))
@@ -101,7 +97,7 @@ options_more xs f word value are named is room =
     let added = word ∷ value ∷ [] in
     let limit : (g : Flag) → occurrences g (xs ++ added) ≤ most_of g =
     λ g. let split = times-append g xs added are.pairs in
-    elim (either_way (bytes_eq word (flag_word g))) [
+    elim (cases_Bool (bytes_eq word (flag_word g))) [
       | inl equal ↦ let same : f ≡ g = flag_word-injective f g (sym named ∙ (bytes_eq-Decides word (flag_word g)).0 equal) in
           let P : Flag → Type 0 = λ h. occurrences h xs + 1 ≤ most_of h in
           let more : occurrences g xs + 1 ≤ most_of g = subst P same (omega (arith, room)) in
@@ -288,7 +284,7 @@ times_step f words i low =
     let word = slice_index_or words i [] in
     let size : length (take i words) ≡ i = length-take-le i words (omega (arith, low)) in
     let more : occurrences f (take (i + 1) words) ≡ occurrences f (take i words ++ (word ∷ [])) = ap (occurrences f) (take_more words i [] low) in
-    elim (either_way (i % 2 == 0)) [
+    elim (cases_Bool (i % 2 == 0)) [
       | inl even ↦ let zeroed : length (take i words) % 2 ≡ 0 = ap (λ n. n % 2) size ∙ (Decides-eqb (i % 2) 0).0 even in
           more ∙ times_even f (take i words) word zeroed ∙ ap (λ b. occurrences f (take i words) + cond (b && bytes_eq word (flag_word f)) 1 0) (sym even)
       | inr uneven ↦ let unlike : length (take i words) % 2 ≢ 0 = λ e. odd_is (i % 2) uneven (sym (ap (λ n. n % 2) size) ∙ e) in

@@ -34,6 +34,7 @@ use Rattle.store_form.specs.PageRead.{IsHomeOpened, IsTextOpened, TakesTexts}
 use Rattle.store_form.specs.declared.fault.RestFault.{RestFault}
 use Rattle.store_form.proofs.FirstPages.{head_read}
 use Rattle.page_places.proofs.Texts.{bytes_zero}
+use Rattle.std.proofs.lemmas.Option.{same_Some}
 
 -- a store at rest under the header that its disk has
 pub record IsRestBy (es : List Event) (keys : List RingEntry) (c : List SpaceContents) (header : HeldHeader) : Type 0 where
@@ -108,16 +109,13 @@ head_salt (x ∷ xs) s info is = by (nat_eq x.info.space s) refl (head_salt xs s
         let rest : pages_of xs s 0 ≡ Head info = ap (λ (b : Bool). if b then Head x.info else pages_of xs s 0) (sym test) ∙ is in
         ap (λ (b : Bool). if b then x.info.salt else salts_of xs s) test ∙ later rest
 
-one_crypt : (x y : CryptRecord) → Some x ≡ Some y → x ≡ y
-one_crypt x y e = cc
-
 one_read : (h g : SpaceHead) → ◌≡◌ {A = Result SpaceHead HeadFault} (Ok h) (Ok g) → h ≡ g
 one_read h g e = cc
 
 same_salt : (a b : SpaceInfo) → ◌≡◌ {A = Result SpaceHead HeadFault} (Ok (head_of_space a)) (Ok (head_of_space b)) → a.salt ≡ b.salt
 same_salt a b e =
     let crypts : record { ciphered = a.ciphered; salt = a.salt; minimum = a.floor; key_id = a.key_id; mode = if a.ciphered then 1 else 2 } ≡ record { ciphered = b.ciphered; salt = b.salt; minimum = b.floor; key_id = b.key_id; mode = if b.ciphered then 1 else 2 } =
-    one_crypt _ _ (ap (λ (h : SpaceHead). h.crypt) (one_read _ _ e)) in
+    same_Some _ _ (ap (λ (h : SpaceHead). h.crypt) (one_read _ _ e)) in
     ap (λ (r : CryptRecord). r.salt) crypts
 
 -- page 0 is in clear
