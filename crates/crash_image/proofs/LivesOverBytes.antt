@@ -1,14 +1,15 @@
 -- The record's theorems over bytes: from a moment of a store's life, whose items are what its writes wrote, to Once, to Settled of each lucky image, and to no IV twice. And when a store that rests on paper is at rest.
-use Rattle.std.proofs.Common.{arith, ◌≡◌, ℕ, ◌+◌, ◌^◌, ◌<◌, ◌≤◌, true, List, refl, subst}
+use Rattle.std.proofs.Common.{arith, ◌≡◌, ℕ, ◌+◌, ◌^◌, ◌<◌, ◌≤◌, Bool, true, false, true≢false, List, refl, sym, ap, subst, ◌∙◌}
 use Rattle.aes_core.specs.Modes.{counter_at}
-use Rattle.disk_model.specs.Event.{Event, record_of, reads}
+use Rattle.disk_model.specs.Event.{Event, is_there, marks, record_of, reads, same_file}
 use Rattle.disk_model.specs.Image.{Image, IsImage, Leaves}
 use Rattle.disk_model.specs.declared.names.FileName.{FileName}
 use Rattle.disk_model.specs.declared.names.FileName.TheVariants.{Log, Double, Space}
 use Rattle.key_ring.specs.Ring.{RingEntry}
-use Rattle.places.specs.Places.{AreWhole}
+use Rattle.disk_model.proofs.FilesLemmas.{same_file-≡, same_file-itself}
+use Rattle.places.specs.Places.{AreWhole, HasPlaces, Layout}
 use Rattle.places.specs.Batches.{IsFileSettled}
-use Rattle.places.proofs.NonePending.{image_as_read}
+use Rattle.places.proofs.NonePending.{image_as_read, lost_all, settled_by_images}
 use Rattle.page_places.specs.Texts.{slots, pages}
 use Rattle.page_places.specs.Views.{view, places_by}
 use Rattle.page_places.proofs.Views.{is_view}
@@ -70,6 +71,24 @@ none_pending blocks count es log double spaces log_settled double_settled spaces
     each Log left = image_as_read Log (log_places blocks) es (omega arith) log log_settled _ _ left
     each Double left = image_as_read Double slots es (omega arith) double double_settled _ _ left
     each (Space s) left = image_as_read (Space s) (pages (count s)) es (omega arith) (spaces s) (spaces_settled s) _ _ left
+
+-- And back: where each image has each file as it reads, no place of a file of whole places is pending.
+module _ (es : List Event) (none : HasNonePending es) (f : FileName) where
+  -- an image with this of one file, and the others as the disk kept them
+  left_of : (file : List ℕ) (torn : List (ℕ × ℕ)) → Leaves f es file torn → (g : FileName) → (x : List ℕ) × (y : List (ℕ × ℕ)) × Leaves g es x y × (g ≡ f → x ≡ file)
+  left_of file torn left g = by (same_file g f) refl
+    where
+      by : (b : Bool) → same_file g f ≡ b → (x : List ℕ) × (y : List (ℕ × ℕ)) × Leaves g es x y × (g ≡ f → x ≡ file)
+      by true same = (file, torn, subst (λ (h : FileName). Leaves h es file torn) (sym (same_file-≡ g f same)) left, λ is. refl)
+      by false apart = let (x, y, l) = lost_all g es in (x, y, l, λ is. absurd (true≢false (sym (same_file-itself f) ∙ ap (λ (h : FileName). same_file h f) (sym is) ∙ apart)))
+
+  as_read : (file : List ℕ) (torn : List (ℕ × ℕ)) → Leaves f es file torn → file ≡ reads f es
+  as_read file torn left =
+      let each = left_of file torn left in
+      sym ((each f).3 refl) ∙ none (record { is_made = λ g. is_there g es; bytes = λ g. (each g).0; told = marks es; torn = λ g. (each g).1 }) (record { made = λ g. refl; left = λ g. (each g).2; told = refl }) f
+
+  pub none_pending_places : (layout : Layout) → HasPlaces f layout es → IsFileSettled f layout.size es
+  none_pending_places layout places = settled_by_images f layout es places as_read
 
 -- A disk with nothing pending, whose view rests with these contents, is at rest with them.
 pub rests_by : (es : List Event) (keys : List RingEntry) (header : HeldHeader) (log : LogView (List Change)) (c : List SpaceContents) (last : ℕ) → last + 1 ≡ log.end → HasNonePending es → Reading (read_image es) keys header log c
