@@ -10,10 +10,12 @@ use Rattle.redo_text.specs.Reading.{block_version}
 use Rattle.store_files.specs.Checkpoint.{checkpoint_in}
 use Rattle.store_files.specs.Header.{HeldHeader}
 use Rattle.store_files.specs.RingBlock.{is_ring_block, begins_mtr, ends_mtr, block_text, IsMtrText}
+use Rattle.store_image.specs.Checkpoint.{front_blocks}
+use Rattle.store_image.specs.View.{block_bytes}
 
 -- the log's file: header, two checkpoints and so many ring blocks
 abbrev pub log_places : ℕ → Layout
-log_places blocks = record { size = 4096; count = 3 + blocks; passes = ends_in_sum }
+log_places blocks = record { size = block_bytes; count = front_blocks + blocks; passes = ends_in_sum }
 
 module _ (header : HeldHeader) (keys : List RingEntry) where
   -- the text in these blocks, each under the local key of id 1 at its version

@@ -8,7 +8,7 @@ use Rattle.page_places.specs.Placed.{IsPlaced}
 use Rattle.page_places.specs.Views.{view}
 use Rattle.store_image.specs.Places.{LogView}
 use Rattle.store_image.specs.Recovers as pages
-use Rattle.store_image.specs.View.{Logged}
+use Rattle.store_image.specs.View.{Logged, block_bytes, slot_count}
 use Rattle.redo_text.specs.declared.change.Change.{Change}
 use Rattle.redo_text.specs.declared.change.Change.TheVariants.{Put, Kind, Touch, Floor, Encrypt}
 use Rattle.store_model.specs.declared.contents.SpaceContents.{SpaceContents}
@@ -16,20 +16,22 @@ use Rattle.store_files.specs.Header.{HeldHeader, HeldSpace, header_in}
 use Rattle.store_files.specs.Pages.{has_page, pages_of, salts_of, HaveSpaces}
 use Rattle.store_files.specs.Run.{IsLogOf, IsClear}
 use Rattle.crash_image.specs.StoreTheory.{store_theory}
+use Rattle.store_image.specs.Checkpoint.{front_blocks}
+use Rattle.page_places.specs.Texts.{page_bytes, slot_size}
 
 -- The header is block 0 of the log's file, where that is valid. A copy of it elsewhere would be looked for here alone.
 abbrev pub HasHeader : Image → HeldHeader → Type 0
-HasHeader image header = header_in (place 4096 0 (image.bytes Log)) ≡ Some header
+HasHeader image header = header_in (place block_bytes 0 (image.bytes Log)) ≡ Some header
 
 -- each space has as many bytes as its pages
 abbrev pub SpacesLong : Image → List HeldSpace → Type 0
 SpacesLong image [] = Unit {0}
-SpacesLong image (s ∷ ss) = (length (image.bytes (Space s.space)) ≡ s.pages * 16384) × SpacesLong image ss
+SpacesLong image (s ∷ ss) = (length (image.bytes (Space s.space)) ≡ s.pages * page_bytes) × SpacesLong image ss
 
 -- each file is as long as the header says
 pub record AreLong (image : Image) (header : HeldHeader) : Type 0 where
-  pub log : length (image.bytes Log) ≡ (3 + header.blocks) * 4096
-  pub double : length (image.bytes Double) ≡ 64 * 16896
+  pub log : length (image.bytes Log) ≡ (front_blocks + header.blocks) * block_bytes
+  pub double : length (image.bytes Double) ≡ slot_count * slot_size
   pub spaces : SpacesLong image header.spaces
 
 -- the change is one of the store's pages
@@ -56,7 +58,7 @@ module _ (image : Image) (keys : List RingEntry) where
     pub run : IsLogOf header keys (image.bytes Log) log
     pub of_store : RunIsOfStore header.spaces log.run
     -- no home has the text of another page
-    pub placed : (s p : ℕ) → has_page header.spaces s p ≡ true → IsPlaced p (place 16384 p (image.bytes (Space s)))
+    pub placed : (s p : ℕ) → has_page header.spaces s p ≡ true → IsPlaced p (place page_bytes p (image.bytes (Space s)))
     pub spaces : HaveSpaces header.spaces c
     -- each page is its chosen text's with the run's later changes, and so is what any live slot gives
     pub pages : pages.ViewRecovers (store_theory header keys (salts_of c)) (view log image) (pages_of c)

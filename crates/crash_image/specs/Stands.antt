@@ -9,7 +9,7 @@ use Rattle.page_places.specs.Texts.{ends_in_sum, slot_sums_up}
 use Rattle.page_places.specs.Views.{view}
 use Rattle.store_image.specs.Places.{LogView}
 use Rattle.store_image.specs.Recovers.{ViewRotated}
-use Rattle.store_image.specs.View.{Text, Logged, IsChosen, IsLive}
+use Rattle.store_image.specs.View.{Text, Logged, IsChosen, IsLive, block_bytes}
 use Rattle.store_model.specs.Fold.{fold}
 use Rattle.redo_text.specs.declared.change.Change.{Change}
 use Rattle.store_model.specs.declared.contents.SpaceContents.{SpaceContents}
@@ -54,7 +54,7 @@ entries_to lsn (e ∷ es) = if nat_le e.lsn lsn then 1 + entries_to lsn es else 
 -- The image stands for the first entries of the journal over the base contents, as many as its run reaches: it recovers to their fold, they hold all that was acknowledged, no key that was given up is needed, and each key that is needed is among the named.
 pub record Stands (base : List SpaceContents) (journal : List (Logged (List Change))) (image : Image) (keys : List RingEntry) (named : List (ℕ × ℕ)) (active : ℕ) : Type 0 where
   pub last : ℕ
-  pub recovers : Recovers image keys (fold (mtrs_of (take (entries_to ((last + 1) * 4096) journal) journal)) base) last
-  pub acknowledged : acked image.told ≤ entries_to ((last + 1) * 4096) journal
-  pub rotated : Rotated image keys recovers.header recovers.log (fold (mtrs_of (take (entries_to ((last + 1) * 4096) journal) journal)) base)
+  pub recovers : Recovers image keys (fold (mtrs_of (take (entries_to ((last + 1) * block_bytes) journal) journal)) base) last
+  pub acknowledged : acked image.told ≤ entries_to ((last + 1) * block_bytes) journal
+  pub rotated : Rotated image keys recovers.header recovers.log (fold (mtrs_of (take (entries_to ((last + 1) * block_bytes) journal) journal)) base)
   pub keyed : (id version : ℕ) → Named image recovers.header recovers.log active id version → Contains named (id, version)

@@ -1,15 +1,15 @@
 -- What a store's record of writes says: the page texts and ring blocks that were ever written, that no number serves two of them (Once), and that an image agrees with them (Settled).
-use Rattle.std.specs.Prelude.{ℕ, ◌/◌, nat_le, ◌&&◌, if◌then◌else◌, List, [], ◌∷◌, ◌++◌, Option, Some, None}
+use Rattle.std.specs.Prelude.{ℕ, ◌*◌, ◌/◌, nat_le, ◌&&◌, if◌then◌else◌, List, [], ◌∷◌, ◌++◌, Option, Some, None}
 use Rattle.disk_model.specs.Image.{Image}
 use Rattle.disk_model.specs.declared.names.FileName.{FileName}
 use Rattle.disk_model.specs.declared.names.FileName.TheVariants.{Log, Double, Space}
 use Rattle.key_ring.specs.Ring.{RingEntry}
-use Rattle.page_places.specs.Texts.{is_page_text, text_in, slot_held}
+use Rattle.page_places.specs.Texts.{is_page_text, text_in, slot_held, page_bytes}
 use Rattle.page_places.specs.Views.{view}
 use Rattle.store_image.specs.Places.{LogView}
 use Rattle.store_image.specs.Record as items
 use Rattle.store_image.specs.Record.{Item, PageText, RingBlock}
-use Rattle.store_image.specs.View.{Slot}
+use Rattle.store_image.specs.View.{Slot, block_bytes}
 use Rattle.redo_text.specs.declared.change.Change.{Change}
 use Rattle.store_model.specs.declared.contents.SpaceContents.{SpaceContents}
 use Rattle.store_files.specs.Header.{HeldHeader}
@@ -17,6 +17,7 @@ use Rattle.store_files.specs.Pages.{pages_of, salts_of}
 use Rattle.store_files.specs.RingBlock.{is_ring_block}
 use Rattle.redo_text.specs.Reading.{number_of, block_version}
 use Rattle.crash_image.specs.StoreTheory.{store_theory}
+use Rattle.store_image.specs.Checkpoint.{front_blocks}
 
 abbrev pub slot_item : Option Slot → List Item
 slot_item None = []
@@ -24,9 +25,9 @@ slot_item (Some x) = PageText x.space x.page x.text ∷ []
 
 -- what a write of these bytes at this place of a file wrote: a page text to its home or to a slot, a ring block, or neither
 abbrev pub written_item : FileName → ℕ → List ℕ → List Item
-written_item (Space s) at bytes = if is_page_text (at / 16384) bytes then PageText s (at / 16384) (text_in bytes) ∷ [] else []
+written_item (Space s) at bytes = if is_page_text (at / page_bytes) bytes then PageText s (at / page_bytes) (text_in bytes) ∷ [] else []
 written_item Double at bytes = slot_item (slot_held bytes)
-written_item Log at bytes = if nat_le 12288 at && is_ring_block (number_of bytes) bytes then RingBlock (number_of bytes) (block_version bytes) bytes ∷ [] else []
+written_item Log at bytes = if nat_le (front_blocks * block_bytes) at && is_ring_block (number_of bytes) bytes then RingBlock (number_of bytes) (block_version bytes) bytes ∷ [] else []
 
 -- the page texts and ring blocks among the writes
 abbrev pub written_items : List (FileName × ℕ × List ℕ) → List Item

@@ -4,7 +4,7 @@ use Rattle.disk_model.specs.Event.{Event, Sync}
 use Rattle.disk_model.specs.declared.names.FileName.TheVariants.{Double, Space}
 use Rattle.places.specs.Batches.{Batch}
 use Rattle.places.specs.Writes.{writes_of}
-use Rattle.page_places.specs.Texts.{slot_bytes}
+use Rattle.page_places.specs.Texts.{slot_bytes, slot_size, page_bytes}
 use Rattle.doublewrite.specs.Text.{page_number_of}
 use Rattle.doublewrite.specs.declared.texts.Texts.{Texts}
 
@@ -21,8 +21,8 @@ home_batch batch = record { place = λ i. page_number_of (text_at batch i); byte
 
 -- what a batch that is stored adds, the newest first: its slots in order, and one sync, which also comes where the batch is empty
 abbrev pub slot_events : Texts → List Event
-slot_events batch = Sync Double ∷ writes_of Double 16896 (slot_batch batch) (length batch.pages)
+slot_events batch = Sync Double ∷ writes_of Double slot_size (slot_batch batch) (length batch.pages)
 
 -- and one that is written home, in the same way
 abbrev pub home_events : Texts → List Event
-home_events batch = Sync (Space batch.space) ∷ writes_of (Space batch.space) 16384 (home_batch batch) (length batch.pages)
+home_events batch = Sync (Space batch.space) ∷ writes_of (Space batch.space) page_bytes (home_batch batch) (length batch.pages)

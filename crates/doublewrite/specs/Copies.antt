@@ -4,7 +4,7 @@ use Rattle.disk_model.specs.Event.{Event}
 use Rattle.disk_model.specs.declared.names.FileName.TheVariants.{Double}
 use Rattle.places.specs.Places.{shown}
 use Rattle.store_image.specs.View.{Slot}
-use Rattle.page_places.specs.Texts.{slot_held}
+use Rattle.page_places.specs.Texts.{slot_held, slot_size}
 use Rattle.doublewrite.specs.declared.listing.Copied.{Copied}
 
 -- the slot at an index, as it is listed
@@ -19,4 +19,4 @@ as_list (Some c) = c ∷ []
 -- of the first n slots the valid ones
 unfoldable pub copies_to : ℕ → List Event → List Copied
 copies_to zero es = []
-copies_to (suc n) es = copies_to n es ++ as_list (as_copied n (slot_held (shown Double 16896 n es)))
+copies_to (suc n) es = copies_to n es ++ as_list (as_copied n (slot_held (shown Double slot_size n es)))

@@ -8,11 +8,13 @@ use Rattle.space_head.specs.declared.space.SpaceInfo.{SpaceInfo}
 use Rattle.doublewrite.specs.Copies.{copies_to}
 use Rattle.doublewrite.specs.Restore.{wanted, space_at}
 use Rattle.doublewrite.specs.declared.listing.Copied.{Copied}
+use Rattle.store_image.specs.View.{slot_count}
+use Rattle.page_places.specs.Texts.{page_bytes}
 
 -- the write of a page, where one is wanted
 abbrev pub page_write : ℕ → ℕ → Option (List ℕ) → List Event
 page_write space page None = []
-page_write space page (Some text) = Write (Space space) (page * 16384) text text ∷ []
+page_write space page (Some text) = Write (Space space) (page * page_bytes) text text ∷ []
 
 -- those of the first n pages of a space, in order of pages
 unfoldable pub page_writes : List Copied → List Event → ℕ → ℕ → List Event
@@ -38,7 +40,7 @@ spaces_events copies s spaces (suc k) = space_events copies s (space_at spaces k
 
 -- of all spaces, from the copies that stand at s
 abbrev pub restore_events : List SpaceInfo → List Event → List Event
-restore_events spaces s = spaces_events (copies_to 64 s) s spaces (length spaces)
+restore_events spaces s = spaces_events (copies_to slot_count s) s spaces (length spaces)
 
 -- how many calls the first k spaces take at most: a home is read once and written once, a space is synced once
 unfoldable pub calls_to : List SpaceInfo → ℕ → ℕ

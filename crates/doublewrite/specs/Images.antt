@@ -6,7 +6,7 @@ use Rattle.places.specs.Places.{shown, May, MayRead}
 use Rattle.store_image.specs.View.{Held, Holds, Slot}
 use Rattle.store_image.specs.Groups.{IsNoText, slot_of}
 use Rattle.store_image.specs.Doublewrite.{IsBeing}
-use Rattle.page_places.specs.Texts.{page_bytes, held, slot_held, text_in}
+use Rattle.page_places.specs.Texts.{page_bytes, held, slot_held, text_in, slot_size}
 use Rattle.page_places.specs.Views.{IsNoSlot}
 use Rattle.doublewrite.specs.Text.{page_number_of}
 use Rattle.doublewrite.specs.Batch.{text_at}
@@ -14,7 +14,7 @@ use Rattle.doublewrite.specs.declared.texts.Texts.{Texts}
 
 -- an image may hold this in slot i: what its bytes say, and nothing where it is torn
 abbrev pub MaySlot : ℕ → List Event → Option Slot → Type 0
-MaySlot i es h = MayRead slot_held IsNoSlot Double 16896 i es h
+MaySlot i es h = MayRead slot_held IsNoSlot Double slot_size i es h
 
 -- and this in the home of page p of a space
 abbrev pub MayHome : ℕ → ℕ → List Event → Held → Type 0
@@ -22,7 +22,7 @@ MayHome s p es h = MayRead (held p) IsNoText (Space s) page_bytes p es h
 
 -- what the slots read as is what an image may hold
 abbrev pub AreSlotsHonest : List Event → Type 0
-AreSlotsHonest es = (i : ℕ) → May Double 16896 i es (Some (shown Double 16896 i es))
+AreSlotsHonest es = (i : ℕ) → May Double slot_size i es (Some (shown Double slot_size i es))
 
 -- and so of the homes of a space
 abbrev pub AreHomesHonest : ℕ → List Event → Type 0
@@ -40,7 +40,7 @@ pub record SlotsMay (batch : Texts) (s m : List Event) : Type 0 where
 -- Once it is stored: the slots hold the batch in every image, the others what they read as at s, and each home what it could hold then.
 pub record SlotsHold (batch : Texts) (s m : List Event) : Type 0 where
   pub slots : (i : ℕ) (h : Option Slot) → i < length batch.pages → MaySlot i m h → h ≡ Some (batch_slot batch i)
-  pub others : (i : ℕ) (h : Option Slot) → length batch.pages ≤ i → MaySlot i m h → h ≡ slot_held (shown Double 16896 i s)
+  pub others : (i : ℕ) (h : Option Slot) → length batch.pages ≤ i → MaySlot i m h → h ≡ slot_held (shown Double slot_size i s)
   pub homes : (z p : ℕ) (h : Held) → MayHome z p m h → MayHome z p s h
 
 -- While it is written home since s: each home holds what it could hold then, or the batch's text for its page, or no text; each slot what it could hold then.

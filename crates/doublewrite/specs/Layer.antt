@@ -4,7 +4,7 @@ use Rattle.disk_model.specs.Event.{Event}
 use Rattle.disk_model.specs.declared.names.FileName.TheVariants.{Double, Space}
 use Rattle.places.specs.Places.{HasPlaces}
 use Rattle.places.specs.Batches.{Writing, Wrote, BatchSettled, IsOf}
-use Rattle.page_places.specs.Texts.{slots, pages}
+use Rattle.page_places.specs.Texts.{slots, pages, slot_size, page_bytes}
 use Rattle.doublewrite.specs.Text.{page_number_of}
 use Rattle.doublewrite.specs.Batch.{text_at, slot_batch, home_batch}
 use Rattle.doublewrite.specs.declared.texts.Texts.{Texts}
@@ -22,7 +22,7 @@ abbrev pub SlotsSettled : Texts → List Event → List Event → Type 0
 SlotsSettled batch s m = BatchSettled Double slots (slot_batch batch) (length batch.pages) s m
 
 abbrev pub IsSlotEvent : Texts → Event → Type 0
-IsSlotEvent batch e = IsOf Double 16896 (slot_batch batch) (length batch.pages) e
+IsSlotEvent batch e = IsOf Double slot_size (slot_batch batch) (length batch.pages) e
 
 -- the pages of the batch are pages of their space, which has so many
 pub record IsInside (batch : Texts) (count : ℕ) (es : List Event) : Type 0 where
@@ -44,4 +44,4 @@ abbrev pub HomesSettled : Texts → List Event → List Event → Type 0
 HomesSettled batch s m = (count : ℕ) → IsInside batch count s → BatchSettled (Space batch.space) (pages count) (home_batch batch) (length batch.pages) s m
 
 abbrev pub IsHomeEvent : Texts → Event → Type 0
-IsHomeEvent batch e = IsOf (Space batch.space) 16384 (home_batch batch) (length batch.pages) e
+IsHomeEvent batch e = IsOf (Space batch.space) page_bytes (home_batch batch) (length batch.pages) e

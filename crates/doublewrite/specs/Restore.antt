@@ -7,9 +7,10 @@ use Rattle.disk_model.specs.declared.names.FileName.TheVariants.{Space}
 use Rattle.places.specs.Places.{shown, May, HasPlaces}
 use Rattle.places.specs.Filling.{Filling, Filled, FilledWhole}
 use Rattle.space_head.specs.declared.space.SpaceInfo.{SpaceInfo}
-use Rattle.page_places.specs.Texts.{is_page_text, pages}
+use Rattle.page_places.specs.Texts.{is_page_text, pages, page_bytes}
 use Rattle.doublewrite.specs.Copies.{copies_to}
 use Rattle.doublewrite.specs.declared.listing.Copied.{Copied}
+use Rattle.store_image.specs.View.{slot_count}
 
 -- the first, unless the best so far is as new
 abbrev pub newer : Copied → Option Copied → Option Copied
@@ -29,7 +30,7 @@ newest copies space page = newest_from None copies space page
 
 -- what a home is to become: the text of its newest copy, where it holds no page text
 unfoldable pub wanted : List Copied → List Event → ℕ → ℕ → Option (List ℕ)
-wanted copies s space page = if is_page_text page (shown (Space space) 16384 page s) then None else option_map (λ c. c.text) (newest copies space page)
+wanted copies s space page = if is_page_text page (shown (Space space) page_bytes page s) then None else option_map (λ c. c.text) (newest copies space page)
 
 abbrev pub HasPages : SpaceInfo → List Event → Type 0
 HasPages info es = HasPlaces (Space info.space) (pages info.pages) es
@@ -66,8 +67,8 @@ HaveAll spaces es = (i : ℕ) → i < length spaces → HasPages (space_at space
 -- since s nothing was asked of the space
 pub record IsUntouched (info : SpaceInfo) (s m : List Event) : Type 0 where
   pub has : HasPages info m
-  pub may : (i : ℕ) (x : Option (List ℕ)) → May (Space info.space) 16384 i m x → May (Space info.space) 16384 i s x
-  pub shows : (i : ℕ) → shown (Space info.space) 16384 i m ≡ shown (Space info.space) 16384 i s
+  pub may : (i : ℕ) (x : Option (List ℕ)) → May (Space info.space) page_bytes i m x → May (Space info.space) page_bytes i s x
+  pub shows : (i : ℕ) → shown (Space info.space) page_bytes i m ≡ shown (Space info.space) page_bytes i s
 
 abbrev pub SpacesFilling : List Copied → List SpaceInfo → List Event → List Event → Type 0
 SpacesFilling copies spaces s m = (i : ℕ) → i < length spaces → PagesFilling copies (space_at spaces i) s m
@@ -82,10 +83,10 @@ SpacesRestored copies spaces s m = (i : ℕ) → i < length spaces → PagesRest
 
 -- with the copies that stand at s
 abbrev pub HomesRestoring : List SpaceInfo → List Event → List Event → Type 0
-HomesRestoring spaces s m = SpacesFilling (copies_to 64 s) spaces s m
+HomesRestoring spaces s m = SpacesFilling (copies_to slot_count s) spaces s m
 
 abbrev pub HomesRestored : List SpaceInfo → List Event → List Event → Type 0
-HomesRestored spaces s m = SpacesRestored (copies_to 64 s) spaces s m
+HomesRestored spaces s m = SpacesRestored (copies_to slot_count s) spaces s m
 
 abbrev pub IsRestoreEvent : List SpaceInfo → Event → Type 0
 IsRestoreEvent spaces e = (i : ℕ) × (i < length spaces) × IsSpaceEvent (space_at spaces i) e

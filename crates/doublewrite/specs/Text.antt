@@ -1,7 +1,7 @@
 -- The text of a page.
 use Rattle.std.specs.Prelude.{◌≡◌, ℕ, ◌^◌, ◌<◌, true, List, [], length, slice_index_or}
 use Rattle.byte_list.specs.Fields.{be32_at}
-use Rattle.page_places.specs.Texts.{ends_in_sum}
+use Rattle.page_places.specs.Texts.{ends_in_sum, page_bytes}
 
 -- the page's number, in clear
 abbrev pub page_number_of : List ℕ → ℕ
@@ -9,7 +9,7 @@ page_number_of text = be32_at text 4
 
 -- 16384 bytes whose last four are the CRC-32C of those before them
 pub record IsPageText (text : List ℕ) : Type 0 where
-  pub long : length text ≡ 16384
+  pub long : length text ≡ page_bytes
   pub sums : ends_in_sum text ≡ true
   pub number : page_number_of text < 2 ^ 32
 

@@ -12,6 +12,7 @@ ghost use Rattle.doublewrite.specs.Batch.{text_at, home_batch, home_events};
 ghost use Rattle.doublewrite.specs.Images.{AreHomesHonest, HomesHold, HomesMay};
 ghost use Rattle.doublewrite.specs.Layer.{ArePagesDistinct, HomesSettled, HomesWriting, HomesWrote, IsHomeEvent, IsInside};
 ghost use Rattle.doublewrite.specs.Text.{page_number_of};
+ghost use Rattle.page_places.specs.Texts.{page_bytes};
 
 use crate::Texts;
 use crate::texts::PAGE_BYTES;
@@ -20,10 +21,10 @@ use disk_model::{Disk, DiskError, FileName};
 fn write_home<D: Disk>(disk: &mut D, batch: &Texts, i: usize) -> Result<(), DiskError>
     requires more { i < length batch.now.pages }
     requires distinct { ArePagesDistinct batch.now }
-    requires inside { At (InFile (Space batch.now.space) (page_number_of (text_at batch.now i) * 16384) 16384) (D.past disk.old) }
+    requires inside { At (InFile (Space batch.now.space) (page_number_of (text_at batch.now i) * page_bytes) page_bytes) (D.past disk.old) }
     ensures does { (first : Past) → At (From (HomesWrote batch.now i) first) (D.past disk.old) → Does (From (HomesWriting batch.now) first) (IsHomeEvent batch.now) (From (HomesWrote batch.now (i + 1)) first) (D.past disk.old) (D.past disk.new) result }
-    ensures ok { OnOk result (D.past disk.new ≡ grow (Write (Space batch.now.space) (page_number_of (text_at batch.now i) * 16384) (text_at batch.now i) (text_at batch.now i)) (D.past disk.old)) }
-    ensures err { OnErr result (MayGrow (IsWrite (Space batch.now.space) (page_number_of (text_at batch.now i) * 16384) (text_at batch.now i)) (D.past disk.old) (D.past disk.new)) }
+    ensures ok { OnOk result (D.past disk.new ≡ grow (Write (Space batch.now.space) (page_number_of (text_at batch.now i) * page_bytes) (text_at batch.now i) (text_at batch.now i)) (D.past disk.old)) }
+    ensures err { OnErr result (MayGrow (IsWrite (Space batch.now.space) (page_number_of (text_at batch.now i) * page_bytes) (text_at batch.now i)) (D.past disk.old) (D.past disk.new)) }
     ensures later { D.is_later disk.old disk.new }
     ensures calls { D.clock disk.new ≤ D.clock disk.old + 1 }
     ensures cause { HasDiskCause (D.faults disk.old) (D.faults disk.new) result }
@@ -41,8 +42,8 @@ fn write_homes<D: Disk>(disk: &mut D, batch: &Texts) -> Result<(), DiskError>
     requires distinct { ArePagesDistinct batch.now }
     requires inside { At (λ es. (count : ℕ) × IsInside batch.now count es) (D.past disk.old) }
     ensures does { Does (From (HomesWriting batch.now) (D.past disk.old)) (IsHomeEvent batch.now) (From (HomesWrote batch.now (length batch.now.pages)) (D.past disk.old)) (D.past disk.old) (D.past disk.new) result }
-    ensures exact { OnOk result (D.past disk.new ≡ grows (writes_of (Space batch.now.space) 16384 (home_batch batch.now) (length batch.now.pages)) (D.past disk.old)) }
-    ensures part { OnErr result (IsPart (Space batch.now.space) 16384 (home_batch batch.now) (length batch.now.pages) (D.past disk.old) (D.past disk.new)) }
+    ensures exact { OnOk result (D.past disk.new ≡ grows (writes_of (Space batch.now.space) page_bytes (home_batch batch.now) (length batch.now.pages)) (D.past disk.old)) }
+    ensures part { OnErr result (IsPart (Space batch.now.space) page_bytes (home_batch batch.now) (length batch.now.pages) (D.past disk.old) (D.past disk.new)) }
     ensures later { D.is_later disk.old disk.new }
     ensures calls { D.clock disk.new ≤ D.clock disk.old + length batch.now.pages }
     ensures cause { HasDiskCause (D.faults disk.old) (D.faults disk.new) result }
@@ -78,7 +79,7 @@ fn bring_home<D: Disk>(disk: &mut D, batch: &Texts) -> Result<(), DiskError>
     requires inside { At (λ es. (count : ℕ) × IsInside batch.now count es) (D.past disk.old) }
     ensures does { Does (From (HomesWriting batch.now) (D.past disk.old)) (IsHomeEvent batch.now) (From (HomesSettled batch.now) (D.past disk.old)) (D.past disk.old) (D.past disk.new) result }
     ensures exact { OnOk result (D.past disk.new ≡ grows (home_events batch.now) (D.past disk.old)) }
-    ensures part { OnErr result (IsPart (Space batch.now.space) 16384 (home_batch batch.now) (length batch.now.pages) (D.past disk.old) (D.past disk.new)) }
+    ensures part { OnErr result (IsPart (Space batch.now.space) page_bytes (home_batch batch.now) (length batch.now.pages) (D.past disk.old) (D.past disk.new)) }
     ensures later { D.is_later disk.old disk.new }
     ensures calls { D.clock disk.new ≤ D.clock disk.old + (length batch.now.pages + 1) }
     ensures cause { HasDiskCause (D.faults disk.old) (D.faults disk.new) result }
@@ -106,7 +107,7 @@ pub fn home<D: Disk>(disk: &mut D, batch: &Texts) -> Result<(), DiskError>
     ensures does { Does (From (HomesWriting batch.now) (D.past disk.old)) (IsHomeEvent batch.now) (From (HomesSettled batch.now) (D.past disk.old)) (D.past disk.old) (D.past disk.new) result }
     ensures images { At (AreHomesHonest batch.now.space) (D.past disk.old) → Does (From (HomesMay batch.now) (D.past disk.old)) (IsHomeEvent batch.now) (From (HomesHold batch.now) (D.past disk.old)) (D.past disk.old) (D.past disk.new) result }
     ensures exact { OnOk result (D.past disk.new ≡ grows (home_events batch.now) (D.past disk.old)) }
-    ensures part { OnErr result (IsPart (Space batch.now.space) 16384 (home_batch batch.now) (length batch.now.pages) (D.past disk.old) (D.past disk.new)) }
+    ensures part { OnErr result (IsPart (Space batch.now.space) page_bytes (home_batch batch.now) (length batch.now.pages) (D.past disk.old) (D.past disk.new)) }
     ensures later { D.is_later disk.old disk.new }
     ensures calls { D.clock disk.new ≤ D.clock disk.old + (length batch.now.pages + 1) }
     ensures cause { HasDiskCause (D.faults disk.old) (D.faults disk.new) result }

@@ -7,15 +7,17 @@ ghost use Rattle.disk_model.specs.Past.{HasDiskMemoryCause};
 ghost use Rattle.disk_model.specs.declared.names.DiskError.TheVariants.{NoMemory};
 ghost use Rattle.disk_model.specs.declared.names.FileName.TheVariants.{Double};
 ghost use Rattle.places.specs.Places.{HasPlaces, shown};
-ghost use Rattle.page_places.specs.Texts.{has_magic, is_page_text, is_slot, slot_held, slots};
+ghost use Rattle.page_places.specs.Texts.{has_magic, is_page_text, is_slot, slot_held, slots, slot_size};
 ghost use Rattle.std.specs.Str.{bytes_eq};
 ghost use Rattle.doublewrite.specs.Copies.{as_list, as_copied, copies_to};
+ghost use Rattle.store_image.specs.View.{slot_count};
 
 use crate::slot::{SLOT, SLOT_BYTES, SLOTS};
 use crate::{Copied, Copies, PageText};
 use byte_list::fields::{be32_at, be64_at};
 use bytes_core::{Crc32c, ends_in_crc32c};
 use disk_model::{Disk, DiskError, FileName};
+use page_places::SLOT_HEAD_BYTES;
 use std::alloc::{AllocError, Global};
 
 #[tactic(auto, unfolding(page_places::specs::Texts::has_magic))]
@@ -47,13 +49,13 @@ pub(crate) fn is_page_text(text: &[u8], number: u32) -> bool
 }
 
 pub(crate) fn is_slot(slot: &[u8]) -> bool
-    requires { length slot.now ≡ 16896 }
+    requires { length slot.now ≡ slot_size }
     ensures { result ≡ is_slot slot.now }
 {
     if !has_magic(slot) {
         return false;
     }
-    let (head, rest) = slot.split_at(508);
+    let (head, rest) = slot.split_at(SLOT_HEAD_BYTES);
     let (sum, text) = rest.split_at(4);
     if !has_sum(head, text, sum) {
         return false;
@@ -62,13 +64,13 @@ pub(crate) fn is_slot(slot: &[u8]) -> bool
 }
 
 fn read_copy(alloc: Global, index: usize, slot: &[u8]) -> Result<Option<Copied>, AllocError>
-    requires { length slot.now ≡ 16896 }
+    requires { length slot.now ≡ slot_size }
     ensures { IfOk result (λ copy. copy ≡ as_copied index (slot_held slot.now)) }
 {
     if !is_slot(slot) {
         return Ok(None);
     }
-    let (_head, rest) = slot.split_at(508);
+    let (_head, rest) = slot.split_at(SLOT_HEAD_BYTES);
     let (_sum, text) = rest.split_at(4);
     let page = be32_at(slot, 12);
     let lsn = be64_at(text, 16);
@@ -87,10 +89,10 @@ fn read_copy(alloc: Global, index: usize, slot: &[u8]) -> Result<Option<Copied>,
 }
 
 fn read_slot<D: Disk>(disk: &mut D, i: usize, slot: &mut [u8]) -> Result<(), DiskError>
-    requires within { i < 64 }
-    requires size { length slot.old ≡ 16896 }
+    requires within { i < slot_count }
+    requires size { length slot.old ≡ slot_size }
     requires places { At (HasPlaces Double slots) (D.past disk.old) }
-    ensures bytes { OnOk result (At (λ es. slot.new ≡ shown Double 16896 i es) (D.past disk.old)) }
+    ensures bytes { OnOk result (At (λ es. slot.new ≡ shown Double slot_size i es) (D.past disk.old)) }
     ensures same { D.past disk.new ≡ D.past disk.old }
     ensures later { D.is_later disk.old disk.new }
     ensures calls { D.clock disk.new ≤ D.clock disk.old + 1 }
@@ -108,12 +110,12 @@ fn read_copies<D: Disk>(
     disk: &mut D,
     slot: &mut [u8],
 ) -> Result<Vec<Copied>, DiskError>
-    requires size { length slot.old ≡ 16896 }
+    requires size { length slot.old ≡ slot_size }
     requires places { At (HasPlaces Double slots) (D.past disk.old) }
-    ensures copies { IfOk result (λ copies. At (λ es. copies.items ≡ copies_to 64 es) (D.past disk.old)) }
+    ensures copies { IfOk result (λ copies. At (λ es. copies.items ≡ copies_to slot_count es) (D.past disk.old)) }
     ensures same { D.past disk.new ≡ D.past disk.old }
     ensures later { D.is_later disk.old disk.new }
-    ensures calls { D.clock disk.new ≤ D.clock disk.old + 64 }
+    ensures calls { D.clock disk.new ≤ D.clock disk.old + slot_count }
     ensures cause { HasDiskCause (D.faults disk.old) (D.faults disk.new) result }
     ensures memory { D.memory_refusals disk.old ≤ D.memory_refusals disk.new }
     ensures no_fault { OnOk result (D.faults disk.new ≡ D.faults disk.old) }
@@ -151,10 +153,10 @@ fn keep(copies: &mut Vec<Copied>, copy: Option<Copied>) -> Result<(), AllocError
 /// there was no memory, and then no call met a fault.
 pub fn copies<D: Disk>(alloc: Global, disk: &mut D) -> Result<Copies, DiskError>
     requires places { At (HasPlaces Double slots) (D.past disk.old) }
-    ensures copies { IfOk result (λ copies. At (λ es. copies ≡ copies_to 64 es) (D.past disk.old)) }
+    ensures copies { IfOk result (λ copies. At (λ es. copies ≡ copies_to slot_count es) (D.past disk.old)) }
     ensures same { D.past disk.new ≡ D.past disk.old }
     ensures later { D.is_later disk.old disk.new }
-    ensures calls { D.clock disk.new ≤ D.clock disk.old + 64 }
+    ensures calls { D.clock disk.new ≤ D.clock disk.old + slot_count }
     ensures cause { HasDiskCause (D.faults disk.old) (D.faults disk.new) result }
     ensures memory { D.memory_refusals disk.old ≤ D.memory_refusals disk.new }
     ensures no_fault { OnOk result (D.faults disk.new ≡ D.faults disk.old) }

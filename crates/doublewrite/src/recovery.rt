@@ -7,11 +7,11 @@ ghost use Rattle.disk_model.specs.declared.names.DiskError.TheVariants.{NoMemory
 ghost use Rattle.disk_model.specs.declared.names.FileName.TheVariants.{Double};
 ghost use Rattle.places.specs.Batches.{From};
 ghost use Rattle.places.specs.Places.{HasPlaces};
-ghost use Rattle.page_places.specs.Texts.{slots};
+ghost use Rattle.page_places.specs.Texts.{slots, page_bytes};
 ghost use Rattle.doublewrite.specs.Events.{space_events, spaces_events, restore_events, calls_to, AreFirstEvents};
 ghost use Rattle.doublewrite.specs.Restore.{AreSpacesApart, AreRestored, HaveAll, IsRestoreEvent, HomesRestored, HomesRestoring, SpacesFilling, SpacesRestored, space_at};
 ghost use Rattle.store_image.specs.Places.{log_of};
-ghost use Rattle.store_image.specs.View.{View};
+ghost use Rattle.store_image.specs.View.{View, slot_count};
 ghost use Rattle.page_places.specs.Views.{IsReadAs};
 ghost use Rattle.doublewrite.specs.Chosen.{ChosenHold, ChosenMay};
 ghost use Rattle.doublewrite.specs.Refuse.{IsDiskRefuse};
@@ -35,10 +35,10 @@ fn restore_next<D: Disk>(
 ) -> Result<(), DiskError>
     requires more { i < length spaces.now }
     requires apart { AreSpacesApart spaces.now }
-    requires size { length page.old ≡ 16384 }
+    requires size { length page.old ≡ page_bytes }
     requires places { At (HaveAll spaces.now) (D.past disk.old) }
     ensures does { (first : Past) → At (From (AreRestored copies.now spaces.now i) first) (D.past disk.old) → Does (From (SpacesFilling copies.now spaces.now) first) (IsRestoreEvent spaces.now) (From (AreRestored copies.now spaces.now (i + 1)) first) (D.past disk.old) (D.past disk.new) result }
-    ensures size { length page.new ≡ 16384 }
+    ensures size { length page.new ≡ page_bytes }
     ensures exact { OnOk result (At (λ s. D.past disk.new ≡ Some (space_events copies.now s (space_at spaces.now i) ++ s)) (D.past disk.old)) }
     ensures part { OnErr result (At (λ s. AreFirstEvents (space_events copies.now s (space_at spaces.now i)) s (D.past disk.new)) (D.past disk.old)) }
     ensures later { D.is_later disk.old disk.new }
@@ -59,7 +59,7 @@ fn restore_spaces<D: Disk>(
     page: &mut [u8],
 ) -> Result<(), DiskError>
     requires apart { AreSpacesApart spaces.now }
-    requires size { length page.old ≡ 16384 }
+    requires size { length page.old ≡ page_bytes }
     requires places { At (HaveAll spaces.now) (D.past disk.old) }
     ensures does { Does (From (SpacesFilling copies.now spaces.now) (D.past disk.old)) (IsRestoreEvent spaces.now) (From (SpacesRestored copies.now spaces.now) (D.past disk.old)) (D.past disk.old) (D.past disk.new) result }
     ensures exact { OnOk result (At (λ s. D.past disk.new ≡ Some (spaces_events copies.now s spaces.now (length spaces.now) ++ s)) (D.past disk.old)) }
@@ -91,7 +91,7 @@ fn restore_from_copies<D: Disk>(
     ensures exact { OnOk result (At (λ s. D.past disk.new ≡ Some (restore_events spaces.now s ++ s)) (D.past disk.old)) }
     ensures part { OnErr result (At (λ s. AreFirstEvents (restore_events spaces.now s) s (D.past disk.new)) (D.past disk.old)) }
     ensures later { D.is_later disk.old disk.new }
-    ensures calls { D.clock disk.new ≤ D.clock disk.old + (64 + calls_to spaces.now (length spaces.now)) }
+    ensures calls { D.clock disk.new ≤ D.clock disk.old + (slot_count + calls_to spaces.now (length spaces.now)) }
     ensures cause { HasDiskCause (D.faults disk.old) (D.faults disk.new) result }
     ensures memory { D.memory_refusals disk.old ≤ D.memory_refusals disk.new }
     ensures no_fault { OnOk result (D.faults disk.new ≡ D.faults disk.old) }
@@ -117,7 +117,7 @@ fn restore_or_refuse<D: Disk>(
     ensures exact { OnOk result (At (λ s. D.past disk.new ≡ Some (restore_events spaces.now s ++ s)) (D.past disk.old)) }
     ensures part { OnErr result (At (λ s. AreFirstEvents (restore_events spaces.now s) s (D.past disk.new)) (D.past disk.old)) }
     ensures later { D.is_later disk.old disk.new }
-    ensures calls { D.clock disk.new ≤ D.clock disk.old + (64 + calls_to spaces.now (length spaces.now)) }
+    ensures calls { D.clock disk.new ≤ D.clock disk.old + (slot_count + calls_to spaces.now (length spaces.now)) }
     ensures cause { HasCauseOf DiskFault (D.faults disk.old) (D.faults disk.new) result }
     ensures memory { D.memory_refusals disk.old ≤ D.memory_refusals disk.new }
     ensures no_fault { OnOk result (D.faults disk.new ≡ D.faults disk.old) }
@@ -151,7 +151,7 @@ pub fn restore<D: Disk>(alloc: Global, disk: &mut D, spaces: &[SpaceInfo]) -> Re
     ensures exact { OnOk result (At (λ s. D.past disk.new ≡ Some (restore_events spaces.now s ++ s)) (D.past disk.old)) }
     ensures part { OnErr result (At (λ s. AreFirstEvents (restore_events spaces.now s) s (D.past disk.new)) (D.past disk.old)) }
     ensures later { D.is_later disk.old disk.new }
-    ensures calls { D.clock disk.new ≤ D.clock disk.old + (64 + calls_to spaces.now (length spaces.now)) }
+    ensures calls { D.clock disk.new ≤ D.clock disk.old + (slot_count + calls_to spaces.now (length spaces.now)) }
     ensures cause { HasCauseOf DiskFault (D.faults disk.old) (D.faults disk.new) result }
     ensures memory { D.memory_refusals disk.old ≤ D.memory_refusals disk.new }
     ensures no_fault { OnOk result (D.faults disk.new ≡ D.faults disk.old) }

@@ -10,6 +10,7 @@ ghost use Rattle.places.specs.Batches.{From};
 ghost use Rattle.places.specs.Places.{shown};
 ghost use Rattle.doublewrite.specs.Events.{page_write, page_writes, is_any, space_events, AreFirstEvents};
 ghost use Rattle.doublewrite.specs.Restore.{HasPages, IsSpaceEvent, PagesFilled, PagesFilling, PagesRestored, newer, newest, wanted};
+ghost use Rattle.page_places.specs.Texts.{page_bytes};
 
 use crate::reading::is_page_text;
 use crate::texts::PAGE_BYTES;
@@ -47,9 +48,9 @@ fn read_home<D: Disk>(
     page: &mut [u8],
 ) -> Result<(), DiskError>
     requires within { number < info.now.pages }
-    requires size { length page.old ≡ 16384 }
+    requires size { length page.old ≡ page_bytes }
     requires places { At (HasPages info.now) (D.past disk.old) }
-    ensures bytes { OnOk result (At (λ es. page.new ≡ shown (Space info.now.space) 16384 number es) (D.past disk.old)) }
+    ensures bytes { OnOk result (At (λ es. page.new ≡ shown (Space info.now.space) page_bytes number es) (D.past disk.old)) }
     ensures same { D.past disk.new ≡ D.past disk.old }
     ensures later { D.is_later disk.old disk.new }
     ensures calls { D.clock disk.new ≤ D.clock disk.old + 1 }
@@ -75,11 +76,11 @@ fn restore_page<D: Disk>(
     page: &mut [u8],
 ) -> Result<bool, DiskError>
     requires within { number < info.now.pages }
-    requires size { length page.old ≡ 16384 }
+    requires size { length page.old ≡ page_bytes }
     requires places { At (HasPages info.now) (D.past disk.old) }
     ensures does { (first : Past) → At (From (PagesFilled copies.now info.now number) first) (D.past disk.old) → Does (From (PagesFilling copies.now info.now) first) (IsSpaceEvent info.now) (From (PagesFilled copies.now info.now (number + 1)) first) (D.past disk.old) (D.past disk.new) result }
     ensures same { result ≡ Ok false → D.past disk.new ≡ D.past disk.old }
-    ensures size { length page.new ≡ 16384 }
+    ensures size { length page.new ≡ page_bytes }
     ensures exact { OnOk result (At (λ s. D.past disk.new ≡ Some (page_write info.now.space number (wanted copies.now s info.now.space number) ++ s)) (D.past disk.old)) }
     ensures part { OnErr result (At (λ s. AreFirstEvents (page_write info.now.space number (wanted copies.now s info.now.space number)) s (D.past disk.new)) (D.past disk.old)) }
     ensures told { IfOk result (λ w. At (λ s. w ≡ is_some (wanted copies.now s info.now.space number)) (D.past disk.old)) }
@@ -110,11 +111,11 @@ fn restore_pages<D: Disk>(
     copies: &Copies,
     page: &mut [u8],
 ) -> Result<bool, DiskError>
-    requires size { length page.old ≡ 16384 }
+    requires size { length page.old ≡ page_bytes }
     requires places { At (HasPages info.now) (D.past disk.old) }
     ensures does { Does (From (PagesFilling copies.now info.now) (D.past disk.old)) (IsSpaceEvent info.now) (From (PagesFilled copies.now info.now info.now.pages) (D.past disk.old)) (D.past disk.old) (D.past disk.new) result }
     ensures same { result ≡ Ok false → D.past disk.new ≡ D.past disk.old }
-    ensures size { length page.new ≡ 16384 }
+    ensures size { length page.new ≡ page_bytes }
     ensures exact { OnOk result (At (λ s. D.past disk.new ≡ Some (page_writes copies.now s info.now.space info.now.pages ++ s)) (D.past disk.old)) }
     ensures part { OnErr result (At (λ s. AreFirstEvents (page_writes copies.now s info.now.space info.now.pages) s (D.past disk.new)) (D.past disk.old)) }
     ensures told { IfOk result (λ w. At (λ s. w ≡ is_any (page_writes copies.now s info.now.space info.now.pages)) (D.past disk.old)) }
@@ -158,10 +159,10 @@ pub(crate) fn restore_space<D: Disk>(
     copies: &Copies,
     page: &mut [u8],
 ) -> Result<(), DiskError>
-    requires size { length page.old ≡ 16384 }
+    requires size { length page.old ≡ page_bytes }
     requires places { At (HasPages info.now) (D.past disk.old) }
     ensures does { Does (From (PagesFilling copies.now info.now) (D.past disk.old)) (IsSpaceEvent info.now) (From (PagesRestored copies.now info.now) (D.past disk.old)) (D.past disk.old) (D.past disk.new) result }
-    ensures size { length page.new ≡ 16384 }
+    ensures size { length page.new ≡ page_bytes }
     ensures exact { OnOk result (At (λ s. D.past disk.new ≡ Some (space_events copies.now s info.now ++ s)) (D.past disk.old)) }
     ensures part { OnErr result (At (λ s. AreFirstEvents (space_events copies.now s info.now) s (D.past disk.new)) (D.past disk.old)) }
     ensures later { D.is_later disk.old disk.new }

@@ -2,18 +2,25 @@
 ghost use Rattle.std.specs.Prelude.{◌≡◌, ◌+◌, ◌≤◌, length, take, drop};
 ghost use Rattle.byte_list.specs.Bytes.{put, zeros};
 ghost use Rattle.doublewrite.specs.Text.{page_number_of};
-ghost use Rattle.page_places.specs.Texts.{slot_words, slot_bytes};
+ghost use Rattle.page_places.specs.Texts.{slot_words, slot_bytes, page_bytes, slot_size};
 
 use byte_list::fields::{be32_at, put};
 use bytes_core::Crc32c;
+use page_places::SLOT_HEAD_BYTES;
 
-// A slot of the doublewrite file in bytes: a head of 512 bytes and a page text.
-pub(crate) const SLOT: usize = 16896;
+// A slot of the doublewrite file in bytes: a head, its checksum and a page text.
+pub(crate) const SLOT: usize = page_places::SLOT_BYTES;
 // How many slots the file has.
-pub(crate) const SLOTS: usize = 64;
+pub(crate) const SLOTS: usize = page_places::SLOTS;
 
 // The same for places of slots in the file.
-pub(crate) const SLOT_BYTES: u64 = 16896;
+pub(crate) const SLOT_BYTES: u64 = page_places::SLOT_BYTES as u64;
+
+// The bytes of the head that say something.
+const WORDS: usize = 24;
+
+// Where the page text stands in a slot, behind the checksum of four bytes.
+const TEXT: usize = SLOT_HEAD_BYTES + 4;
 
 #[tactic(auto, unfolding(byte_list::specs::Bytes::zeros))]
 fn clear_part(bytes: &mut [u8], at: usize, n: usize)
@@ -43,17 +50,17 @@ fn words(space: u32, page: u32, batch: u64) -> [u8; 24]
     ]
 }
 
-// Makes of 16896 bytes the slot of a page text.
+// Makes of the bytes of a slot the one of a page text.
 pub(crate) fn fill_slot(slot: &mut [u8], space: u32, batch: u64, text: &[u8])
-    requires size { length slot.old ≡ 16896 }
-    requires text { length text.now ≡ 16384 }
+    requires size { length slot.old ≡ slot_size }
+    requires text { length text.now ≡ page_bytes }
     ensures { slot.new ≡ slot_bytes space (page_number_of text.now) batch text.now }
 {
     put(slot, 0, &words(space, be32_at(text, 4), batch));
-    clear_part(slot, 24, 484);
+    clear_part(slot, WORDS, SLOT_HEAD_BYTES - WORDS);
     let mut sum = Crc32c::new();
-    sum.update(part(slot, 0, 508));
+    sum.update(part(slot, 0, SLOT_HEAD_BYTES));
     sum.update(text);
-    put(slot, 508, &sum.finish().to_be_bytes());
-    put(slot, 512, text);
+    put(slot, SLOT_HEAD_BYTES, &sum.finish().to_be_bytes());
+    put(slot, TEXT, text);
 }

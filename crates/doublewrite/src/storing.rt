@@ -8,10 +8,11 @@ ghost use Rattle.disk_model.specs.declared.names.FileName.TheVariants.{Double};
 ghost use Rattle.places.specs.Batches.{From};
 ghost use Rattle.places.specs.Places.{HasPlaces};
 ghost use Rattle.places.specs.Writes.{writes_of, grows, IsPart};
-ghost use Rattle.page_places.specs.Texts.{slots};
+ghost use Rattle.page_places.specs.Texts.{slots, slot_size};
 ghost use Rattle.doublewrite.specs.Batch.{slot_batch, slot_events};
 ghost use Rattle.doublewrite.specs.Images.{AreSlotsHonest, SlotsHold, SlotsMay};
 ghost use Rattle.doublewrite.specs.Layer.{IsSlotEvent, SlotsSettled, SlotsWriting, SlotsWrote};
+ghost use Rattle.store_image.specs.View.{slot_count};
 
 use crate::Texts;
 use crate::slot::{SLOT, SLOT_BYTES, fill_slot};
@@ -25,13 +26,13 @@ fn write_slot<D: Disk>(
     slot: &mut [u8],
 ) -> Result<(), DiskError>
     requires more { i < length batch.now.pages }
-    requires most { length batch.now.pages ≤ 64 }
-    requires size { length slot.old ≡ 16896 }
+    requires most { length batch.now.pages ≤ slot_count }
+    requires size { length slot.old ≡ slot_size }
     requires places { At (HasPlaces Double slots) (D.past disk.old) }
     ensures does { (first : Past) → At (From (SlotsWrote batch.now i) first) (D.past disk.old) → Does (From (SlotsWriting batch.now) first) (IsSlotEvent batch.now) (From (SlotsWrote batch.now (i + 1)) first) (D.past disk.old) (D.past disk.new) result }
-    ensures size { length slot.new ≡ 16896 }
-    ensures ok { OnOk result (D.past disk.new ≡ grow (Write Double (i * 16896) ((slot_batch batch.now).bytes i) ((slot_batch batch.now).bytes i)) (D.past disk.old)) }
-    ensures err { OnErr result (MayGrow (IsWrite Double (i * 16896) ((slot_batch batch.now).bytes i)) (D.past disk.old) (D.past disk.new)) }
+    ensures size { length slot.new ≡ slot_size }
+    ensures ok { OnOk result (D.past disk.new ≡ grow (Write Double (i * slot_size) ((slot_batch batch.now).bytes i) ((slot_batch batch.now).bytes i)) (D.past disk.old)) }
+    ensures err { OnErr result (MayGrow (IsWrite Double (i * slot_size) ((slot_batch batch.now).bytes i)) (D.past disk.old) (D.past disk.new)) }
     ensures later { D.is_later disk.old disk.new }
     ensures calls { D.clock disk.new ≤ D.clock disk.old + 1 }
     ensures cause { HasDiskCause (D.faults disk.old) (D.faults disk.new) result }
@@ -46,12 +47,12 @@ fn write_slot<D: Disk>(
 }
 
 fn write_slots<D: Disk>(disk: &mut D, batch: &Texts, slot: &mut [u8]) -> Result<(), DiskError>
-    requires most { length batch.now.pages ≤ 64 }
-    requires size { length slot.old ≡ 16896 }
+    requires most { length batch.now.pages ≤ slot_count }
+    requires size { length slot.old ≡ slot_size }
     requires places { At (HasPlaces Double slots) (D.past disk.old) }
     ensures does { Does (From (SlotsWriting batch.now) (D.past disk.old)) (IsSlotEvent batch.now) (From (SlotsWrote batch.now (length batch.now.pages)) (D.past disk.old)) (D.past disk.old) (D.past disk.new) result }
-    ensures exact { OnOk result (D.past disk.new ≡ grows (writes_of Double 16896 (slot_batch batch.now) (length batch.now.pages)) (D.past disk.old)) }
-    ensures part { OnErr result (IsPart Double 16896 (slot_batch batch.now) (length batch.now.pages) (D.past disk.old) (D.past disk.new)) }
+    ensures exact { OnOk result (D.past disk.new ≡ grows (writes_of Double slot_size (slot_batch batch.now) (length batch.now.pages)) (D.past disk.old)) }
+    ensures part { OnErr result (IsPart Double slot_size (slot_batch batch.now) (length batch.now.pages) (D.past disk.old) (D.past disk.new)) }
     ensures later { D.is_later disk.old disk.new }
     ensures calls { D.clock disk.new ≤ D.clock disk.old + length batch.now.pages }
     ensures cause { HasDiskCause (D.faults disk.old) (D.faults disk.new) result }
@@ -84,11 +85,11 @@ fn sync_slots<D: Disk>(disk: &mut D, batch: &Texts) -> Result<(), DiskError>
 
 // Writes the slots, and syncs them.
 fn store_slots<D: Disk>(disk: &mut D, batch: &Texts) -> Result<(), DiskError>
-    requires most { length batch.now.pages ≤ 64 }
+    requires most { length batch.now.pages ≤ slot_count }
     requires places { At (HasPlaces Double slots) (D.past disk.old) }
     ensures does { Does (From (SlotsWriting batch.now) (D.past disk.old)) (IsSlotEvent batch.now) (From (SlotsSettled batch.now) (D.past disk.old)) (D.past disk.old) (D.past disk.new) result }
     ensures exact { OnOk result (D.past disk.new ≡ grows (slot_events batch.now) (D.past disk.old)) }
-    ensures part { OnErr result (IsPart Double 16896 (slot_batch batch.now) (length batch.now.pages) (D.past disk.old) (D.past disk.new)) }
+    ensures part { OnErr result (IsPart Double slot_size (slot_batch batch.now) (length batch.now.pages) (D.past disk.old) (D.past disk.new)) }
     ensures later { D.is_later disk.old disk.new }
     ensures calls { D.clock disk.new ≤ D.clock disk.old + (length batch.now.pages + 1) }
     ensures cause { HasDiskCause (D.faults disk.old) (D.faults disk.new) result }
@@ -111,12 +112,12 @@ fn store_slots<D: Disk>(disk: &mut D, batch: &Texts) -> Result<(), DiskError>
 /// written in order, and of the one behind them an attempt may be there: each slot holds what it
 /// held, its text, or is torn.
 pub fn store<D: Disk>(disk: &mut D, batch: &Texts) -> Result<(), DiskError>
-    requires most { length batch.now.pages ≤ 64 }
+    requires most { length batch.now.pages ≤ slot_count }
     requires places { At (HasPlaces Double slots) (D.past disk.old) }
     ensures does { Does (From (SlotsWriting batch.now) (D.past disk.old)) (IsSlotEvent batch.now) (From (SlotsSettled batch.now) (D.past disk.old)) (D.past disk.old) (D.past disk.new) result }
     ensures images { At AreSlotsHonest (D.past disk.old) → Does (From (SlotsMay batch.now) (D.past disk.old)) (IsSlotEvent batch.now) (From (SlotsHold batch.now) (D.past disk.old)) (D.past disk.old) (D.past disk.new) result }
     ensures exact { OnOk result (D.past disk.new ≡ grows (slot_events batch.now) (D.past disk.old)) }
-    ensures part { OnErr result (IsPart Double 16896 (slot_batch batch.now) (length batch.now.pages) (D.past disk.old) (D.past disk.new)) }
+    ensures part { OnErr result (IsPart Double slot_size (slot_batch batch.now) (length batch.now.pages) (D.past disk.old) (D.past disk.new)) }
     ensures later { D.is_later disk.old disk.new }
     ensures calls { D.clock disk.new ≤ D.clock disk.old + (length batch.now.pages + 1) }
     ensures cause { HasDiskCause (D.faults disk.old) (D.faults disk.new) result }

@@ -4,10 +4,10 @@ use bytes_core::ends_in_crc32c;
 use std::marker::Model;
 
 // A page of a store in bytes.
-pub(crate) const PAGE: usize = 16384;
+pub(crate) const PAGE: usize = page_places::PAGE_BYTES;
 
 // The same for places of pages in a file.
-pub(crate) const PAGE_BYTES: u64 = 16384;
+pub(crate) const PAGE_BYTES: u64 = page_places::PAGE_BYTES as u64;
 
 /// The text of a page: 16384 bytes that end in the CRC-32C of those before them. In contracts it is
 /// the list of its bytes.

@@ -1,17 +1,17 @@
 -- A batch is stored and written home, and the disk crashes.
-use Rattle.std.specs.Prelude.{◌≡◌, ◌⊎◌, ℕ, Bool, false, List, [], ◌∷◌, length}
+use Rattle.std.specs.Prelude.{◌≡◌, ◌⊎◌, ℕ, ◌*◌, Bool, false, List, [], ◌∷◌, length}
 use Rattle.disk_model.specs.Event.{Event, Open, Make}
 use Rattle.disk_model.specs.Image.{Image, IsLucky}
 use Rattle.disk_model.specs.Does.{Since}
 use Rattle.disk_model.specs.declared.names.FileName.{FileName}
 use Rattle.disk_model.specs.declared.names.FileName.TheVariants.{Log, Double, Space}
 use Rattle.places.specs.Places.{Layout}
-use Rattle.page_places.specs.Texts.{slots, pages, text_in}
+use Rattle.page_places.specs.Texts.{slots, pages, text_in, slot_size, page_bytes}
 use Rattle.doublewrite.specs.Text.{page_number_of}
 use Rattle.doublewrite.specs.Batch.{text_at}
 use Rattle.page_places.specs.Views.{places_by, view}
 use Rattle.page_places.specs.Steps.{slots_written, homes_written}
-use Rattle.store_image.specs.View.{Slot}
+use Rattle.store_image.specs.View.{Slot, block_bytes, slot_count}
 use Rattle.store_image.specs.Places.{LogView, Places, IsViewOf, slots_synced}
 use Rattle.doublewrite.specs.Layer.{SlotsWriting, SlotsSettled, HomesWriting, HomesSettled, IsSlotEvent, IsHomeEvent}
 use Rattle.doublewrite.specs.declared.texts.Texts.{Texts}
@@ -39,7 +39,7 @@ IsPutEvent batch e = IsSlotEvent batch e ⊎ IsHomeEvent batch e
 -- ---- a store of one space, 5, of 64 pages, and the crash
 
 abbrev pub layout_of : FileName → Layout
-layout_of Log = record { size = 4096; count = 0; passes = λ bytes. false }
+layout_of Log = record { size = block_bytes; count = 0; passes = λ bytes. false }
 layout_of Double = slots
 layout_of (Space s) = pages 64
 
@@ -48,7 +48,7 @@ put_test f bytes = (layout_of f).passes bytes
 
 -- the files were made, and nothing else was asked of the disk
 abbrev pub AreFilesMade : List Event → Type 0
-AreFilesMade es = es ≡ Make (Space 5) 1048576 ∷ Make Double 1081344 ∷ Open [] [] [] ∷ []
+AreFilesMade es = es ≡ Make (Space 5) (64 * page_bytes) ∷ Make Double (slot_count * slot_size) ∷ Open [] [] [] ∷ []
 
 abbrev pub text_at_slot : Texts → ℕ → Slot
 text_at_slot batch i = record { space = batch.space; page = page_number_of (text_at batch i); text = text_in (text_at batch i) }

@@ -11,11 +11,16 @@ ghost use Rattle.doublewrite.specs.Batch.{text_at};
 ghost use Rattle.doublewrite.specs.Layer.{ArePagesDistinct};
 ghost use Rattle.doublewrite.specs.Text.{ArePageTexts, page_number_of};
 ghost use Rattle.put_drill.specs.Put.{AreFilesMade, ShowsBatch};
+ghost use Rattle.store_image.specs.View.{slot_count};
 
 use crate::put;
 use disk_model::{Choice, Disk, DiskError, FileName, MemDisk};
 use doublewrite::Texts;
+use page_places::{PAGE_BYTES, SLOT_BYTES, SLOTS};
 use std::alloc::Global;
+
+// The pages of space 5.
+const PAGES: usize = 64;
 
 /// A disk, and what a crash leaves of it.
 #[derive(Drop)]
@@ -29,8 +34,8 @@ fn make_files<D: Disk>(disk: &mut D) -> Result<(), DiskError>
     ensures made { OnOk result (At AreFilesMade (D.past disk.new)) }
     ensures later { D.is_later disk.old disk.new }
 {
-    disk.make(FileName::Double, 1081344)?;
-    disk.make(FileName::Space(5), 1048576)
+    disk.make(FileName::Double, (SLOTS * SLOT_BYTES) as u64)?;
+    disk.make(FileName::Space(5), (PAGES * PAGE_BYTES) as u64)
 }
 
 /// Puts a batch of space 5, which has 64 pages, and crashes the disk with these choices. The listed
@@ -42,7 +47,7 @@ pub fn drill(
     choice: &[Choice],
 ) -> Result<PutCrash, DiskError>
     requires some { 0 < length choice.now }
-    requires most { length batch.now.pages ≤ 64 }
+    requires most { length batch.now.pages ≤ slot_count }
     requires distinct { ArePagesDistinct batch.now }
     requires space { batch.now.space ≡ 5 }
     requires numbers { (i : ℕ) → i < length batch.now.pages → page_number_of (text_at batch.now i) < 64 }

@@ -9,6 +9,7 @@ ghost use Rattle.places.specs.Places.{HasPlaces};
 ghost use Rattle.page_places.specs.Texts.{slots};
 ghost use Rattle.doublewrite.specs.Layer.{ArePagesDistinct, IsInside};
 ghost use Rattle.put_drill.specs.Put.{IsPut, IsPutEvent, Putting};
+ghost use Rattle.store_image.specs.View.{slot_count};
 
 use disk_model::{Disk, DiskError};
 use doublewrite::{Texts, home, store};
@@ -19,7 +20,7 @@ use doublewrite::{Texts, home, store};
 /// [`DiskError::Failed`] only where the disk's count of faults rose, [`DiskError::NoMemory`] only
 /// where its count of refused memory rose, and then it met no fault.
 pub fn put<D: Disk>(disk: &mut D, batch: &Texts) -> Result<(), DiskError>
-    requires most { length batch.now.pages ≤ 64 }
+    requires most { length batch.now.pages ≤ slot_count }
     requires distinct { ArePagesDistinct batch.now }
     requires places { At (HasPlaces Double slots) (D.past disk.old) }
     requires inside { At (λ es. (count : ℕ) × IsInside batch.now count es) (D.past disk.old) }

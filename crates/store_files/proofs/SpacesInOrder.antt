@@ -21,7 +21,7 @@ ordered id h hs order =
     record { lower = grind (arith, nat_tests); some = grind (arith, nat_tests); rest = and_right (nat_le 1 h.key_id) _ (and_right (nat_le 2 h.pages) _ b) }
 
 -- a space of a list in order is above the id before the list
-above : (id : ℕ) (hs : List HeldSpace) (s p : ℕ) → are_in_order id hs ≡ true → has_page hs s p ≡ true → id < s
+pub above : (id : ℕ) (hs : List HeldSpace) (s p : ℕ) → are_in_order id hs ≡ true → has_page hs s p ≡ true → id < s
 above id [] s p order is = absurd (true≢false (sym is))
 above id (h ∷ hs) s p order is =
     let o = ordered id h hs order in

@@ -8,6 +8,7 @@ use Rattle.byte_list.specs.Fields.{be64_at}
 use Rattle.byte_list.specs.Bytes.{range, zeros}
 use Rattle.page_places.specs.Texts.{ends_in_sum}
 use Rattle.store_image.specs.Checkpoint.{HeldCheckpoint, side_of}
+use Rattle.store_image.specs.View.{block_bytes}
 
 -- A valid checkpoint in file block i: checksum and magic are right, the block is that of its sequence, and it says numbers that a checkpoint may say.
 unfoldable pub is_checkpoint : ℕ → List ℕ → Bool
@@ -35,5 +36,5 @@ pub record IsWritableCheckpoint (c : HeldCheckpoint) : Type 0 where
 
 -- the newest valid checkpoint of a log's file: that of greatest sequence
 pub record IsNewestCheckpoint (file : List ℕ) (c : HeldCheckpoint) : Type 0 where
-  pub is : checkpoint_in (side_of c.sequence) (place 4096 (side_of c.sequence) file) ≡ Some c
-  pub newest : (i : ℕ) (d : HeldCheckpoint) → checkpoint_in i (place 4096 i file) ≡ Some d → d.sequence ≤ c.sequence
+  pub is : checkpoint_in (side_of c.sequence) (place block_bytes (side_of c.sequence) file) ≡ Some c
+  pub newest : (i : ℕ) (d : HeldCheckpoint) → checkpoint_in i (place block_bytes i file) ≡ Some d → d.sequence ≤ c.sequence

@@ -8,7 +8,7 @@ use Rattle.aes_core.specs.declared.algorithm.Algorithm.TheVariants.{Cbc, Ctr}
 use Rattle.bytes_core.specs.Crc.{crc32c}
 use Rattle.byte_list.specs.Fields.{be32_at}
 use Rattle.byte_list.specs.Bytes.{range, zeros}
-use Rattle.page_places.specs.Texts.{ends_in_sum}
+use Rattle.page_places.specs.Texts.{ends_in_sum, page_bytes}
 
 -- a space, as the header names it: its id, its pages, and the id of its key
 pub record HeldSpace : Type 0 where
@@ -61,7 +61,7 @@ header_fields b = record {
 -- a valid header of format 2: its checksum, magic, format, page size and algorithm are right, and what it says is within the limits
 unfoldable pub is_header : List ℕ → Bool
 is_header b =
-    ends_in_sum b && (bytes_eq (range 0 8 b) (codes "KEYSTOR1") && (nat_eq (be32_at b 8) 2 && (nat_eq (be32_at b 12) 16384
+    ends_in_sum b && (bytes_eq (range 0 8 b) (codes "KEYSTOR1") && (nat_eq (be32_at b 8) 2 && (nat_eq (be32_at b 12) page_bytes
     && ((nat_eq (be32_at b 240) 1 || nat_eq (be32_at b 240) 2) && are_allowed (header_fields b)))))
 
 -- the header in a block of 4096 bytes, where it is valid
@@ -76,7 +76,7 @@ space_words (s ∷ ss) = (to_be_bytes w32 s.space ++ (to_be_bytes w32 s.pages ++
 -- the first 40 bytes of a header
 unfoldable pub header_words : HeldHeader → List ℕ
 header_words h =
-    codes "KEYSTOR1" ++ (to_be_bytes w32 2 ++ (to_be_bytes w32 16384 ++ (to_be_bytes w32 h.blocks ++ (to_be_bytes w32 (length h.spaces) ++ h.salt))))
+    codes "KEYSTOR1" ++ (to_be_bytes w32 2 ++ (to_be_bytes w32 page_bytes ++ (to_be_bytes w32 h.blocks ++ (to_be_bytes w32 (length h.spaces) ++ h.salt))))
 
 -- all bytes of a header before its checksum
 unfoldable pub header_front : HeldHeader → List ℕ

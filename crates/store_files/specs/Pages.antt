@@ -18,6 +18,7 @@ use Rattle.store_model.specs.declared.contents.PlainPage.{PlainPage}
 use Rattle.space_head.specs.declared.space.SpaceInfo.{SpaceInfo}
 use Rattle.store_model.specs.declared.contents.SpaceContents.{SpaceContents}
 use Rattle.store_files.specs.Header.{HeldHeader, HeldSpace}
+use Rattle.page_places.specs.Texts.{page_bytes}
 
 -- what a page holds: page 0 the head of its space, any other page nothing yet, or a plain page
 pub data Page : Type 0 where
@@ -136,7 +137,7 @@ head_of_space info = record {
 
 -- the plain page 0 of a space: type 8, the head, and zero bytes elsewhere
 abbrev pub head_page : SpaceInfo → Plain
-head_page info = record { kind = 8; bytes = body (with_head (head_of_space info) (zeros 16384)) }
+head_page info = record { kind = 8; bytes = body (with_head (head_of_space info) (zeros page_bytes)) }
 
 -- a space whose numbers have their widths
 pub record IsTypedInfo (info : SpaceInfo) : Type 0 where
@@ -158,6 +159,6 @@ module _ (header : HeldHeader) (keys : List RingEntry) (salts : ℕ → List ℕ
 
   -- The text is that of page p of space s, holding this: page 0 in clear, any other page under the key of its version.
   abbrev pub MeansPage : ℕ → ℕ → Text → Page → Type 0
-  MeansPage s p t (Head info) = (p ≡ 0) × (info.space ≡ s) × IsTypedInfo info × IsText 16384 s 0 t.lsn t.version None (head_page info) t.bytes
+  MeansPage s p t (Head info) = (p ≡ 0) × (info.space ≡ s) × IsTypedInfo info × IsText page_bytes s 0 t.lsn t.version None (head_page info) t.bytes
   MeansPage s p t Unused = ⊥
-  MeansPage s p t (Used page) = (p ≢ 0) × IfSome (key_at s t.version) HasKeyBytes × IsText 16384 s p t.lsn t.version (key_at s t.version) (record { kind = page.kind; bytes = page.body }) t.bytes
+  MeansPage s p t (Used page) = (p ≢ 0) × IfSome (key_at s t.version) HasKeyBytes × IsText page_bytes s p t.lsn t.version (key_at s t.version) (record { kind = page.kind; bytes = page.body }) t.bytes

@@ -6,6 +6,7 @@ use Rattle.redo_text.specs.declared.change.Change.{Change}
 use Rattle.redo_text.specs.declared.fault.BlockFault.{BlockFault}
 use Rattle.redo_text.specs.Reading.{reading, block_version, used_of, block_flags, is_first, is_last, clear_body}
 use Rattle.redo_text.specs.Text.{text_of, AreAllowed}
+use Rattle.store_image.specs.View.{block_bytes}
 
 -- a block was read with no fault
 abbrev pub has_no_fault : Result (Unit {0}) BlockFault → Bool
@@ -14,7 +15,7 @@ has_no_fault (Err e) = false
 
 -- A valid ring block of this number: 4096 bytes that end in their checksum, and that are read under the number with no fault.
 unfoldable pub is_ring_block : ℕ → List ℕ → Bool
-is_ring_block number block = ends_in_sum block && (nat_eq (length block) 4096 && has_no_fault (reading number block))
+is_ring_block number block = ends_in_sum block && (nat_eq (length block) block_bytes && has_no_fault (reading number block))
 
 -- the block is the first of its mini-transaction
 abbrev pub begins_mtr : List ℕ → Bool

@@ -4,16 +4,17 @@ use Rattle.key_ring.specs.Ring.{RingEntry}
 use Rattle.key_ring.specs.Local.{local_key}
 use Rattle.places.specs.Places.{place}
 use Rattle.store_image.specs.Places.{LogView}
-use Rattle.store_image.specs.View.{Logged}
+use Rattle.store_image.specs.View.{Logged, block_bytes}
 use Rattle.redo_text.specs.declared.change.Change.{Change}
 use Rattle.redo_text.specs.Reading.{block_version}
 use Rattle.store_files.specs.Checkpoint.{IsNewestCheckpoint}
 use Rattle.store_files.specs.Header.{HeldHeader}
 use Rattle.store_files.specs.RingBlock.{is_ring_block, begins_mtr, ends_mtr, block_text, IsMtrText}
+use Rattle.store_image.specs.Checkpoint.{front_blocks}
 
 -- the block at the place of number n, in a ring of so many blocks
 unfoldable pub block_at : ℕ → List ℕ → ℕ → List ℕ
-block_at blocks file n = place 4096 (3 + n % blocks) file
+block_at blocks file n = place block_bytes (front_blocks + n % blocks) file
 
 module _ (blocks : ℕ) (file : List ℕ) where
   -- The k blocks from n on make one whole mini-transaction: 1 to 16 valid blocks, the first of which alone begins it, and the last of which alone ends it.
@@ -29,17 +30,21 @@ module _ (blocks : ℕ) (file : List ℕ) where
   MakeWholeMtrs n [] end = n ≡ end
   MakeWholeMtrs n (k ∷ ks) end = MakeWholeMtr n k × MakeWholeMtrs (n + k) ks end
 
+  -- no mini-transaction that is whole begins with this block
+  abbrev pub NoWholeMtr : ℕ → Type 0
+  NoWholeMtr n = (k : ℕ) → MakeWholeMtr n k → ⊥
+
   -- The run begins with block `from` of the newest checkpoint and ends before block `end`: no further mini-transaction is whole.
   pub record IsRun (from end : ℕ) : Type 0 where
     pub sequence : ℕ
     pub newest : IsNewestCheckpoint file (record { sequence = sequence; from = from })
     pub sizes : List ℕ
     pub whole : MakeWholeMtrs from sizes end
-    pub longest : (k : ℕ) → MakeWholeMtr end k → ⊥
+    pub longest : NoWholeMtr end
 
   -- no place of the ring has a valid block of number n or more
   abbrev pub IsClear : ℕ → Type 0
-  IsClear n = (i m : ℕ) → i < blocks → n ≤ m → is_ring_block m (place 4096 (3 + i) file) ≡ true → ⊥
+  IsClear n = (i m : ℕ) → i < blocks → n ≤ m → is_ring_block m (place block_bytes (front_blocks + i) file) ≡ true → ⊥
 
 module _ (header : HeldHeader) (keys : List RingEntry) (file : List ℕ) where
   -- the text in the k blocks from n on, each under the local key of id 1 at its version
@@ -54,7 +59,7 @@ module _ (header : HeldHeader) (keys : List RingEntry) (file : List ℕ) where
   AreLogEntries n [] end = n ≡ end
   AreLogEntries n (e ∷ es) end =
       (k : ℕ) × (text : List ℕ) × MakeWholeMtr header.blocks file n k × HasText n k text × IsMtrText text e.mtr
-      × (e.first ≡ n) × (e.lsn ≡ (n + k) * 4096) × AreLogEntries (n + k) es end
+      × (e.first ≡ n) × (e.lsn ≡ (n + k) * block_bytes) × AreLogEntries (n + k) es end
 
   -- what a log's file says: where its run begins and ends, and the mini-transactions in it
   pub record IsLogOf (log : LogView (List Change)) : Type 0 where

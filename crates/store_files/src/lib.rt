@@ -1,6 +1,6 @@
 //! The files of a store as bytes: what each place says, and what is written there.
 //!
-//! Definitions and laws alone:
+//! Definitions and laws, and the sizes of the log's file as constants:
 //!
 //! 1. `header_in`, `checkpoint_in` and `is_ring_block` are what a block of the log's file says, by
 //!    its bytes alone; `held` and `slot_held` of page_places are what a home and a slot hold. What
@@ -17,3 +17,9 @@
 //!    a text is that of one page (`means_one`), and a page has one text at an LSN and a version
 //!    (`means_text`).
 #![tactic(auto)]
+
+/// The bytes of a block of the log's file.
+pub const BLOCK_BYTES: usize = 4096;
+
+/// The blocks of the log's file before its ring: the header's, and two for checkpoints.
+pub const FRONT_BLOCKS: usize = 3;
