@@ -4,38 +4,43 @@ use Rattle.std.specs.Prelude.{codes, ◌↔◌, IsTrue}
 use Rattle.bytes_core.specs.LastByte.{EndsInCrc32c}
 use Rattle.std.specs.Str.{bytes_eq}
 use Rattle.std.proofs.lemmas.Bool.Decides.{nat_tests}
-use Rattle.std.proofs.lemmas.Bool.{and_right as and_none}
 use Rattle.byte_list.specs.Bytes.{range}
 use Rattle.byte_list.specs.Fields.{be32_at}
-use Rattle.page_places.specs.Texts.{ends_in_sum}
+use Rattle.page_places.specs.Texts.{ends_in_sum, page_bytes}
 use Rattle.page_places.proofs.Sums.{and_left, and_right, not_true, ends_in_sum-ends, ends-ends_in_sum}
 use Rattle.store_files.specs.Header.{HeldHeader, HeldSpace, are_allowed, header_fields, are_in_order, header_in, is_header, spaces_at}
-use Rattle.image_log.specs.Headers.{is_front}
 
-five : (a b c d e f : Bool) → (a && (b && (c && (d && (e && f))))) ≡ ((a && (b && (c && (d && e)))) && f)
-five true true true true e f = refl
-five true true true false e f = refl
-five true true false d e f = refl
-five true false c d e f = refl
-five false b c d e f = refl
+-- what is right of a valid header
+pub front_parts : (b : List ℕ) → is_header b ≡ true → (ends_in_sum b ≡ true) × (bytes_eq (range 0 8 b) (codes "KEYSTOR1") ≡ true) × (nat_eq (be32_at b 8) 2 ≡ true) × (nat_eq (be32_at b 12) page_bytes ≡ true)
+    × ((nat_eq (be32_at b 240) 1 || nat_eq (be32_at b 240) 2) ≡ true) × (are_allowed (header_fields b) ≡ true)
+unfolding is_header
+front_parts b is =
+    let s = and_right (ends_in_sum b) _ is in
+    let m = and_right (bytes_eq (range 0 8 b) (codes "KEYSTOR1")) _ s in
+    let f = and_right (nat_eq (be32_at b 8) 2) _ m in
+    let p = and_right (nat_eq (be32_at b 12) page_bytes) _ f in
+    (and_left _ _ is, and_left _ _ s, and_left _ _ m, and_left _ _ f, and_left _ _ p, and_right _ _ p)
 
-pub header_split : (b : List ℕ) → is_header b ≡ (is_front b && are_allowed (header_fields b))
-unfolding is_header is_front
-header_split b = five (ends_in_sum b) (bytes_eq (range 0 8 b) (codes "KEYSTOR1")) (nat_eq (be32_at b 8) 2) (nat_eq (be32_at b 12) 16384) (nat_eq (be32_at b 240) 1 || nat_eq (be32_at b 240) 2) (are_allowed (header_fields b))
+-- where all but the fields is right, they decide
+pub front_right : (b : List ℕ) → ends_in_sum b ≡ true → bytes_eq (range 0 8 b) (codes "KEYSTOR1") ≡ true → nat_eq (be32_at b 8) 2 ≡ true → nat_eq (be32_at b 12) page_bytes ≡ true
+    → (nat_eq (be32_at b 240) 1 || nat_eq (be32_at b 240) 2) ≡ true → is_header b ≡ are_allowed (header_fields b)
+unfolding is_header
+front_right b sum magic format size mode = rw (sum, magic, format, size, mode) refl
 
-none_by : (b : List ℕ) → is_header b ≡ false → header_in b ≡ None
+-- and where one part isn't, there is none
+pub front_wrong : (b : List ℕ) → (is_header b ≡ true → ⊥) → is_header b ≡ false
+front_wrong b isnt = not_true (is_header b) isnt
+
+pub none_by : (b : List ℕ) → is_header b ≡ false → header_in b ≡ None
 unfolding header_in
 none_by b isnt = ap (λ (t : Bool). if t then Some (header_fields b) else None) isnt
 
-pub some_by : (b : List ℕ) → is_front b ≡ true → are_allowed (header_fields b) ≡ true → header_in b ≡ Some (header_fields b)
+pub some_by : (b : List ℕ) → is_header b ≡ are_allowed (header_fields b) → are_allowed (header_fields b) ≡ true → header_in b ≡ Some (header_fields b)
 unfolding header_in
-some_by b front allowed = ap (λ (t : Bool). if t then Some (header_fields b) else None) (header_split b ∙ ap (λ (t : Bool). t && are_allowed (header_fields b)) front ∙ allowed)
-
-pub no_front : (b : List ℕ) → is_front b ≡ false → header_in b ≡ None
-no_front b isnt = none_by b (header_split b ∙ ap (λ (t : Bool). t && are_allowed (header_fields b)) isnt)
+some_by b front allowed = ap (λ (t : Bool). if t then Some (header_fields b) else None) (front ∙ allowed)
 
 pub not_allowed : (b : List ℕ) → are_allowed (header_fields b) ≡ false → header_in b ≡ None
-not_allowed b isnt = none_by b (header_split b ∙ and_none (is_front b) (are_allowed (header_fields b)) isnt)
+not_allowed b isnt = none_by b (front_wrong b (λ is. let p = front_parts b is in true≢false (sym p.5 ∙ isnt)))
 
 pub length-spaces : (b : List ℕ) (at n : ℕ) → length (spaces_at b at n) ≡ n
 unfolding spaces_at

@@ -1,3 +1,2 @@
-pub mod Headers
 pub mod Late
 pub mod Logs

@@ -3,7 +3,7 @@ use Rattle.std.specs.Prelude.{◌≡◌, ◌≢◌, ℕ, ◌+◌, ◌*◌, ◌<�
 use Rattle.key_ring.specs.Ring.{RingEntry}
 use Rattle.key_ring.specs.Local.{local_key}
 use Rattle.store_image.specs.Checkpoint.{HeldCheckpoint}
-use Rattle.store_image.specs.View.{Logged}
+use Rattle.store_image.specs.View.{Logged, block_bytes}
 use Rattle.redo_text.specs.declared.change.Change.{Change}
 use Rattle.redo_text.specs.Changes.{BeginsWithNone}
 use Rattle.redo_text.specs.Reading.{block_version}
@@ -19,10 +19,6 @@ use Rattle.image_log.specs.declared.fault.LogTextFault.TheVariants.{NoCheckpoint
 
 abbrev pub checkpoint_of : RunStart → HeldCheckpoint
 checkpoint_of c = record { sequence = c.sequence; from = c.from }
-
--- no whole mini-transaction goes on from here
-pub record IsLongest (blocks : ℕ) (file : List ℕ) (end : ℕ) : Type 0 where
-  pub ends : (k : ℕ) → MakeWholeMtr blocks file end k → ⊥
 
 -- Changes are read up to this byte, and there, before the text's end, none begins.
 pub record HasNoChangeAt (text : List ℕ) (at : ℕ) : Type 0 where
@@ -60,7 +56,7 @@ module _ (header : HeldHeader) (keys : List RingEntry) (file : List ℕ) where
   pub record IsEntryIn (number count : ℕ) (e : Logged (List Change)) : Type 0 where
     pub has : HasChanges number count e.mtr
     pub first : e.first ≡ number
-    pub lsn : e.lsn ≡ (number + count) * 4096
+    pub lsn : e.lsn ≡ (number + count) * block_bytes
 
   -- of so many blocks the first whose key is missing, which names this version
   pub record LacksKey (first count number version : ℕ) : Type 0 where

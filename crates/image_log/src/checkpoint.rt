@@ -2,13 +2,15 @@
 ghost use Rattle.std.specs.Prelude.{◌≡◌, ◌≤◌, ◌+◌, ◌*◌, length, codes, option_map, IfSome, IfNone};
 ghost use Rattle.std.specs.Str.{bytes_eq};
 ghost use Rattle.byte_list.specs.Bytes.{range};
-ghost use Rattle.store_image.specs.Checkpoint.{HeldCheckpoint};
+ghost use Rattle.store_image.specs.Checkpoint.{HeldCheckpoint, front_blocks};
 ghost use Rattle.store_files.specs.Checkpoint.{checkpoint_in, is_checkpoint, IsNewestCheckpoint};
 ghost use Rattle.image_log.specs.Logs.{checkpoint_of};
+ghost use Rattle.store_image.specs.View.{block_bytes};
 
 use crate::blocks::place;
 use crate::header::ends_in_sum;
 use byte_list::fields::be64_at;
+use store_files::BLOCK_BYTES;
 
 /// What a checkpoint says: how many were written up to it, and the number of the block that the run
 /// begins with.
@@ -19,7 +21,7 @@ pub struct RunStart {
 }
 
 fn has_magic(block: &[u8]) -> bool
-    requires { length block.now ≡ 4096 }
+    requires { length block.now ≡ block_bytes }
     ensures { result ≡ bytes_eq (range 0 8 block.now) (codes "KEYCHK01") }
 {
     let wanted: &[u8] = b"KEYCHK01";
@@ -29,7 +31,7 @@ fn has_magic(block: &[u8]) -> bool
 // Whether the block is a valid checkpoint in this block of the file.
 #[tactic(auto, unfolding(store_files::specs::Checkpoint::is_checkpoint))]
 fn is_checkpoint(side: u64, block: &[u8]) -> bool
-    requires { length block.now ≡ 4096 }
+    requires { length block.now ≡ block_bytes }
     ensures { result ≡ is_checkpoint side block.now }
 {
     if !ends_in_sum(block) || !has_magic(block) {
@@ -43,7 +45,7 @@ fn is_checkpoint(side: u64, block: &[u8]) -> bool
 // The checkpoint in this block of the file, where it is valid.
 #[tactic(auto, unfolding(store_files::specs::Checkpoint::checkpoint_in))]
 fn checkpoint_in(side: u64, block: &[u8]) -> Option<RunStart>
-    requires { length block.now ≡ 4096 }
+    requires { length block.now ≡ block_bytes }
     ensures { option_map checkpoint_of result ≡ checkpoint_in side block.now }
 {
     if !is_checkpoint(side, block) {
@@ -57,12 +59,12 @@ fn checkpoint_in(side: u64, block: &[u8]) -> Option<RunStart>
 
 /// The newest valid checkpoint of a log's file: that of greatest sequence.
 pub fn newest_checkpoint(log: &[u8]) -> Option<RunStart>
-    requires { 3 * 4096 ≤ length log.now }
+    requires { front_blocks * block_bytes ≤ length log.now }
     ensures some { IfSome result (λ c. IsNewestCheckpoint log.now (checkpoint_of c)) }
     ensures none { IfNone result ((c : HeldCheckpoint) → IsNewestCheckpoint log.now c → ⊥) }
 {
-    let first = checkpoint_in(1, place(log, 4096, 1));
-    let second = checkpoint_in(2, place(log, 4096, 2));
+    let first = checkpoint_in(1, place(log, BLOCK_BYTES, 1));
+    let second = checkpoint_in(2, place(log, BLOCK_BYTES, 2));
     match (first, second) {
         (Some(even), Some(odd)) => Some(if even.sequence < odd.sequence {
             odd

@@ -5,14 +5,24 @@ ghost use Rattle.byte_list.specs.Bytes.{range};
 ghost use Rattle.byte_list.specs.Fields.{be32_at};
 ghost use Rattle.page_places.specs.Texts.{ends_in_sum};
 ghost use Rattle.store_files.specs.Header.{are_allowed, are_in_order, header_fields, header_in, is_header, pages_together, spaces_at};
-ghost use Rattle.image_log.specs.Headers.{is_front};
+ghost use Rattle.store_image.specs.View.{block_bytes};
 
 use aes_core::Algorithm;
 use byte_list::fields::be32_at;
 use bytes_core::ends_in_crc32c;
 use cause_core::OutOfMemory;
+use page_places::PAGE_BYTES;
 use std::alloc::Global;
 use std::marker::Model;
+
+// The format of headers that are read.
+const FORMAT: u32 = 2;
+
+// The most pages of all spaces together.
+const MOST_PAGES: u64 = 16384;
+
+// The greatest id of a space.
+const LAST_SPACE: u32 = 4_294_967_279;
 
 /// A space, as a store's header names it. In contracts it is a `HeldSpace`.
 #[derive(Debug, Drop)]
@@ -101,7 +111,7 @@ impl StoreHeader {
 }
 
 fn has_magic(block: &[u8]) -> bool
-    requires { length block.now ≡ 4096 }
+    requires { length block.now ≡ block_bytes }
     ensures { result ≡ bytes_eq (range 0 8 block.now) (codes "KEYSTOR1") }
 {
     let wanted: &[u8] = b"KEYSTOR1";
@@ -115,18 +125,26 @@ pub(crate) fn ends_in_sum(block: &[u8]) -> bool
     ends_in_crc32c(block)
 }
 
-// Whether all is right but what the fields say of spaces and blocks.
-#[tactic(auto, unfolding(crate::specs::Headers::is_front))]
-fn is_front(block: &[u8]) -> bool
-    requires { length block.now ≡ 4096 }
-    ensures { result ≡ is_front block.now }
+// Whether a store may have the algorithm of this number.
+fn is_algorithm(code: u32) -> bool
+    ensures { result ≡ (nat_eq code 1 || nat_eq code 2) }
 {
-    let algorithm = be32_at(block, 240);
-    ends_in_sum(block)
-        && has_magic(block)
-        && be32_at(block, 8) == 2
-        && be32_at(block, 12) == 16384
-        && (algorithm == 1 || algorithm == 2)
+    code == 1 || code == 2
+}
+
+// Whether all that is right of a valid header is right but what its fields say.
+fn is_front(block: &[u8]) -> bool
+    requires { length block.now ≡ block_bytes }
+    ensures yes { result ≡ true → is_header block.now ≡ are_allowed (header_fields block.now) }
+    ensures no { result ≡ false → is_header block.now ≡ false }
+{
+    if !ends_in_sum(block) || !has_magic(block) {
+        return false;
+    }
+    if be32_at(block, 8) != FORMAT || be32_at(block, 12) != PAGE_BYTES as u32 {
+        return false;
+    }
+    is_algorithm(be32_at(block, 240))
 }
 
 // A space's 12 bytes from a place on.
@@ -142,7 +160,7 @@ fn space_at(block: &[u8], at: usize) -> StoreSpace
 }
 
 fn spaces_in(alloc: Global, block: &[u8], count: usize) -> Result<Vec<StoreSpace>, OutOfMemory>
-    requires size { length block.now ≡ 4096 }
+    requires size { length block.now ≡ block_bytes }
     requires few { count ≤ 16 }
     ensures { IfOk result (λ spaces. spaces.items ≡ spaces_at block.now 40 count) }
 {
@@ -154,7 +172,7 @@ fn spaces_in(alloc: Global, block: &[u8], count: usize) -> Result<Vec<StoreSpace
 }
 
 fn salt_in(block: &[u8]) -> [u8; 16]
-    requires { length block.now ≡ 4096 }
+    requires { length block.now ≡ block_bytes }
     ensures { result ≡ range 24 16 block.now }
 {
     let mut salt = [0; 16];
@@ -164,7 +182,7 @@ fn salt_in(block: &[u8]) -> [u8; 16]
 
 #[tactic(auto, unfolding(store_files::specs::Header::header_fields))]
 fn algorithm_in(block: &[u8]) -> Algorithm
-    requires { length block.now ≡ 4096 }
+    requires { length block.now ≡ block_bytes }
     ensures { result ≡ (header_fields block.now).algorithm }
 {
     if be32_at(block, 240) == 1 {
@@ -177,7 +195,7 @@ fn algorithm_in(block: &[u8]) -> Algorithm
 // What the fields of a header say.
 #[tactic(auto, unfolding(store_files::specs::Header::header_fields))]
 fn header_fields(alloc: Global, block: &[u8]) -> Result<StoreHeader, OutOfMemory>
-    requires size { length block.now ≡ 4096 }
+    requires size { length block.now ≡ block_bytes }
     requires few { be32_at block.now 20 ≤ 16 }
     ensures { IfOk result (λ header. header ≡ header_fields block.now) }
 {
@@ -194,7 +212,7 @@ fn header_fields(alloc: Global, block: &[u8]) -> Result<StoreHeader, OutOfMemory
 fn may_follow(id: u32, space: &StoreSpace) -> bool
     ensures { result ≡ (nat_lt id space.now.space && (nat_le space.now.space 4294967279 && (nat_le 2 space.now.pages && nat_le 1 space.now.key_id))) }
 {
-    id < space.space && space.space <= 4_294_967_279 && 2 <= space.pages && 1 <= space.key_id
+    id < space.space && space.space <= LAST_SPACE && 2 <= space.pages && 1 <= space.key_id
 }
 
 fn are_in_order(spaces: &[StoreSpace]) -> bool
@@ -232,7 +250,7 @@ fn are_allowed(header: &StoreHeader) -> bool
         && 1 <= spaces.len()
         && spaces.len() <= 16
         && are_in_order(spaces)
-        && pages_together(spaces) <= 16384
+        && pages_together(spaces) <= MOST_PAGES
 }
 
 /// The header in the 4096 bytes of block 0, or none where it isn't valid.
@@ -240,7 +258,7 @@ fn are_allowed(header: &StoreHeader) -> bool
 /// # Errors
 /// Where the machine has no memory for its spaces.
 pub fn read_header(alloc: Global, block: &[u8]) -> Result<Option<StoreHeader>, OutOfMemory>
-    requires { length block.now ≡ 4096 }
+    requires { length block.now ≡ block_bytes }
     ensures { IfOk result (λ header. header ≡ header_in block.now) }
 {
     if !is_front(block) {

@@ -4,7 +4,9 @@ ghost use Rattle.redo_text.specs.declared.change.Change.{Change};
 ghost use Rattle.store_image.specs.Places.{LogView};
 ghost use Rattle.store_files.specs.Run.{AreLogEntries, IsLogOf, MakeWholeMtr, MakeWholeMtrs};
 ghost use Rattle.image_log.specs.declared.fault.LogTextFault.TheVariants.{OutOfMemory as NoMemory};
-ghost use Rattle.image_log.specs.Logs.{IsEntryIn, IsEntryFault, IsLogTextFault, IsLongest, IsMtrFault};
+ghost use Rattle.image_log.specs.Logs.{IsEntryIn, IsEntryFault, IsLogTextFault, IsMtrFault};
+ghost use Rattle.store_image.specs.View.{block_bytes};
+ghost use Rattle.store_image.specs.Checkpoint.{front_blocks};
 
 use crate::changes::changes_of;
 use crate::checkpoint::newest_checkpoint;
@@ -16,6 +18,7 @@ use key_ring::Ring;
 use redo_text::Mtr;
 use std::alloc::Global;
 use std::marker::Model;
+use store_files::BLOCK_BYTES;
 
 /// A mini-transaction in the log: the number of its first block, its LSN and its changes. In
 /// contracts it is a `Logged`.
@@ -115,9 +118,10 @@ fn entry_of(
     number: u64,
     count: u64,
 ) -> Result<LogEntry, LogTextFault>
-    requires long { length log.now ≡ (3 + header.now.blocks) * 4096 }
+    requires long { length log.now ≡ (front_blocks + header.now.blocks) * block_bytes }
     requires some { 0 < header.now.blocks }
     requires small { number + count ≤ 2 ^ 51 }
+    requires whole { MakeWholeMtr header.now.blocks log.now number count }
     ensures ok { IfOk result (λ entry. IsEntryIn header.now keys.now log.now number count entry) }
     ensures fault { IfErr result (IsMtrFault header.now keys.now log.now number count) }
 {
@@ -125,7 +129,7 @@ fn entry_of(
     match changes_of(alloc, text.bytes())? {
         Ok(mtr) => Ok(LogEntry {
             first: number,
-            lsn: (number + count) * 4096,
+            lsn: (number + count) * BLOCK_BYTES as u64,
             mtr,
         }),
         Err(bad) => Err(LogTextFault::NoChanges {
@@ -144,7 +148,7 @@ fn entries_of(
     from: u64,
     run: &RunSizes,
 ) -> Result<Vec<LogEntry>, LogTextFault>
-    requires long { length log.now ≡ (3 + header.now.blocks) * 4096 }
+    requires long { length log.now ≡ (front_blocks + header.now.blocks) * block_bytes }
     requires some { 0 < header.now.blocks }
     requires run { MakeWholeMtrs header.now.blocks log.now from run.now.sizes.items run.now.end }
     requires small { run.now.end ≤ 2 ^ 51 }
@@ -172,7 +176,7 @@ pub fn read_log(
     keys: &Ring,
     log: &[u8],
 ) -> Result<LogText, LogTextFault>
-    requires long { length log.now ≡ (3 + header.now.blocks) * 4096 }
+    requires long { length log.now ≡ (front_blocks + header.now.blocks) * block_bytes }
     requires least { 32 ≤ header.now.blocks }
     requires most { header.now.blocks ≤ 4096 }
     ensures ok { IfOk result (λ text. IsLogOf header.now keys.now log.now text) }

@@ -1,30 +1,31 @@
 // The run: whole mini-transactions from the newest checkpoint on.
 ghost use Rattle.std.specs.Prelude.{◌≡◌, ℕ, ◌≤◌, ◌<◌, ◌+◌, ◌*◌, ◌^◌, length, IfOk, IfSome, IfNone};
-ghost use Rattle.store_files.specs.Run.{MakeWholeMtr, MakeWholeMtrs};
-ghost use Rattle.image_log.specs.Logs.{IsLongest};
+ghost use Rattle.store_files.specs.Run.{MakeWholeMtr, MakeWholeMtrs, NoWholeMtr};
+ghost use Rattle.store_image.specs.View.{block_bytes};
+ghost use Rattle.store_image.specs.Checkpoint.{front_blocks};
 
-use crate::blocks::{begins_mtr, block_at, ends_mtr, is_ring_block};
+use crate::blocks::{block_at, valid_block};
 use cause_core::OutOfMemory;
 use std::alloc::Global;
+
+// The most blocks of a mini-transaction.
+const MOST_BLOCKS: u64 = 16;
 
 // How many blocks the whole mini-transaction has that begins with the block of this number, where
 // there is one.
 fn whole_mtr(log: &[u8], blocks: u32, number: u64) -> Option<u64>
-    requires long { length log.now ≡ (3 + blocks) * 4096 }
+    requires long { length log.now ≡ (front_blocks + blocks) * block_bytes }
     requires some { 0 < blocks }
     requires small { number + 16 < 2 ^ 64 }
     ensures some { IfSome result (λ k. MakeWholeMtr blocks log.now number k) }
-    ensures none { IfNone result ((k : ℕ) → MakeWholeMtr blocks log.now number k → ⊥) }
+    ensures none { IfNone result (NoWholeMtr blocks log.now number) }
 {
-    for i in 0..16 {
-        let block = block_at(log, blocks, number + i);
-        if !is_ring_block(number + i, block) {
+    for i in 0..MOST_BLOCKS {
+        let block = valid_block(number + i, block_at(log, blocks, number + i))?;
+        if block.first() != (i == 0) {
             return None;
         }
-        if begins_mtr(block) != (i == 0) {
-            return None;
-        }
-        if ends_mtr(block) {
+        if block.last() {
             return Some(i + 1);
         }
     }
@@ -45,12 +46,12 @@ pub(crate) fn run_from(
     blocks: u32,
     from: u64,
 ) -> Result<RunSizes, OutOfMemory>
-    requires long { length log.now ≡ (3 + blocks) * 4096 }
+    requires long { length log.now ≡ (front_blocks + blocks) * block_bytes }
     requires some { 0 < blocks }
     requires most { blocks ≤ 4096 }
     requires small { from ≤ 2 ^ 50 }
     ensures run { IfOk result (λ run. MakeWholeMtrs blocks log.now from run.sizes.items run.end) }
-    ensures longest { IfOk result (λ run. IsLongest blocks log.now run.end) }
+    ensures longest { IfOk result (λ run. NoWholeMtr blocks log.now run.end) }
     ensures least { IfOk result (λ run. from ≤ run.end) }
     ensures small { IfOk result (λ run. run.end ≤ 2 ^ 51) }
 {

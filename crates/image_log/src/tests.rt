@@ -174,6 +174,49 @@ fn a_run_ends_before_part_of_a_mini_transaction(rt: HostRuntime) -> Result<(), F
     Ok(())
 }
 
+// The touch of page 1 of space 1.
+const TOUCH: [u8; 9] = [3, 0, 0, 0, 1, 0, 0, 0, 1];
+
+// The 4076 bytes from this one on of a text of touches.
+fn touches(from: usize) -> [u8; 4076] {
+    let mut text = [0; 4076];
+    for (i, byte) in text.iter_mut().enumerate() {
+        *byte = TOUCH[from.wrapping_add(i) % 9];
+    }
+    text
+}
+
+// Writes a mini-transaction of touches into so many blocks from block 2 on, of which the last has so
+// many bytes of the text.
+fn write_touches(rt: &impl Abort, log: &mut [u8], algorithm: Algorithm, blocks: u64, rest: usize) {
+    for k in 0..blocks {
+        let begins = u16::from(k == 0);
+        let ends = k.saturating_add(1) == blocks;
+        let text = touches((k as usize).wrapping_mul(4076));
+        let (rest, _zeros) = text.split_at(rest.min(4076));
+        let number = k.saturating_add(2);
+        if ends {
+            write_block(rt, log, algorithm, number, begins + 2, rest);
+        } else {
+            write_block(rt, log, algorithm, number, begins, &text);
+        }
+    }
+}
+
+#[test]
+fn a_mini_transaction_of_seventeen_blocks_is_none(rt: HostRuntime) -> Result<(), Fail> {
+    // The bytes in the last block make whole touches of the text.
+    let rows = [(16, 6, (18, 1)), (17, 7, (2, 0))];
+    for algorithm in MODES {
+        for (blocks, rest, wanted) in rows {
+            let mut log = one_put(&rt, rt.alloc(), algorithm)?;
+            write_touches(&rt, &mut log, algorithm, blocks, rest);
+            assert!(rt; said(&rt, rt.alloc(), &log)? == Ok(wanted));
+        }
+    }
+    Ok(())
+}
+
 #[test]
 fn a_torn_checkpoint_is_passed_over(rt: HostRuntime) -> Result<(), Fail> {
     for algorithm in MODES {

@@ -3,19 +3,20 @@ ghost use Rattle.std.specs.Prelude.{◌≡◌, ℕ, List, ◌≤◌, ◌<◌, �
 ghost use Rattle.aes_core.specs.Algorithm.{deciphered};
 ghost use Rattle.key_ring.specs.Local.{local_key};
 ghost use Rattle.redo_text.specs.Block.{log_iv};
-ghost use Rattle.redo_text.specs.Reading.{block_version};
+ghost use Rattle.redo_text.specs.Reading.{block_version, number_of};
 ghost use Rattle.store_files.specs.RingBlock.{block_text};
-ghost use Rattle.store_files.specs.Run.{HasText, block_at};
+ghost use Rattle.store_files.specs.Run.{HasText, MakeWholeMtr, block_at};
 ghost use Rattle.image_log.specs.Logs.{IsBlockText, IsKeyFault};
+ghost use Rattle.store_image.specs.View.{block_bytes};
+ghost use Rattle.store_image.specs.Checkpoint.{front_blocks};
 
-use crate::blocks::block_at;
+use crate::blocks::{block_at, valid_block};
 use crate::fault::LogTextFault;
 use crate::header::StoreHeader;
 use aes_core::{Algorithm, BlockKey};
-use byte_list::fields::{be16_at, be32_at, be64_at};
 use cause_core::OutOfMemory;
 use key_ring::Ring;
-use redo_text::Piece;
+use redo_text::{BlockView, Piece};
 use std::alloc::Global;
 
 // The IV of a block, or its first counter.
@@ -40,26 +41,28 @@ fn decipher(body: &mut [u8], algorithm: Algorithm, local: &[u8; 16], number: u64
     }
 }
 
-// The text in a block, where the key of its version is there.
+// The text in the block of this number, where the key of its version is there.
 fn block_text(
     alloc: Global,
     header: &StoreHeader,
     keys: &Ring,
-    block: &[u8],
+    number: u64,
+    block: &BlockView,
 ) -> Result<Option<Piece>, OutOfMemory>
-    requires { length block.now ≡ 4096 }
+    requires { number_of block.now ≡ number }
     ensures { IfOk result (IsBlockText header.now keys.now block.now) }
 {
-    let Some(local) = keys.local(1, be32_at(block, 8), header.salt()) else {
+    let Some(local) = keys.local(1, block.version(), header.salt()) else {
         return Ok(None);
     };
-    let mut body = block[16..4092].to_vec(alloc)?;
-    decipher(&mut body, header.algorithm(), &local, be64_at(block, 0));
-    body.truncate(be16_at(block, 12) as usize);
+    let mut body = block.body().to_vec(alloc)?;
+    decipher(&mut body, header.algorithm(), &local, number);
+    body.truncate(usize::from(block.used()));
     Ok(Some(Piece::of(body)))
 }
 
-// The text in so many blocks from this number on; a fault is the first of them whose key is missing.
+// The text in the blocks of a whole mini-transaction, so many from this number on; a fault is the
+// first of them whose key is missing.
 pub(crate) fn text_of(
     alloc: Global,
     header: &StoreHeader,
@@ -68,19 +71,23 @@ pub(crate) fn text_of(
     number: u64,
     count: u64,
 ) -> Result<Piece, LogTextFault>
-    requires long { length log.now ≡ (3 + header.now.blocks) * 4096 }
+    requires long { length log.now ≡ (front_blocks + header.now.blocks) * block_bytes }
     requires some { 0 < header.now.blocks }
     requires small { number + count < 2 ^ 64 }
+    requires whole { MakeWholeMtr header.now.blocks log.now number count }
     ensures ok { IfOk result (λ text. HasText header.now keys.now log.now number count text) }
     ensures fault { IfErr result (IsKeyFault header.now keys.now log.now number count) }
 {
     let mut text = Vec::new(alloc);
     for i in 0..count {
-        let block = block_at(log, header.blocks(), number + i);
-        let Some(part) = block_text(alloc, header, keys, block)? else {
+        let bytes = block_at(log, header.blocks(), number + i);
+        let Some(block) = valid_block(number + i, bytes) else {
+            unreachable!()
+        };
+        let Some(part) = block_text(alloc, header, keys, number + i, &block)? else {
             return Err(LogTextFault::NoKey {
                 number: number + i,
-                version: be32_at(block, 8),
+                version: block.version(),
             });
         };
         text.extend_from_slice(part.bytes())?;

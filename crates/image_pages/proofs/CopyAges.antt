@@ -6,7 +6,7 @@ use Rattle.page_places.specs.Texts.{held, is_page_text, slot_page, text_in}
 use Rattle.page_places.proofs.Texts.{held-text, held_is, lsn_in}
 use Rattle.store_image.specs.Groups.{copy_of}
 use Rattle.store_image.specs.View.{Text, Holds, IsLive}
-use Rattle.image_pages.specs.Choosing.{slot_in, page_view, Best}
+use Rattle.image_pages.specs.Choosing.{slot_in, page_view, Best, no_log}
 use Rattle.image_pages.specs.Recovering.{IsNewestLsn}
 use Rattle.image_pages.specs.declared.copies.Newest.{Newest}
 use Rattle.image_pages.proofs.CopyParts.{copy_text}
@@ -33,10 +33,10 @@ module _ (home double : List ℕ) (s p lsn : ℕ) where
   pub no_copies : is_page_text p home ≡ false → Best double s p 64 None → IsNewestLsn home double s p lsn
   no_copies none best = (λ u e. absurd (no_home none u e), λ no j u lt here. absurd (best j u lt here))
 
-  pub live_copy : (i : ℕ) (t : Text) → i < 64 → slot_in double i ≡ copy_of s p t → t.lsn ≡ lsn → IsNewestLsn home double s p lsn → IsLive (page_view home double) s p i (text_in (slot_page (place 16896 i double)))
+  pub live_copy : (i : ℕ) (t : Text) → i < 64 → slot_in double i ≡ copy_of s p t → t.lsn ≡ lsn → IsNewestLsn home double s p lsn → IsLive (page_view no_log home double) s p i (text_in (slot_page (place 16896 i double)))
   live_copy i t lt is at newest =
       let e : t ≡ text_in (slot_page (place 16896 i double)) = copy_text (place 16896 i double) s p t is in
-      subst (λ (u : Text). IsLive (page_view home double) s p i u) e (record {
+      subst (λ (u : Text). IsLive (page_view no_log home double) s p i u) e (record {
         copy = record { within = lt; is = is };
         above = λ u holds. let below = newest.0 u holds in omega (arith, below, at);
         newest = λ none j u c. let most = newest.1 none j u c.within c.is in omega (arith, most, at);

@@ -1,4 +1,3 @@
 pub mod Choosing
 pub mod Meaning
-pub mod Acting
 pub mod Recovering

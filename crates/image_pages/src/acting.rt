@@ -3,7 +3,7 @@ ghost use Rattle.std.specs.Prelude.{◌≡◌, ◌≤◌, ◌<◌, true, false, 
 ghost use Rattle.redo_text.specs.declared.change.Change.{Change};
 ghost use Rattle.store_model.specs.Fold.{used, written};
 ghost use Rattle.store_files.specs.Pages.{Head, Used, change_names, mtr_acts, mtr_names, page_after, page_held};
-ghost use Rattle.image_pages.specs.Acting.{IsNamedAt, later_page};
+ghost use Rattle.store_image.specs.Recovers.{later_by, IsNamedBy};
 
 use byte_list::{copy_with, zero_bytes};
 use cause_core::OutOfMemory;
@@ -40,8 +40,8 @@ fn mtr_names(mtr: &Mtr, space: u32, number: u32) -> bool
 
 // Whether the mini-transaction of this LSN is in the run, and names the page.
 pub(crate) fn is_named(run: &[LogEntry], space: u32, number: u32, lsn: u64) -> bool
-    ensures yes { result ≡ true → IsNamedAt run.now space number lsn }
-    ensures no { result ≡ false → IsNamedAt run.now space number lsn → ⊥ }
+    ensures yes { result ≡ true → IsNamedBy mtr_names run.now space number lsn }
+    ensures no { result ≡ false → IsNamedBy mtr_names run.now space number lsn → ⊥ }
 {
     for entry in run {
         if entry.lsn() == lsn && mtr_names(entry.mtr(), space, number) {
@@ -82,7 +82,7 @@ fn head_after_mtr(mtr: &Mtr, space: u32, info: SpaceInfo) -> SpaceInfo
 
 // The head of a space with the changes of the run above this LSN.
 pub(crate) fn later_head(run: &[LogEntry], lsn: u64, space: u32, info: SpaceInfo) -> SpaceInfo
-    ensures { Head result ≡ later_page lsn run.now space 0 (Head info) }
+    ensures { Head result ≡ later_by mtr_acts lsn run.now space 0 (Head info) }
 {
     let mut info = info;
     for entry in run {
@@ -175,7 +175,7 @@ pub(crate) fn later_page(
     number: u32,
     page: Option<PlainPage>,
 ) -> Result<Option<PlainPage>, OutOfMemory>
-    ensures { IfOk result (λ new. page_held new ≡ later_page lsn run.now space number (page_held page)) }
+    ensures { IfOk result (λ new. page_held new ≡ later_by mtr_acts lsn run.now space number (page_held page)) }
 {
     let mut page = page;
     for entry in run {

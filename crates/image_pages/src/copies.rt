@@ -1,12 +1,14 @@
 // The copies of a page in the doublewrite file.
 ghost use Rattle.std.specs.Prelude.{◌≡◌, ◌≤◌, ◌<◌, ◌+◌, ◌*◌, length};
 ghost use Rattle.places.specs.Places.{place};
-ghost use Rattle.page_places.specs.Texts.{slot_page};
+ghost use Rattle.page_places.specs.Texts.{slot_page, page_bytes, slot_size};
 ghost use Rattle.image_pages.specs.Choosing.{Best, IsCopyIn, better};
+ghost use Rattle.store_image.specs.View.{slot_count};
 
 use crate::texts::is_slot;
 use byte_list::fields::{be32_at, be64_at};
 use image_log::place;
+use page_places::{SLOT_BYTES, SLOT_HEAD_BYTES, SLOTS};
 
 /// A copy of a page: its slot, 0 to 63, and its LSN.
 #[derive(Clone, Copy, Debug, PartialEq, Eq)]
@@ -17,7 +19,7 @@ pub struct Newest {
 
 // The LSN of the copy of a page in a slot, where the slot has one.
 pub(crate) fn copy_in(slot: &[u8], space: u32, page: u32) -> Option<u64>
-    requires { length slot.now ≡ 16896 }
+    requires { length slot.now ≡ slot_size }
     ensures { IsCopyIn slot.now space page result }
 {
     if !is_slot(slot) {
@@ -29,7 +31,7 @@ pub(crate) fn copy_in(slot: &[u8], space: u32, page: u32) -> Option<u64>
     if be32_at(slot, 12) != page {
         return None;
     }
-    let (_head, rest) = slot.split_at(508);
+    let (_head, rest) = slot.split_at(SLOT_HEAD_BYTES);
     let (_sum, text) = rest.split_at(4);
     Some(be64_at(text, 16))
 }
@@ -54,14 +56,14 @@ fn better(best: Option<Newest>, copy: Option<u64>, index: usize) -> Option<Newes
 /// The page's valid copy of greatest LSN among the 64 slots of the doublewrite file, of several the
 /// one of least index.
 pub fn newest_copy(double: &[u8], space: u32, page: u32) -> Option<Newest>
-    requires { length double.now ≡ 64 * 16896 }
-    ensures { Best double.now space page 64 result }
+    requires { length double.now ≡ slot_count * slot_size }
+    ensures { Best double.now space page slot_count result }
 {
     let mut best: Option<Newest> = None;
-    for index in 0..64 {
+    for index in 0..SLOTS {
         best = better(
             best,
-            copy_in(place(double, 16896, index), space, page),
+            copy_in(place(double, SLOT_BYTES, index), space, page),
             index,
         );
     }
@@ -70,12 +72,12 @@ pub fn newest_copy(double: &[u8], space: u32, page: u32) -> Option<Newest>
 
 // The page text in a slot, whether or not it is a valid one.
 pub(crate) fn slot_text(double: &[u8], index: usize) -> &[u8]
-    requires double { length double.now ≡ 64 * 16896 }
-    requires index { index < 64 }
-    ensures bytes { result.now ≡ slot_page (place 16896 index double.now) }
-    ensures long { length result.now ≡ 16384 }
+    requires double { length double.now ≡ slot_count * slot_size }
+    requires index { index < slot_count }
+    ensures bytes { result.now ≡ slot_page (place slot_size index double.now) }
+    ensures long { length result.now ≡ page_bytes }
 {
-    let (_head, rest) = place(double, 16896, index).split_at(508);
+    let (_head, rest) = place(double, SLOT_BYTES, index).split_at(SLOT_HEAD_BYTES);
     let (_sum, text) = rest.split_at(4);
     text
 }

@@ -7,10 +7,12 @@ ghost use Rattle.space_head.specs.Head.{with_head};
 ghost use Rattle.space_head.specs.declared.space.SpaceInfo.{SpaceInfo};
 ghost use Rattle.store_files.specs.Pages.{IsTypedInfo, head_of_space, head_page};
 ghost use Rattle.image_pages.specs.Meaning.{IsHeadPage, IsHeadText};
+ghost use Rattle.page_places.specs.Texts.{page_bytes};
 
 use crate::plain::plain_page;
 use byte_list::{copy_with, zero_bytes};
 use cause_core::OutOfMemory;
+use page_places::PAGE_BYTES;
 use space_head::{CryptRecord, SpaceHead, SpaceInfo, read_head, write_head};
 use std::alloc::Global;
 
@@ -62,17 +64,17 @@ fn known_info(info: &SpaceInfo)
 
 // A page of zero bytes with this body.
 fn page_with(alloc: Global, body: &[u8]) -> Result<Vec<u8>, OutOfMemory>
-    ensures { IfOk result (λ page. page.items ≡ put 38 body.now (zeros 16384)) }
+    ensures { IfOk result (λ page. page.items ≡ put 38 body.now (zeros page_bytes)) }
 {
-    let page = zero_bytes(alloc, 16384)?;
+    let page = zero_bytes(alloc, PAGE_BYTES)?;
     Ok(copy_with(alloc, &page, 38, body)?)
 }
 
 // A page of zero bytes with the head of this space.
 fn written_head(alloc: Global, info: &SpaceInfo) -> Result<Vec<u8>, OutOfMemory>
-    ensures { IfOk result (λ page. page.items ≡ with_head (head_of_space info.now) (zeros 16384)) }
+    ensures { IfOk result (λ page. page.items ≡ with_head (head_of_space info.now) (zeros page_bytes)) }
 {
-    let mut page = zero_bytes(alloc, 16384)?;
+    let mut page = zero_bytes(alloc, PAGE_BYTES)?;
     write_head(&head_of_space(info), page.as_mut_slice());
     Ok(page)
 }
@@ -109,7 +111,7 @@ pub(crate) fn head_of_text(
     space: u32,
     text: &[u8],
 ) -> Result<Option<SpaceInfo>, OutOfMemory>
-    requires { length text.now ≡ 16384 }
+    requires { length text.now ≡ page_bytes }
     ensures { IfOk result (IsHeadText space text.now) }
 {
     let Some(page) = plain_page(alloc, space, 0, None, text)? else {

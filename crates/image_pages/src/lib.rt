@@ -20,6 +20,7 @@ mod head;
 mod pages;
 mod plain;
 mod slots;
+mod source;
 mod texts;
 
 pub use choosing::{Chosen, chosen_text, is_placed};
@@ -27,6 +28,7 @@ pub use copies::{Newest, newest_copy};
 pub use fault::{PageFault, TextFault};
 pub use pages::{chosen_bytes, recover_head, recover_page};
 pub use slots::{live_text, other_head_slot, other_slot};
+pub use source::{PageSource, SpaceKeys};
 
 #[cfg(test)]
 mod tests;

@@ -6,6 +6,8 @@ ghost use Rattle.store_files.specs.Pages.{Head, key_id_of, page_held};
 ghost use Rattle.key_ring.specs.Local.{local_key};
 ghost use Rattle.byte_list.specs.Fields.{be32_at};
 ghost use Rattle.image_pages.specs.Recovering.{IsChosenIn, IsMeaningFault, IsPageFaultUnder, IsRecovered};
+ghost use Rattle.page_places.specs.Texts.{page_bytes, slot_size};
+ghost use Rattle.store_image.specs.View.{slot_count};
 
 use crate::acting::{later_head, later_page};
 use crate::choosing::{Chosen, chosen_text};
@@ -13,11 +15,12 @@ use crate::copies::slot_text;
 use crate::fault::{PageFault, TextFault};
 use crate::head::head_of_text;
 use crate::plain::used_page;
+use crate::source::{PageSource, SpaceKeys};
 use byte_list::fields::{be32_at, be64_at};
-use image_log::{LogText, StoreHeader};
-use key_ring::Ring;
+use image_log::LogText;
 use space_head::SpaceInfo;
 use std::alloc::Global;
+use store_files::BLOCK_BYTES;
 use store_model::PlainPage;
 
 /// The text that a page is read from: the 16384 bytes of its home or of a copy; Some of None where it
@@ -28,8 +31,8 @@ pub fn chosen_bytes<'a>(
     space: u32,
     number: u32,
 ) -> Option<Option<&'a [u8]>>
-    requires home { length home.now ≡ 16384 }
-    requires double { length double.now ≡ 64 * 16896 }
+    requires home { length home.now ≡ page_bytes }
+    requires double { length double.now ≡ slot_count * slot_size }
     ensures { IsChosenIn home.now double.now space number result }
 {
     match chosen_text(home, double, space, number) {
@@ -41,18 +44,12 @@ pub fn chosen_bytes<'a>(
 }
 
 // Why a text that is none of this page from page 1 on is none.
-fn text_fault(
-    header: &StoreHeader,
-    keys: &Ring,
-    key_id: u32,
-    salt: &[u8; 16],
-    text: &[u8],
-) -> TextFault
-    requires { length text.now ≡ 16384 }
-    ensures { IsMeaningFault (local_key keys.now key_id (be32_at text.now 0) salt.now) (be32_at text.now 0) result }
+fn text_fault(keys: &SpaceKeys, text: &[u8]) -> TextFault
+    requires { length text.now ≡ page_bytes }
+    ensures { IsMeaningFault (local_key keys.now.ring.now keys.now.key_id (be32_at text.now 0) keys.now.salt.now) (be32_at text.now 0) result }
 {
     let version = be32_at(text, 0);
-    if version != 0 && keys.local(key_id, version, salt).is_none() {
+    if version != 0 && keys.ring.local(keys.key_id, version, keys.salt).is_none() {
         return TextFault::NoKey { version };
     }
     TextFault::NotItsText
@@ -65,38 +62,39 @@ fn text_fault(
 /// The [`PageFault`] for which it recovers to nothing; `OutOfMemory` where the machine has no memory.
 pub fn recover_page(
     alloc: Global,
-    header: &StoreHeader,
-    keys: &Ring,
+    keys: &SpaceKeys,
     log: &LogText,
-    key_id: u32,
-    salt: &[u8; 16],
-    home: &[u8],
-    double: &[u8],
-    space: u32,
-    number: u32,
+    source: &PageSource,
 ) -> Result<Option<PlainPage>, PageFault>
-    requires home { length home.now ≡ 16384 }
-    requires double { length double.now ≡ 64 * 16896 }
-    requires number { 0 < number }
-    requires key_id { key_id ≡ key_id_of header.now.spaces space }
-    ensures ok { IfOk result (λ page. IsRecovered header.now keys.now log.now home.now double.now space number salt.now (page_held page)) }
-    ensures fault { IfErr result (IsPageFaultUnder header.now keys.now log.now home.now double.now space number salt.now) }
+    requires home { length source.now.home.now ≡ page_bytes }
+    requires double { length source.now.double.now ≡ slot_count * slot_size }
+    requires number { 0 < source.now.number }
+    requires key_id { keys.now.key_id ≡ key_id_of keys.now.header.now.spaces source.now.space }
+    ensures ok { IfOk result (λ found. IsRecovered keys.now.header.now keys.now.ring.now log.now source.now.home.now source.now.double.now source.now.space source.now.number keys.now.salt.now (page_held found)) }
+    ensures fault { IfErr result (IsPageFaultUnder keys.now.header.now keys.now.ring.now log.now source.now.home.now source.now.double.now source.now.space source.now.number keys.now.salt.now) }
 {
-    let Some(chosen) = chosen_bytes(home, double, space, number) else {
+    let Some(chosen) = chosen_bytes(source.home, source.double, source.space, source.number) else {
         return Err(PageFault::NotChosen);
     };
     let Some(text) = chosen else {
-        return Ok(later_page(alloc, log.run(), 0, space, number, None)?);
+        return Ok(later_page(alloc, log.run(), 0, source.space, source.number, None)?);
     };
     let lsn = be64_at(text, 16);
-    if log.end() * 4096 < lsn {
+    if log.end() * (BLOCK_BYTES as u64) < lsn {
         return Err(PageFault::Text(TextFault::BehindTheRun));
     }
-    let Some(page) = used_page(alloc, header, keys, key_id, salt, space, number, text)? else {
-        let fault = text_fault(header, keys, key_id, salt, text);
+    let Some(page) = used_page(alloc, keys, source.space, source.number, text)? else {
+        let fault = text_fault(keys, text);
         return Err(PageFault::Text(fault));
     };
-    Ok(later_page(alloc, log.run(), lsn, space, number, Some(page))?)
+    Ok(later_page(
+        alloc,
+        log.run(),
+        lsn,
+        source.space,
+        source.number,
+        Some(page),
+    )?)
 }
 
 /// What the page 0 of a space recovers to, by the bytes of its home and of the doublewrite file.
@@ -110,8 +108,8 @@ pub fn recover_head(
     double: &[u8],
     space: u32,
 ) -> Result<SpaceInfo, PageFault>
-    requires home { length home.now ≡ 16384 }
-    requires double { length double.now ≡ 64 * 16896 }
+    requires home { length home.now ≡ page_bytes }
+    requires double { length double.now ≡ slot_count * slot_size }
     ensures ok { IfOk result (λ info. (header : HeldHeader) (keys : List RingEntry) (salt : List ℕ) → IsRecovered header keys log.now home.now double.now space 0 salt (Head info)) }
     ensures fault { IfErr result (λ fault. (header : HeldHeader) (keys : List RingEntry) (salt : List ℕ) → IsPageFaultUnder header keys log.now home.now double.now space 0 salt fault) }
 {
@@ -122,7 +120,7 @@ pub fn recover_head(
         return Err(PageFault::Text(TextFault::UnusedHead));
     };
     let lsn = be64_at(text, 16);
-    if log.end() * 4096 < lsn {
+    if log.end() * (BLOCK_BYTES as u64) < lsn {
         return Err(PageFault::Text(TextFault::BehindTheRun));
     }
     let Some(info) = head_of_text(alloc, space, text)? else {

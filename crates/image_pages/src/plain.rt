@@ -8,11 +8,11 @@ ghost use Rattle.page_text.specs.Text.{IsText, Plain, key_lent, plain_of};
 ghost use Rattle.space_head.specs.Sizes.{IsPageSize};
 ghost use Rattle.store_files.specs.Pages.{HasKeyBytes, key_id_of};
 ghost use Rattle.image_pages.specs.Meaning.{IsPlainOf, IsUsedPage};
+ghost use Rattle.page_places.specs.Texts.{page_bytes};
 
+use crate::source::SpaceKeys;
 use byte_list::fields::{be16_at, be32_at};
 use cause_core::OutOfMemory;
-use image_log::StoreHeader;
-use key_ring::Ring;
 use page_text::{PageKey, PageMut, unseal};
 use redo_text::Piece;
 use std::alloc::Global;
@@ -34,22 +34,16 @@ fn known_bytes(local: &[u8])
 }
 
 // The key of a space's pages at a version, where it is there.
-fn page_key(
-    header: &StoreHeader,
-    keys: &Ring,
-    key_id: u32,
-    version: u32,
-    salt: &[u8; 16],
-) -> Option<PageKey>
-    ensures value { result ≡ option_map (λ local. record { local = local; algorithm = header.now.algorithm }) (local_key keys.now key_id version salt.now) }
+fn page_key(keys: &SpaceKeys, version: u32) -> Option<PageKey>
+    ensures value { result ≡ option_map (λ local. record { local = local; algorithm = keys.now.header.now.algorithm }) (local_key keys.now.ring.now keys.now.key_id version keys.now.salt.now) }
     ensures known { IfSome result HasKeyBytes }
 {
-    let local = keys.local(key_id, version, salt)?;
+    let local = keys.ring.local(keys.key_id, version, keys.salt)?;
     known_long(&local);
     known_bytes(&local);
     Some(PageKey {
         local,
-        algorithm: header.algorithm(),
+        algorithm: keys.header.algorithm(),
     })
 }
 
@@ -69,7 +63,7 @@ fn unseals(bytes: &mut [u8], space: u32, number: u32, key: Option<&PageKey>) -> 
 
 // The plain page in a page that is in clear.
 fn plain_of(alloc: Global, page: &[u8]) -> Result<PlainPage, OutOfMemory>
-    requires { length page.now ≡ 16384 }
+    requires { length page.now ≡ page_bytes }
     ensures kind { IfOk result (λ plain. plain.kind ≡ be16_at page.now 24) }
     ensures body { IfOk result (λ plain. plain.body ≡ body page.now) }
 {
@@ -89,7 +83,7 @@ fn opened(
     number: u32,
     key: Option<&PageKey>,
 ) -> Result<Option<PlainPage>, OutOfMemory>
-    requires long { length bytes.old ≡ 16384 }
+    requires long { length bytes.old ≡ page_bytes }
     requires keyed { be32_at bytes.old 0 ≢ 0 → IsSome key }
     ensures { IfOk result (IsPlainOf space number (key_lent key.entry) bytes.old) }
 {
@@ -108,7 +102,7 @@ pub(crate) fn plain_page(
     key: Option<PageKey>,
     text: &[u8],
 ) -> Result<Option<PlainPage>, OutOfMemory>
-    requires { length text.now ≡ 16384 }
+    requires { length text.now ≡ page_bytes }
     ensures { IfOk result (IsPlainOf space number key text.now) }
 {
     if be32_at(text, 0) != 0 && key.is_none() {
@@ -121,19 +115,16 @@ pub(crate) fn plain_page(
 // The page from page 1 on that a text means under the keys, where it means one.
 pub(crate) fn used_page(
     alloc: Global,
-    header: &StoreHeader,
-    keys: &Ring,
-    key_id: u32,
-    salt: &[u8; 16],
+    keys: &SpaceKeys,
     space: u32,
     number: u32,
     text: &[u8],
 ) -> Result<Option<PlainPage>, OutOfMemory>
-    requires long { length text.now ≡ 16384 }
+    requires long { length text.now ≡ page_bytes }
     requires number { 0 < number }
-    requires key_id { key_id ≡ key_id_of header.now.spaces space }
-    ensures { IfOk result (IsUsedPage header.now keys.now space number salt.now text.now) }
+    requires key_id { keys.now.key_id ≡ key_id_of keys.now.header.now.spaces space }
+    ensures { IfOk result (IsUsedPage keys.now.header.now keys.now.ring.now space number keys.now.salt.now text.now) }
 {
-    let key = page_key(header, keys, key_id, be32_at(text, 0), salt);
+    let key = page_key(keys, be32_at(text, 0));
     plain_page(alloc, space, number, key, text)
 }

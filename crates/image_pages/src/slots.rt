@@ -4,24 +4,27 @@ ghost use Rattle.key_ring.specs.Ring.{RingEntry};
 ghost use Rattle.store_files.specs.Header.{HeldHeader};
 ghost use Rattle.store_files.specs.Pages.{Head, key_id_of, page_held};
 ghost use Rattle.image_pages.specs.Recovering.{AgreeBelow, GivesPage, IsLiveIn, IsNewestLsn, SlotDiffers, bound_of};
+ghost use Rattle.page_places.specs.Texts.{page_bytes, slot_size};
+ghost use Rattle.store_image.specs.View.{slot_count};
 
 use crate::acting::{is_named, later_head, later_page};
 use crate::copies::{copy_in, newest_copy, slot_text};
 use crate::head::head_of_text;
 use crate::plain::used_page;
+use crate::source::{PageSource, SpaceKeys};
 use crate::texts::is_page_text;
 use byte_list::fields::be64_at;
 use cause_core::OutOfMemory;
-use image_log::{LogText, StoreHeader, place};
-use key_ring::Ring;
+use image_log::{LogText, place};
+use page_places::{SLOT_BYTES, SLOTS};
 use space_head::SpaceInfo;
 use std::alloc::Global;
 use store_model::PlainPage;
 
 // Whether a copy of this LSN is above the home, or, where there is none, the newest.
 fn is_newest(home: &[u8], double: &[u8], space: u32, number: u32, lsn: u64) -> bool
-    requires home { length home.now ≡ 16384 }
-    requires double { length double.now ≡ 64 * 16896 }
+    requires home { length home.now ≡ page_bytes }
+    requires double { length double.now ≡ slot_count * slot_size }
     ensures yes { result ≡ true → IsNewestLsn home.now double.now space number lsn }
     ensures no { result ≡ false → IsNewestLsn home.now double.now space number lsn → ⊥ }
 {
@@ -42,12 +45,12 @@ pub fn live_text<'a>(
     number: u32,
     index: usize,
 ) -> Option<&'a [u8]>
-    requires home { length home.now ≡ 16384 }
-    requires double { length double.now ≡ 64 * 16896 }
-    requires index { index < 64 }
+    requires home { length home.now ≡ page_bytes }
+    requires double { length double.now ≡ slot_count * slot_size }
+    requires index { index < slot_count }
     ensures { IsLiveIn home.now double.now space number index result }
 {
-    let lsn = copy_in(place(double, 16896, index), space, number)?;
+    let lsn = copy_in(place(double, SLOT_BYTES, index), space, number)?;
     if !is_newest(home, double, space, number, lsn) {
         return None;
     }
@@ -75,26 +78,23 @@ fn same_info(a: &SpaceInfo, b: &SpaceInfo) -> bool
 // Whether a live text gives this page.
 fn text_gives(
     alloc: Global,
-    header: &StoreHeader,
-    keys: &Ring,
+    keys: &SpaceKeys,
     log: &LogText,
-    key_id: u32,
-    salt: &[u8; 16],
     space: u32,
     number: u32,
     text: &[u8],
     wanted: &Option<PlainPage>,
 ) -> Result<bool, OutOfMemory>
-    requires long { length text.now ≡ 16384 }
+    requires long { length text.now ≡ page_bytes }
     requires number { 0 < number }
-    requires key_id { key_id ≡ key_id_of header.now.spaces space }
-    ensures { IfOk result (GivesPage header.now keys.now log.now space number salt.now text.now (page_held wanted.now)) }
+    requires key_id { keys.now.key_id ≡ key_id_of keys.now.header.now.spaces space }
+    ensures { IfOk result (GivesPage keys.now.header.now keys.now.ring.now log.now space number keys.now.salt.now text.now (page_held wanted.now)) }
 {
     let lsn = be64_at(text, 16);
     if !is_named(log.run(), space, number, lsn) {
         return Ok(false);
     }
-    let Some(page) = used_page(alloc, header, keys, key_id, salt, space, number, text)? else {
+    let Some(page) = used_page(alloc, keys, space, number, text)? else {
         return Ok(false);
     };
     let page = later_page(alloc, log.run(), lsn, space, number, Some(page))?;
@@ -109,7 +109,7 @@ fn text_gives_head(
     text: &[u8],
     wanted: &SpaceInfo,
 ) -> Result<bool, OutOfMemory>
-    requires { length text.now ≡ 16384 }
+    requires { length text.now ≡ page_bytes }
     ensures { IfOk result (λ gives. (header : HeldHeader) (keys : List RingEntry) (salt : List ℕ) → GivesPage header keys log.now space 0 salt text.now (Head wanted.now) gives) }
 {
     let lsn = be64_at(text, 16);
@@ -126,29 +126,27 @@ fn text_gives_head(
 /// The first slot that is live for a page from page 1 on, and doesn't give this page.
 pub fn other_slot(
     alloc: Global,
-    header: &StoreHeader,
-    keys: &Ring,
+    keys: &SpaceKeys,
     log: &LogText,
-    key_id: u32,
-    salt: &[u8; 16],
-    home: &[u8],
-    double: &[u8],
-    space: u32,
-    number: u32,
+    source: &PageSource,
     wanted: &Option<PlainPage>,
 ) -> Result<Option<usize>, OutOfMemory>
-    requires home { length home.now ≡ 16384 }
-    requires double { length double.now ≡ 64 * 16896 }
-    requires number { 0 < number }
-    requires key_id { key_id ≡ key_id_of header.now.spaces space }
-    ensures agree { IfOk result (λ found. AgreeBelow header.now keys.now log.now home.now double.now space number salt.now (page_held wanted.now) (bound_of found)) }
-    ensures differs { IfOk result (λ found. IfSome found (SlotDiffers header.now keys.now log.now home.now double.now space number salt.now (page_held wanted.now))) }
+    requires home { length source.now.home.now ≡ page_bytes }
+    requires double { length source.now.double.now ≡ slot_count * slot_size }
+    requires number { 0 < source.now.number }
+    requires key_id { keys.now.key_id ≡ key_id_of keys.now.header.now.spaces source.now.space }
+    ensures agree { IfOk result (λ found. AgreeBelow keys.now.header.now keys.now.ring.now log.now source.now.home.now source.now.double.now source.now.space source.now.number keys.now.salt.now (page_held wanted.now) (bound_of found)) }
+    ensures differs { IfOk result (λ found. IfSome found (SlotDiffers keys.now.header.now keys.now.ring.now log.now source.now.home.now source.now.double.now source.now.space source.now.number keys.now.salt.now (page_held wanted.now))) }
 {
-    for index in 0..64 {
-        if let Some(text) = live_text(home, double, space, number, index) {
-            if !text_gives(
-                alloc, header, keys, log, key_id, salt, space, number, text, wanted,
-            )? {
+    for index in 0..SLOTS {
+        if let Some(text) = live_text(
+            source.home,
+            source.double,
+            source.space,
+            source.number,
+            index,
+        ) {
+            if !text_gives(alloc, keys, log, source.space, source.number, text, wanted)? {
                 return Ok(Some(index));
             }
         }
@@ -165,12 +163,12 @@ pub fn other_head_slot(
     space: u32,
     wanted: &SpaceInfo,
 ) -> Result<Option<usize>, OutOfMemory>
-    requires home { length home.now ≡ 16384 }
-    requires double { length double.now ≡ 64 * 16896 }
+    requires home { length home.now ≡ page_bytes }
+    requires double { length double.now ≡ slot_count * slot_size }
     ensures agree { IfOk result (λ found. (header : HeldHeader) (keys : List RingEntry) (salt : List ℕ) → AgreeBelow header keys log.now home.now double.now space 0 salt (Head wanted.now) (bound_of found)) }
     ensures differs { IfOk result (λ found. IfSome found (λ index. (header : HeldHeader) (keys : List RingEntry) (salt : List ℕ) → SlotDiffers header keys log.now home.now double.now space 0 salt (Head wanted.now) index)) }
 {
-    for index in 0..64 {
+    for index in 0..SLOTS {
         if let Some(text) = live_text(home, double, space, 0, index) {
             if !text_gives_head(alloc, log, space, text, wanted)? {
                 return Ok(Some(index));

@@ -3,10 +3,11 @@ ghost use Rattle.std.specs.Prelude.{◌≡◌, ◌≤◌, ◌<◌, ◌+◌, ◌*
 ghost use Rattle.std.specs.Int.{to_be_bytes, w32};
 ghost use Rattle.std.specs.Str.{bytes_eq};
 ghost use Rattle.bytes_core.specs.Crc.{crc32c};
-ghost use Rattle.page_places.specs.Texts.{has_magic, is_page_text, is_slot};
+ghost use Rattle.page_places.specs.Texts.{has_magic, is_page_text, is_slot, slot_size};
 
 use byte_list::fields::be32_at;
 use bytes_core::{Crc32c, ends_in_crc32c};
+use page_places::SLOT_HEAD_BYTES;
 
 #[tactic(auto, unfolding(page_places::specs::Texts::has_magic))]
 fn has_magic(slot: &[u8]) -> bool
@@ -38,13 +39,13 @@ pub(crate) fn is_page_text(text: &[u8], number: u32) -> bool
 }
 
 pub(crate) fn is_slot(slot: &[u8]) -> bool
-    requires { length slot.now ≡ 16896 }
+    requires { length slot.now ≡ slot_size }
     ensures { result ≡ is_slot slot.now }
 {
     if !has_magic(slot) {
         return false;
     }
-    let (head, rest) = slot.split_at(508);
+    let (head, rest) = slot.split_at(SLOT_HEAD_BYTES);
     let (sum, text) = rest.split_at(4);
     if !has_sum(head, text, sum) {
         return false;

@@ -3,9 +3,9 @@ pub mod Takes
 pub mod Firsts
 pub mod HeaderSpaces
 pub mod Recovery
+pub mod RightBefore
 pub mod Refused
 pub mod PageAnswers
-pub mod Gathering
 pub mod Additions
 pub mod NameLaws
 pub mod NamedKeys

@@ -8,7 +8,7 @@ use Rattle.page_places.proofs.Texts.{text_in-is}
 use Rattle.store_image.specs.View.{Text, Slot, IsChosen, IsLive}
 use Rattle.store_image.proofs.ChosenTexts.{chosen_one}
 use Rattle.store_files.specs.Header.{HeldSpace}
-use Rattle.image_pages.specs.Choosing.{page_view}
+use Rattle.image_pages.specs.Choosing.{page_view, no_log}
 use Rattle.image_reader.specs.Files.{ImageFiles, space_bytes}
 use Rattle.image_reader.specs.Naming.{AddsNames, Below, IsTextName, IsChosenName, IsSlotName, IsPageNameIn, IsSpaceName, IsNameAt}
 use Rattle.image_reader.proofs.Additions.{adds_as, adds_nothing, adds_then, adds_next}
@@ -32,27 +32,27 @@ named_text : (id : ℕ) (t : Text) (text : List ℕ) (x : ℕ × ℕ) → t ≡ 
 named_text id t text x e p = subst (λ (n : ℕ). IsTextName id n x) (ap (λ (u : Text). u.version) e ∙ version_in text) p
 
 module _ (home double : List ℕ) (s p id : ℕ) (a : List (ℕ × ℕ)) where
-  pub chosen_adds : (b : List (ℕ × ℕ)) (text : List ℕ) → IsChosen (page_view home double) s p (Some (text_in text)) → AddsNames (IsTextName id (be32_at text 0)) a b → AddsNames (IsChosenName home double s p id) a b
+  pub chosen_adds : (b : List (ℕ × ℕ)) (text : List ℕ) → IsChosen (page_view no_log home double) s p (Some (text_in text)) → AddsNames (IsTextName id (be32_at text 0)) a b → AddsNames (IsChosenName home double s p id) a b
   chosen_adds b text is adds =
       adds_as (IsTextName id (be32_at text 0)) (IsChosenName home double s p id) a b (λ x n. (text_in text, is, subst (λ (v : ℕ). IsTextName id v x) (sym (version_in text)) n))
-      (λ x n. named_text id n.0 text x (same_Some n.0 (text_in text) (chosen_one (page_view home double) s p (Some n.0) (Some (text_in text)) n.1 is)) n.2) adds
+      (λ x n. named_text id n.0 text x (same_Some n.0 (text_in text) (chosen_one (page_view no_log home double) s p (Some n.0) (Some (text_in text)) n.1 is)) n.2) adds
 
-  pub unused_adds : IsChosen (page_view home double) s p None → AddsNames (IsChosenName home double s p id) a a
-  unused_adds is = adds_nothing (IsChosenName home double s p id) a (λ x n. none-some n.0 (sym (chosen_one (page_view home double) s p (Some n.0) None n.1 is)))
+  pub unused_adds : IsChosen (page_view no_log home double) s p None → AddsNames (IsChosenName home double s p id) a a
+  unused_adds is = adds_nothing (IsChosenName home double s p id) a (λ x n. none-some n.0 (sym (chosen_one (page_view no_log home double) s p (Some n.0) None n.1 is)))
 
-  pub nothing_adds : ((chosen : Option Text) → IsChosen (page_view home double) s p chosen → ⊥) → AddsNames (IsChosenName home double s p id) a a
+  pub nothing_adds : ((chosen : Option Text) → IsChosen (page_view no_log home double) s p chosen → ⊥) → AddsNames (IsChosenName home double s p id) a a
   nothing_adds none = adds_nothing (IsChosenName home double s p id) a (λ x n. none (Some n.0) n.1)
 
   module _ (i : ℕ) where
-    one_live : (t u : Text) → IsLive (page_view home double) s p i t → IsLive (page_view home double) s p i u → t ≡ u
+    one_live : (t u : Text) → IsLive (page_view no_log home double) s p i t → IsLive (page_view no_log home double) s p i u → t ≡ u
     one_live t u x y = ap (λ (w : Slot). w.text) (same_Some _ _ (sym x.copy.is ∙ y.copy.is))
 
-    pub live_adds : (b : List (ℕ × ℕ)) (text : List ℕ) → IsLive (page_view home double) s p i (text_in text) → AddsNames (IsTextName id (be32_at text 0)) a b → AddsNames (IsSlotName home double s p id i) a b
+    pub live_adds : (b : List (ℕ × ℕ)) (text : List ℕ) → IsLive (page_view no_log home double) s p i (text_in text) → AddsNames (IsTextName id (be32_at text 0)) a b → AddsNames (IsSlotName home double s p id i) a b
     live_adds b text is adds =
         adds_as (IsTextName id (be32_at text 0)) (IsSlotName home double s p id i) a b (λ x n. (text_in text, is, subst (λ (v : ℕ). IsTextName id v x) (sym (version_in text)) n))
         (λ x n. named_text id n.0 text x (one_live n.0 (text_in text) n.1 is) n.2) adds
 
-    pub none_adds : ((t : Text) → IsLive (page_view home double) s p i t → ⊥) → AddsNames (IsSlotName home double s p id i) a a
+    pub none_adds : ((t : Text) → IsLive (page_view no_log home double) s p i t → ⊥) → AddsNames (IsSlotName home double s p id i) a a
     none_adds none = adds_nothing (IsSlotName home double s p id i) a (λ x n. none n.0 n.1)
 
 pub space_adds : (files : ImageFiles) (active : ℕ) (h : HeldSpace) (id s pages : ℕ) (bytes double : List ℕ) (a b c : List (ℕ × ℕ)) → id ≡ h.key_id → s ≡ h.space → pages ≡ h.pages → bytes ≡ space_bytes files.spaces h.space → double ≡ files.double

@@ -13,7 +13,7 @@ use Rattle.store_files.specs.Header.{HeldHeader, HeldSpace, are_in_order}
 use Rattle.store_files.specs.Pages.{has_page, key_id_of}
 use Rattle.store_files.proofs.SpacesInOrder.{ordered, other_space}
 use Rattle.crash_image.specs.Stands.{Named, OfChosen, OfSlot, OfBlock, OfLog, OfSpace}
-use Rattle.image_pages.specs.Choosing.{page_view}
+use Rattle.image_pages.specs.Choosing.{page_view, no_log}
 use Rattle.image_pages.proofs.Views.{chosen_over, live_over}
 use Rattle.image_reader.specs.Files.{ImageFiles, image_of, space_bytes}
 use Rattle.image_reader.specs.HeaderSpaces.{IsSpaceAt}
@@ -82,12 +82,12 @@ module _ (files : ImageFiles) (header : HeldHeader) (log : LogView (List Change)
 
     chosen_needed : (p : ℕ) → p < h.pages → IsChosenName (place 16384 p pages) files.double h.space p h.key_id (id, version) → Needed id version
     chosen_needed p within c =
-        OfChosen h.space p c.0 (has_named header.spaces h p order here within) (chosen_over (page_view (place 16384 p pages) files.double) (view log (image_of files)) h.space p refl (λ i. refl) (Some c.0) c.1) c.2.0
+        OfChosen h.space p c.0 (has_named header.spaces h p order here within) (chosen_over (page_view no_log (place 16384 p pages) files.double) (view log (image_of files)) h.space p refl (λ i. refl) (Some c.0) c.1) c.2.0
         (ap (λ (q : ℕ × ℕ). q.0) c.2.1 ∙ sym (key_is i h at)) (ap (λ (q : ℕ × ℕ). q.1) c.2.1)
 
     slot_needed : (p j : ℕ) → p < h.pages → IsSlotName (place 16384 p pages) files.double h.space p h.key_id j (id, version) → Needed id version
     slot_needed p j within c =
-        OfSlot h.space p j c.0 (has_named header.spaces h p order here within) (live_over (page_view (place 16384 p pages) files.double) (view log (image_of files)) h.space p refl (λ i. refl) j c.0 c.1) c.2.0
+        OfSlot h.space p j c.0 (has_named header.spaces h p order here within) (live_over (page_view no_log (place 16384 p pages) files.double) (view log (image_of files)) h.space p refl (λ i. refl) j c.0 c.1) c.2.0
         (ap (λ (q : ℕ × ℕ). q.0) c.2.1 ∙ sym (key_is i h at)) (ap (λ (q : ℕ × ℕ). q.1) c.2.1)
 
     page_needed : Below (IsPageNameIn pages files.double h.space h.key_id) h.pages (id, version) → Needed id version
@@ -115,14 +115,14 @@ module _ (files : ImageFiles) (header : HeldHeader) (log : LogView (List Change)
   gathered id version (OfChosen s p t has is clear ids versions) =
       let f = page_of header.spaces s p has in
       let key = ap (key_id_of header.spaces) f.id ∙ key_is f.index f.space f.is in
-      let one = chosen_over (view log (image_of files)) (page_view (place 16384 p (space_bytes files.spaces s)) files.double) s p refl (λ i. refl) (Some t) is in
-      let moved = subst (λ (z : ℕ). IsChosen (page_view (place 16384 p (space_bytes files.spaces z)) files.double) z p (Some t)) f.id one in
+      let one = chosen_over (view log (image_of files)) (page_view no_log (place 16384 p (space_bytes files.spaces s)) files.double) s p refl (λ i. refl) (Some t) is in
+      let moved = subst (λ (z : ℕ). IsChosen (page_view no_log (place 16384 p (space_bytes files.spaces z)) files.double) z p (Some t)) f.id one in
       inr (inr (f.index, below_length header.spaces f.index f.space _ f.is, (f.space, f.is, inr (p, f.within, inl (t, moved, (clear, pair _ _ _ _ (ids ∙ key) versions))))))
   gathered id version (OfSlot s p j t has live clear ids versions) =
       let f = page_of header.spaces s p has in
       let key = ap (key_id_of header.spaces) f.id ∙ key_is f.index f.space f.is in
-      let one = live_over (view log (image_of files)) (page_view (place 16384 p (space_bytes files.spaces s)) files.double) s p refl (λ i. refl) j t live in
-      let moved = subst (λ (z : ℕ). IsLive (page_view (place 16384 p (space_bytes files.spaces z)) files.double) z p j t) f.id one in
+      let one = live_over (view log (image_of files)) (page_view no_log (place 16384 p (space_bytes files.spaces s)) files.double) s p refl (λ i. refl) j t live in
+      let moved = subst (λ (z : ℕ). IsLive (page_view no_log (place 16384 p (space_bytes files.spaces z)) files.double) z p j t) f.id one in
       inr (inr (f.index, below_length header.spaces f.index f.space _ f.is, (f.space, f.is, inr (p, f.within, inr (j, live.copy.within, (t, moved, (clear, pair _ _ _ _ (ids ∙ key) versions)))))))
 
   pub named_of : (a b c d : List (ℕ × ℕ)) → a ≡ [] → AddsNames Blocks a b → AddsNames (λ x. x ≡ (1, active)) b c → AddsNames Spaces c d → AreNamed (image_of files) header log active d

@@ -14,7 +14,7 @@ use Rattle.store_files.specs.Header.{HeldHeader, HeldSpace, are_in_order}
 use Rattle.store_files.specs.Pages.{Page, page_in, pages_of, salts_of, has_page, HaveSpaces}
 use Rattle.store_files.proofs.SpacesInOrder.{ordered}
 use Rattle.crash_image.specs.StoreTheory.{store_theory}
-use Rattle.image_pages.specs.Recovering.{run_view, IsReadFrom, IsTextFault}
+use Rattle.image_pages.specs.Recovering.{IsReadFrom, IsTextFault}
 use Rattle.image_pages.specs.declared.fault.TextFault.{TextFault}
 use Rattle.image_pages.specs.declared.fault.TextFault.TheVariants.{BehindTheRun, NoKey, NotItsText, UnusedHead}
 use Rattle.image_pages.proofs.Views.{chosen_over, live_over}
@@ -23,6 +23,7 @@ use Rattle.image_reader.specs.HeaderSpaces.{IsSpaceAt}
 use Rattle.image_reader.specs.Spaces.{PageGives, SpaceGives, AllGive}
 use Rattle.image_reader.proofs.HeaderSpaces.{IsFound, found_whole, found_rest, first_has, first_page, first_salt}
 use Rattle.image_reader.proofs.Takes.{none_item, same_item, drop_nil}
+use Rattle.image_pages.specs.Choosing.{page_view}
 
 -- the space holds nothing
 pub record SpaceHoldsNone (header : HeldHeader) (keys : List RingEntry) (log : LogView (List Change)) (bytes double : List ℕ) (h : HeldSpace) : Type 0 where
@@ -35,7 +36,7 @@ module _ (header : HeldHeader) (keys : List RingEntry) (log : LogView (List Chan
   T = store_theory header keys salts
 
   abbrev one : View (List Change)
-  one = run_view log (place 16384 p (space_bytes files.spaces s)) files.double
+  one = page_view log (place 16384 p (space_bytes files.spaces s)) files.double
 
   abbrev whole : View (List Change)
   whole = view log (image_of files)
@@ -124,7 +125,7 @@ module _ (header : HeldHeader) (keys : List RingEntry) (log : LogView (List Chan
     pages = λ s p has. page_whole header keys log files (salts_of c) s p (pages_of c) (pages_of c s p) refl (pages_of_all header.spaces c all s p has (salts_of c) refl).page;
     slots = λ s p i t has live.
         slot_whole header keys log files (salts_of c) s p (pages_of c) (pages_of c s p) refl t
-        ((pages_of_all header.spaces c all s p has (salts_of c) refl).slots i t (live_over (view log (image_of files)) (run_view log (place 16384 p (space_bytes files.spaces s)) files.double) s p refl (λ i. refl) i t live));
+        ((pages_of_all header.spaces c all s p has (salts_of c) refl).slots i t (live_over (view log (image_of files)) (page_view log (place 16384 p (space_bytes files.spaces s)) files.double) s p refl (λ i. refl) i t live));
   }
 
   -- ---- and back

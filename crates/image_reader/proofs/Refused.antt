@@ -1,5 +1,5 @@
 -- A refusal names a condition that fails: files that recover to contents are never refused.
-use Rattle.std.proofs.Common.{◌≡◌, ◌≢◌, ℕ, ◌<◌, ◌≤◌, true, List, [], length, Option, refl, sym, ap, subst, ◌∙◌, arith}
+use Rattle.std.proofs.Common.{◌≡◌, ◌≢◌, inl, inr, ℕ, zero, suc, ◌+◌, ◌*◌, ◌<◌, ◌≤◌, true, List, [], length, take, Option, refl, sym, ap, subst, ◌∙◌, arith}
 use Rattle.std.proofs.lemmas.Option.{same_Some}
 use Rattle.disk_model.specs.Image.{Image}
 use Rattle.disk_model.specs.declared.names.FileName.TheVariants.{Log, Double, Space}
@@ -8,11 +8,11 @@ use Rattle.places.specs.Places.{place}
 use Rattle.page_places.specs.Views.{view}
 use Rattle.space_head.specs.declared.space.SpaceInfo.{SpaceInfo}
 use Rattle.store_image.specs.Places.{LogView}
-use Rattle.store_image.specs.View.{Text, IsChosen}
+use Rattle.store_image.specs.View.{Text, IsChosen, block_bytes}
 use Rattle.redo_text.specs.declared.change.Change.{Change}
 use Rattle.store_model.specs.declared.contents.SpaceContents.{SpaceContents}
 use Rattle.store_files.specs.Header.{HeldHeader, HeldSpace, are_in_order}
-use Rattle.store_files.specs.Pages.{Head as HeadPage}
+use Rattle.store_files.specs.Pages.{has_page}
 use Rattle.store_files.proofs.ContentsOnce.{header_order}
 use Rattle.store_files.proofs.RunsOnce.{log_one}
 use Rattle.crash_image.specs.Recovers.{HasHeader, RecoversBy, Recovers}
@@ -21,21 +21,24 @@ use Rattle.image_log.specs.declared.fault.LogTextFault.{LogTextFault}
 use Rattle.image_log.specs.declared.fault.LogTextFault.TheVariants as log
 use Rattle.image_log.proofs.Entries.{fault_refuses}
 use Rattle.image_pages.specs.Choosing.{page_view}
-use Rattle.image_pages.specs.Recovering.{run_view}
 use Rattle.image_pages.proofs.Views.{chosen_over}
 use Rattle.image_reader.specs.Files.{ImageFiles, image_of, space_bytes}
-use Rattle.image_reader.specs.HeaderSpaces.{IsSpaceAt, IsPageAt}
+use Rattle.image_reader.specs.HeaderSpaces.{IsSpaceAt}
 use Rattle.image_reader.specs.Homes.{AreHomesRight, HasHomeFault}
 use Rattle.image_reader.specs.Lengths.{IsLengthFault}
 use Rattle.image_reader.specs.PageRefusals.{IsPageRefusal, IsSpaceRefusal, IsSpacesRefusal, AtHead, AtInfo, AtPage, NoMemory}
-use Rattle.image_reader.specs.Refusals.{HasFiles, HasLog, HasStoreRun, HasHomes, HasNoContents, HasHead, IsReadUnder, IsHeaderFault, IsRefusalOf, log_refusal}
-use Rattle.image_reader.specs.Spaces.{HeadHolds}
+use Rattle.image_reader.specs.Refusals.{Precedes, HasFiles, HasLog, HasStoreRun, HasHomes, IsFirstMixedHome, HasNoContents, IsReadUnder, IsPageRight, IsHeadRight, AreRightBefore, IsHeaderFault, IsRefusalOf, log_refusal}
+use Rattle.image_reader.specs.Spaces.{AllGive}
 use Rattle.image_reader.specs.declared.refusal.Refusal.{Refusal}
 use Rattle.image_reader.specs.declared.refusal.Refusal.TheVariants.{NoHeader, Length, NoCheckpoint, NoKey, NoChanges, OtherPages, Mixed, NotChosen, NoText, Head, Slot, LateBlock, OutOfMemory}
 use Rattle.image_reader.proofs.Firsts.{long_named, run_at}
-use Rattle.image_reader.proofs.HeaderSpaces.{has_named, some_named, homes_all}
+use Rattle.image_reader.proofs.HeaderSpaces.{before_in, has_named, some_named, homes_all}
 use Rattle.image_reader.proofs.PageAnswers.{refused_space}
+use Rattle.image_reader.proofs.RightBefore.{page_at, head_to, under_head, head_right, head_is, page_right, right_before}
 use Rattle.image_reader.proofs.Recovery.{none_recovers, page_whole, slot_whole, slot_one_view, fault_whole, live_whole, live_one}
+use Rattle.page_places.specs.Placed.{IsPlaced}
+use Rattle.page_places.specs.Texts.{page_bytes}
+use Rattle.store_image.specs.Checkpoint.{front_blocks}
 
 module _ (image : Image) (keys : List RingEntry) (c : List SpaceContents) (last : ℕ) (r : Recovers image keys c last) where
   by_header : (header : HeldHeader) → HasHeader image header → RecoversBy image keys header r.log c
@@ -60,8 +63,8 @@ module _ (image : Image) (keys : List RingEntry) (c : List SpaceContents) (last 
   never_refused (NoKey number version) (header, files, fault) some = by_log header (log.NoKey number version) files fault (λ e. cc)
   never_refused (NoChanges first at) (header, files, fault) some = by_log header (log.NoChanges first at) files fault (λ e. cc)
   never_refused (OtherPages first) (header, text, is, f) some = f.other (run_at header.spaces text.run f.index f.entry _ (by_text header text is).of_store f.is)
-  never_refused (Mixed s p) (header, text, is, has, placed) some = placed ((by_text header text is.log).placed s p has)
-  never_refused (NotChosen s p) (header, text, is, has, placed, none) some = let page = (by_text header text is.log).pages.pages s p has in none page.chosen page.is
+  never_refused (Mixed s p) (header, text, is, f) some = f.other ((by_text header text is.log).placed s p f.has)
+  never_refused (NotChosen s p) (header, text, f) some = f.none.none c (by_text header text f.none.homes.run.log)
   never_refused (NoText s p fault) (header, text, f) some = f.none.none c (by_text header text f.none.homes.run.log)
   never_refused (Head s) (header, text, f) some = f.none.none c (by_text header text f.none.homes.run.log)
   never_refused (Slot s p i) (header, text, f) some = f.none.none c (by_text header text f.none.homes.run.log)
@@ -86,7 +89,7 @@ module _ (image : Image) (keys : List RingEntry) where
   header_refused (LateBlock i number) is = absurd is
   header_refused OutOfMemory is = tt
 
-  pub length_refused : (header : HeldHeader) → HasHeader image header → 12288 ≤ length (image.bytes Log) → (refusal : Refusal) → IsLengthFault image header refusal → IsRefusalOf image keys refusal
+  pub length_refused : (header : HeldHeader) → HasHeader image header → front_blocks * block_bytes ≤ length (image.bytes Log) → (refusal : Refusal) → IsLengthFault image header refusal → IsRefusalOf image keys refusal
   length_refused header is long (Length f) lacks = (header, is, long, lacks)
   length_refused header is long NoHeader lacks = absurd lacks
   length_refused header is long NoCheckpoint lacks = absurd lacks
@@ -109,44 +112,24 @@ module _ (image : Image) (keys : List RingEntry) where
 
 module _ (files : ImageFiles) (keys : List RingEntry) (header : HeldHeader) (text : LogView (List Change)) (run : HasStoreRun (image_of files) keys header text) where
   order : are_in_order 0 header.spaces ≡ true
-  order = header_order (place 4096 0 files.log) header run.log.files.is_header
+  order = header_order (place block_bytes 0 files.log) header run.log.files.is_header
 
   -- a fact of a page is one of the page that a refusal names
   moved : (P : ℕ → ℕ → Type 0) (s p z q : ℕ) → z ≡ s → q ≡ p → P s p → P z q
   moved P s p z q zs qp fact = subst (λ (n : ℕ). P n q) (sym zs) (subst (λ (n : ℕ). P s n) (sym qp) fact)
 
   pub home_refused : (refusal : Refusal) → HasHomeFault files header.spaces refusal → IsRefusalOf (image_of files) keys refusal
-  home_refused (Mixed z q) f =
-      let p = f.fault.0 in
-      let s = f.space.space in
-      let fault = f.fault.2 in
-      moved (λ s p. IsRefusalOf (image_of files) keys (Mixed s p)) s p z q fault.0 fault.1 (header, text, run, has_named header.spaces f.space p order f.named f.fault.1, fault.2)
-  home_refused (NotChosen z q) f =
-      let p = f.fault.0 in
-      let s = f.space.space in
-      let fault = f.fault.2 in
-      let none = λ (o : Option Text) (is : IsChosen (view text (image_of files)) s p o). fault.3 o (chosen_over (view text (image_of files)) (page_view (place 16384 p (space_bytes files.spaces s)) files.double) s p refl (λ i. refl) o is) in
-      moved (λ s p. IsRefusalOf (image_of files) keys (NotChosen s p)) s p z q fault.0 fault.1 (header, text, run, has_named header.spaces f.space p order f.named f.fault.1, fault.2, none)
-  home_refused NoHeader f = absurd f.fault.2
-  home_refused (Length g) f = absurd f.fault.2
-  home_refused NoCheckpoint f = absurd f.fault.2
-  home_refused (NoKey number version) f = absurd f.fault.2
-  home_refused (NoChanges first at) f = absurd f.fault.2
-  home_refused (OtherPages first) f = absurd f.fault.2
-  home_refused (NoText s p fault) f = absurd f.fault.2
-  home_refused (Head s) f = absurd f.fault.2
-  home_refused (Slot s p i) f = absurd f.fault.2
-  home_refused (LateBlock i number) f = absurd f.fault.2
-  home_refused OutOfMemory f = absurd f.fault.2
+  home_refused refusal f = subst (λ (r : Refusal). IsRefusalOf (image_of files) keys r) (sym f.fault.is) (header, text, run, first)
+    where
+      before : (z q : ℕ) → has_page header.spaces z q ≡ true → Precedes z q f.space.space f.fault.page → IsPlaced q (place page_bytes q (space_bytes files.spaces z))
+      before z q has (inl lt) = homes_all files (take f.named.index header.spaces) f.before z q (before_in 0 header.spaces f.named.index f.space _ z q order f.named.is lt has)
+      before z q has (inr (same, lt)) = subst (λ (s : ℕ). IsPlaced q (place page_bytes q (space_bytes files.spaces s))) (sym same) (f.fault.before q lt)
+
+      first : IsFirstMixedHome (image_of files) keys header f.space.space f.fault.page
+      first = record { has = has_named header.spaces f.space f.fault.page order f.named f.fault.within; before = before; other = f.fault.other }
 
   pub homes_of : AreHomesRight files header.spaces → HasHomes (image_of files) keys header text
-  homes_of are = record {
-    run = run;
-    placed = λ s p has. (homes_all files header.spaces are s p has).placed;
-    chosen = λ s p has.
-        let home = homes_all files header.spaces are s p has in
-        (home.chosen, chosen_over (page_view (place 16384 p (space_bytes files.spaces s)) files.double) (view text (image_of files)) s p refl (λ i. refl) home.chosen home.is);
-  }
+  homes_of are = record { run = run; placed = λ s p has. homes_all files header.spaces are s p has }
 
 module _ (files : ImageFiles) (keys : List RingEntry) (header : HeldHeader) (text : LogView (List Change)) (homes : HasHomes (image_of files) keys header text) where
   head_memory : (s : ℕ) → Head s ≡ OutOfMemory → ⊥
@@ -162,60 +145,72 @@ module _ (files : ImageFiles) (keys : List RingEntry) (header : HeldHeader) (tex
     abbrev bytes : List ℕ
     bytes = space_bytes files.spaces h.space
 
-    page_refused : (p : ℕ) (salt : List ℕ) → p < h.pages → IsReadUnder image keys header text h.space p salt → (r : Refusal) → (r ≢ OutOfMemory → HasNoContents image keys header text) → IsPageRefusal header keys text (place 16384 p bytes) files.double salt h.space p r → IsRefusalOf image keys r
-    page_refused p salt within under (NotChosen z q) none (zs, qp, is) =
+    page_refused : (p : ℕ) (salt : List ℕ) → IsReadUnder image keys header text h.space p salt → AreRightBefore image keys header text h.space p → (r : Refusal) → (r ≢ OutOfMemory → HasNoContents image keys header text) → IsPageRefusal header keys text (place page_bytes p bytes) files.double salt h.space p r → IsRefusalOf image keys r
+    page_refused p salt under before (NotChosen z q) none (zs, qp, is) =
         moved files keys header text homes.run (λ s p. IsRefusalOf image keys (NotChosen s p)) h.space p z q zs qp (
           header,
           text,
-          homes.run,
-          has_named header.spaces h p ordered named within,
-          homes.placed h.space p (has_named header.spaces h p ordered named within),
-          λ o chosen. is (λ _. salt) refl o (chosen_over (view text image) (run_view text (place 16384 p bytes) files.double) h.space p refl (λ i. refl) o chosen),
+          record {
+            none = none (λ e. cc);
+            before = before;
+            page = under.page;
+            nothing = λ o chosen. is (λ _. salt) refl o (chosen_over (view text image) (page_view text (place page_bytes p bytes) files.double) h.space p refl (λ i. refl) o chosen);
+          },
         )
-    page_refused p salt within under (NoText z q fault) none (zs, qp, is) =
+    page_refused p salt under before (NoText z q fault) none (zs, qp, is) =
         moved files keys header text homes.run (λ s p. IsRefusalOf image keys (NoText s p fault)) h.space p z q zs qp
-        (header, text, record { none = none (λ e. cc); salt = salt; under = under; is = λ salts same. fault_whole header keys text files salts h.space p fault (is salts same) })
-    page_refused p salt within under (Slot z q i) none (zs, qp, x, is, agree, other) =
+        (header, text, record { none = none (λ e. cc); before = before; salt = salt; under = under; is = λ salts same. fault_whole header keys text files salts h.space p fault (is salts same) })
+    page_refused p salt under before (Slot z q i) none (zs, qp, x, is, agree, other) =
         moved files keys header text homes.run (λ s p. IsRefusalOf image keys (Slot s p i)) h.space p z q zs qp (
           header,
           text,
           record {
             none = none (λ e. cc);
+            before = before;
             salt = salt;
             under = under;
             holds = x;
-            is = λ salts same. page_whole header keys text files salts h.space p (λ z q. x) x refl (is salts same);
-            before = λ j u lt at salts same. slot_whole header keys text files salts h.space p (λ z q. x) x refl u (agree j lt salts same u (live_one header keys text files salts h.space p j u at));
+            to = record {
+              is = λ salts same. page_whole header keys text files salts h.space p (λ z q. x) x refl (is salts same);
+              slots = λ j u lt at salts same. slot_whole header keys text files salts h.space p (λ z q. x) x refl u (agree j lt salts same u (live_one header keys text files salts h.space p j u at));
+            };
             other = other.0;
             live = live_whole header keys text files (λ _. salt) h.space p i other.0 other.1;
             differs = λ salts same r. other.2 salts same (λ z q. x) refl (slot_one_view header keys text files salts h.space p (λ z q. x) x refl other.0 r);
           },
         )
-    page_refused p salt within under OutOfMemory none is = tt
-    page_refused p salt within under NoHeader none is = absurd is
-    page_refused p salt within under (Length f) none is = absurd is
-    page_refused p salt within under NoCheckpoint none is = absurd is
-    page_refused p salt within under (NoKey n v) none is = absurd is
-    page_refused p salt within under (NoChanges first at) none is = absurd is
-    page_refused p salt within under (OtherPages first) none is = absurd is
-    page_refused p salt within under (Mixed z q) none is = absurd is
-    page_refused p salt within under (Head z) none is = absurd is
-    page_refused p salt within under (LateBlock i n) none is = absurd is
+    page_refused p salt under before OutOfMemory none is = tt
+    page_refused p salt under before NoHeader none is = absurd is
+    page_refused p salt under before (Length f) none is = absurd is
+    page_refused p salt under before NoCheckpoint none is = absurd is
+    page_refused p salt under before (NoKey n v) none is = absurd is
+    page_refused p salt under before (NoChanges first at) none is = absurd is
+    page_refused p salt under before (OtherPages first) none is = absurd is
+    page_refused p salt under before (Mixed z q) none is = absurd is
+    page_refused p salt under before (Head z) none is = absurd is
+    page_refused p salt under before (LateBlock i n) none is = absurd is
 
-    head_of : (info : SpaceInfo) → HeadHolds text (place 16384 0 bytes) files.double h.space info → HasHead image keys header text h.space info
-    head_of info holds = record { is = λ salts. page_whole header keys text files salts h.space 0 (λ z q. HeadPage info) (HeadPage info) refl (holds.any header keys salts).page }
+    module _ (held : List SpaceContents) (all : AllGive header keys text files (take named.index header.spaces) held) where
+      before : (p : ℕ) → ((q : ℕ) → q < p → IsPageRight image keys header text h.space q) → (0 < p → IsHeadRight image keys header text h.space) → AreRightBefore image keys header text h.space p
+      before p pages head = right_before files keys header text ordered h named held all p pages head
 
-    page_at : (p : ℕ) → p < h.pages → IsPageAt header.spaces h.space p
-    page_at p within = record { space = h; named = named; id = refl; within = within }
+      -- no page comes before page 0 in its space
+      before_head : AreRightBefore image keys header text h.space 0
+      before_head = before 0 (λ q lt. absurd (omega (arith, lt))) (λ lt. absurd (omega (arith, lt)))
 
-    pub space_refused : (r : Refusal) → 0 < h.pages → (r ≢ OutOfMemory → HasNoContents image keys header text) → IsSpaceRefusal header keys text bytes files.double h r → IsRefusalOf image keys r
-    space_refused r some none (AtHead is) = page_refused 0 [] some (record { page = page_at 0 some; salted = λ other. absurd (other refl) }) r none (is header keys [])
-    space_refused r some none (AtInfo info holds other is) =
-        subst (λ (x : Refusal). IsRefusalOf image keys x) (sym is)
-        (header, text, record { none = none (λ e. head_memory h.space (sym is ∙ e)); space = h; named = named; id = refl; info = info; head = head_of info holds; other = other })
-    space_refused r some none (AtPage info holds is refused) =
-        page_refused refused.page info.salt refused.within (record { page = page_at refused.page refused.within; salted = λ _. record { info = info; head = head_of info holds; is = refl } }) r none refused.is
-    space_refused r some none (NoMemory is) = subst (λ (x : Refusal). IsRefusalOf image keys x) (sym is) tt
+      pub space_refused : (r : Refusal) → 0 < h.pages → (r ≢ OutOfMemory → HasNoContents image keys header text) → IsSpaceRefusal header keys text bytes files.double h r → IsRefusalOf image keys r
+      space_refused r some none (AtHead is) = page_refused 0 [] (record { page = page_at files keys header text h named 0 some; salted = λ other. absurd (other refl) }) before_head r none (is header keys [])
+      space_refused r some none (AtInfo info holds other is) =
+          subst (λ (x : Refusal). IsRefusalOf image keys x) (sym is)
+          (header, text, record { none = none (λ e. head_memory h.space (sym is ∙ e)); before = before_head; space = h; named = named; id = refl; info = info; head = head_to files keys header text h named info some holds; other = other })
+      space_refused r some none (AtPage info holds is refused) =
+          page_refused refused.page info.salt (under_head files keys header text h named info some holds refused.page refused.within)
+          (before refused.page own (λ lt. head_is files keys header text h named info some holds is)) r none refused.is
+        where
+          own : (q : ℕ) → q < refused.page → IsPageRight image keys header text h.space q
+          own zero lt = head_right files keys header text h named info some holds
+          own (suc i) lt = let long = refused.long in let within = refused.within in page_right files keys header text h named info some holds i refused.held (omega (arith, lt, long)) (omega (arith, lt, within)) refused.before
+      space_refused r some none (NoMemory is) = subst (λ (x : Refusal). IsRefusalOf image keys x) (sym is) tt
 
   pub contents_refused : (r : Refusal) → IsSpacesRefusal header keys text files header.spaces r → IsRefusalOf image keys r
   contents_refused r refused =
@@ -226,4 +221,4 @@ module _ (files : ImageFiles) (keys : List RingEntry) (header : HeldHeader) (tex
         homes = homes;
         none = λ c by. none_recovers header keys text files c by.pages ordered by.spaces h refused.named (refused_space header keys text bytes files.double h r mem some refused.is);
       } in
-      space_refused h refused.named r some none refused.is
+      space_refused h refused.named refused.held refused.before r some none refused.is

@@ -5,12 +5,13 @@ use Rattle.places.specs.Places.{place}
 use Rattle.redo_text.specs.Reading.{block_version}
 use Rattle.redo_text.specs.declared.change.Change.{Change}
 use Rattle.store_image.specs.Places.{LogView}
-use Rattle.store_image.specs.View.{Text, IsChosen, IsLive}
+use Rattle.store_image.specs.View.{Text, IsChosen, IsLive, slot_count}
 use Rattle.store_files.specs.Header.{HeldHeader, HeldSpace}
 use Rattle.store_files.specs.Run.{block_at}
 use Rattle.crash_image.specs.Stands.{Named}
-use Rattle.image_pages.specs.Choosing.{page_view}
+use Rattle.image_pages.specs.Choosing.{page_view, no_log}
 use Rattle.image_reader.specs.Files.{ImageFiles, space_bytes}
+use Rattle.page_places.specs.Texts.{page_bytes}
 
 -- no pair stands at two places
 abbrev pub AreOnce : List (ℕ × ℕ) → Type 0
@@ -39,19 +40,19 @@ IsTextName id version x = (version ≢ 0) × (x ≡ (id, version))
 
 -- that of the text that a page is read from
 abbrev pub IsChosenName : List ℕ → List ℕ → ℕ → ℕ → ℕ → ℕ × ℕ → Type 0
-IsChosenName home double s p id x = (t : Text) × IsChosen (page_view home double) s p (Some t) × IsTextName id t.version x
+IsChosenName home double s p id x = (t : Text) × IsChosen (page_view no_log home double) s p (Some t) × IsTextName id t.version x
 
 -- that of the text in a slot that is live for it
 abbrev pub IsSlotName : List ℕ → List ℕ → ℕ → ℕ → ℕ → ℕ → ℕ × ℕ → Type 0
-IsSlotName home double s p id i x = (t : Text) × IsLive (page_view home double) s p i t × IsTextName id t.version x
+IsSlotName home double s p id i x = (t : Text) × IsLive (page_view no_log home double) s p i t × IsTextName id t.version x
 
 -- those of a page
 abbrev pub IsPageName : List ℕ → List ℕ → ℕ → ℕ → ℕ → ℕ × ℕ → Type 0
-IsPageName home double s p id x = IsChosenName home double s p id x ⊎ Below (IsSlotName home double s p id) 64 x
+IsPageName home double s p id x = IsChosenName home double s p id x ⊎ Below (IsSlotName home double s p id) slot_count x
 
 -- of page p of a space
 abbrev pub IsPageNameIn : List ℕ → List ℕ → ℕ → ℕ → ℕ → ℕ × ℕ → Type 0
-IsPageNameIn bytes double s id p x = IsPageName (place 16384 p bytes) double s p id x
+IsPageNameIn bytes double s id p x = IsPageName (place page_bytes p bytes) double s p id x
 
 -- those of a space: the active version, and those of its pages
 abbrev pub IsSpaceName : ImageFiles → ℕ → HeldSpace → ℕ × ℕ → Type 0

@@ -3,23 +3,27 @@ ghost use Rattle.std.specs.Prelude.{◌≡◌, ◌≤◌, ◌<◌, ◌+◌, ◌*
 ghost use Rattle.store_files.specs.Pages.{has_page};
 ghost use Rattle.crash_image.specs.Recovers.{AreLong, AreOfStore, IsOfStore, RunIsOfStore, SpacesLong};
 ghost use Rattle.image_reader.specs.Files.{image_of, space_bytes};
-ghost use Rattle.image_reader.specs.Homes.{AreHomesRight, AreRightBelow, HasHomeFault, IsHomeFault, IsHomeRight, IsSpaceFault};
+ghost use Rattle.image_reader.specs.Homes.{AreHomesRight, AreRightBelow, HasHomeFault, IsFirstMixed};
 ghost use Rattle.image_reader.specs.Lengths.{IsFirstForeign, IsFirstOther, IsLengthFault};
+ghost use Rattle.page_places.specs.Texts.{page_bytes, slot_size};
+ghost use Rattle.store_image.specs.View.{slot_count};
 
 use crate::files::StoreFiles;
 use crate::refusal::Refusal;
 use disk_model::FileName;
 use image_log::{LogText, StoreHeader, StoreSpace, place};
-use image_pages::{Chosen, chosen_text, is_placed};
+use image_pages::is_placed;
+use page_places::{PAGE_BYTES, SLOT_BYTES, SLOTS};
 use redo_text::{Change, Mtr};
+use store_files::{BLOCK_BYTES, FRONT_BLOCKS};
 
 // Whether the file of a space is as long as its pages.
 fn has_length(files: &StoreFiles, space: &StoreSpace) -> bool
-    ensures yes { result ≡ true → length (space_bytes files.now.spaces space.now.space) ≡ space.now.pages * 16384 }
-    ensures no { result ≡ false → length (space_bytes files.now.spaces space.now.space) ≡ space.now.pages * 16384 → ⊥ }
+    ensures yes { result ≡ true → length (space_bytes files.now.spaces space.now.space) ≡ space.now.pages * page_bytes }
+    ensures no { result ≡ false → length (space_bytes files.now.spaces space.now.space) ≡ space.now.pages * page_bytes → ⊥ }
 {
     let bytes = files.space(space.space());
-    bytes.len() as u64 == u64::from(space.pages()) * 16384
+    bytes.len() as u64 == u64::from(space.pages()) * PAGE_BYTES as u64
 }
 
 // The first of these spaces whose file isn't as long as its pages.
@@ -40,10 +44,12 @@ pub(crate) fn check_lengths(files: &StoreFiles, header: &StoreHeader) -> Result<
     ensures ok { OnOk result (AreLong (image_of files.now) header.now) }
     ensures fault { IfErr result (IsLengthFault (image_of files.now) header.now) }
 {
-    if files.log().len() as u64 != (3 + u64::from(header.blocks())) * 4096 {
+    if files.log().len() as u64
+        != (FRONT_BLOCKS as u64 + u64::from(header.blocks())) * BLOCK_BYTES as u64
+    {
         return Err(Refusal::Length(FileName::Log));
     }
-    if files.double().len() != 1_081_344 {
+    if files.double().len() != SLOTS * SLOT_BYTES {
         return Err(Refusal::Length(FileName::Double));
     }
     match other_length(files, header.spaces()) {
@@ -103,49 +109,28 @@ pub(crate) fn other_pages(header: &StoreHeader, log: &LogText) -> Option<u64>
     None
 }
 
-// Whether a home has no text of another page, and the page is read from something.
-fn check_home(home: &[u8], double: &[u8], space: u32, page: u32) -> Result<(), Refusal>
-    requires home { length home.now ≡ 16384 }
-    requires double { length double.now ≡ 64 * 16896 }
-    ensures ok { OnOk result (IsHomeRight home.now double.now space page) }
-    ensures fault { IfErr result (IsHomeFault home.now double.now space page) }
-{
-    if !is_placed(home, page) {
-        return Err(Refusal::Mixed { space, page });
-    }
-    match chosen_text(home, double, space, page) {
-        Chosen::Nothing => Err(Refusal::NotChosen { space, page }),
-        Chosen::Home => Ok(()),
-        Chosen::Copy(_slot) => Ok(()),
-        Chosen::Unused => Ok(()),
-    }
-}
-
-fn check_space_homes(bytes: &[u8], double: &[u8], space: u32, pages: u32) -> Result<(), Refusal>
-    requires bytes { length bytes.now ≡ pages * 16384 }
-    requires double { length double.now ≡ 64 * 16896 }
-    ensures ok { OnOk result (AreRightBelow bytes.now double.now space pages) }
-    ensures fault { IfErr result (IsSpaceFault bytes.now double.now space pages) }
+// Whether no home of a space has the text of another page.
+fn check_space_homes(bytes: &[u8], space: u32, pages: u32) -> Result<(), Refusal>
+    requires { length bytes.now ≡ pages * page_bytes }
+    ensures ok { OnOk result (AreRightBelow bytes.now pages) }
+    ensures fault { IfErr result (IsFirstMixed bytes.now space pages) }
 {
     for page in 0..pages {
-        check_home(place(bytes, 16384, page as usize), double, space, page)?;
+        if !is_placed(place(bytes, PAGE_BYTES, page as usize), page) {
+            return Err(Refusal::Mixed { space, page });
+        }
     }
     Ok(())
 }
 
-/// Whether each page is read from something, and no home has the text of another page.
+/// Whether no home has the text of another page: the first that has, by space and page.
 pub(crate) fn check_homes(files: &StoreFiles, header: &StoreHeader) -> Result<(), Refusal>
     requires { AreLong (image_of files.now) header.now }
     ensures ok { OnOk result (AreHomesRight files.now header.now.spaces) }
     ensures fault { IfErr result (HasHomeFault files.now header.now.spaces) }
 {
     for space in header.spaces() {
-        check_space_homes(
-            files.space(space.space()),
-            files.double(),
-            space.space(),
-            space.pages(),
-        )?;
+        check_space_homes(files.space(space.space()), space.space(), space.pages())?;
     }
     Ok(())
 }

@@ -1,10 +1,12 @@
 // What the files of a store recover to.
-ghost use Rattle.std.specs.Prelude.{◌≢◌, ◌≤◌, ℕ, List, length, IfOk, IfErr};
+ghost use Rattle.std.specs.Prelude.{◌≢◌, ◌≤◌, ◌*◌, ℕ, List, length, IfOk, IfErr};
 ghost use Rattle.store_model.specs.declared.contents.SpaceContents.{SpaceContents};
 ghost use Rattle.crash_image.specs.Recovers.{HasHeader, Recovers};
 ghost use Rattle.image_reader.specs.Files.{image_of};
 ghost use Rattle.image_reader.specs.Refusals.{IsHeaderFault, IsRecovery, IsRefusalOf};
 ghost use Rattle.image_reader.specs.declared.refusal.Refusal.TheVariants.{OutOfMemory as NoMemory};
+ghost use Rattle.store_image.specs.View.{block_bytes};
+ghost use Rattle.store_image.specs.Checkpoint.{front_blocks};
 
 use crate::checks::{check_homes, check_lengths, other_pages};
 use crate::files::StoreFiles;
@@ -13,6 +15,7 @@ use crate::refusal::Refusal;
 use image_log::{LogText, StoreHeader, late_block, place, read_header, read_log};
 use key_ring::Ring;
 use std::alloc::Global;
+use store_files::{BLOCK_BYTES, FRONT_BLOCKS};
 use store_model::Contents;
 
 /// What a store's files recover to.
@@ -30,14 +33,14 @@ pub struct Recovered {
 
 fn header_of(alloc: Global, files: &StoreFiles) -> Result<StoreHeader, Refusal>
     ensures ok { IfOk result (λ header. HasHeader (image_of files.now) header) }
-    ensures long { IfOk result (λ header. 12288 ≤ length files.now.log) }
+    ensures long { IfOk result (λ header. front_blocks * block_bytes ≤ length files.now.log) }
     ensures fault { IfErr result (IsHeaderFault (image_of files.now)) }
 {
     let log = files.log();
-    if log.len() < 12288 {
+    if log.len() < FRONT_BLOCKS * BLOCK_BYTES {
         return Err(Refusal::NoHeader);
     }
-    let Some(header) = read_header(alloc, place(log, 4096, 0))? else {
+    let Some(header) = read_header(alloc, place(log, BLOCK_BYTES, 0))? else {
         return Err(Refusal::NoHeader);
     };
     Ok(header)
@@ -52,7 +55,7 @@ pub fn recover(alloc: Global, files: &StoreFiles, keys: &Ring) -> Result<Recover
     // The header, the log's text, the contents and the last block are those of Recovers.
     ensures ok { IfOk result (λ r. IsRecovery (image_of files.now) keys.now r.header r.log r.contents r.last) }
     ensures recovers { IfOk result (λ r. Recovers (image_of files.now) keys.now r.contents r.last) }
-    // The condition that fails.
+    // The first condition that fails, by space and page where it is one of pages.
     ensures fault { IfErr result (IsRefusalOf (image_of files.now) keys.now) }
     // Files that recover to contents are never refused.
     ensures never { IfErr result (λ refusal. refusal ≢ NoMemory → (c : List SpaceContents) (last : ℕ) → Recovers (image_of files.now) keys.now c last → ⊥) }

@@ -7,12 +7,17 @@ ghost use Rattle.image_reader.specs.Spaces.{AllGive, SpaceHolds, HeadHolds, Page
 ghost use Rattle.crash_image.specs.Recovers.{AreLong};
 ghost use Rattle.store_files.specs.Header.{are_in_order};
 ghost use Rattle.image_reader.specs.Files.{image_of};
+ghost use Rattle.page_places.specs.Texts.{page_bytes, slot_size};
+ghost use Rattle.store_image.specs.View.{slot_count};
 
 use crate::files::StoreFiles;
 use crate::refusal::Refusal;
 use image_log::{LogText, StoreHeader, StoreSpace, place};
-use image_pages::{PageFault, other_head_slot, other_slot, recover_head, recover_page};
+use image_pages::{
+    PageFault, PageSource, SpaceKeys, other_head_slot, other_slot, recover_head, recover_page,
+};
 use key_ring::Ring;
+use page_places::PAGE_BYTES;
 use space_head::SpaceInfo;
 use std::alloc::Global;
 use store_model::{Contents, PageList, PlainPage, SpaceContents};
@@ -48,8 +53,8 @@ fn head_of(
     double: &[u8],
     space: u32,
 ) -> Result<SpaceInfo, Refusal>
-    requires home { length home.now ≡ 16384 }
-    requires double { length double.now ≡ 64 * 16896 }
+    requires home { length home.now ≡ page_bytes }
+    requires double { length double.now ≡ slot_count * slot_size }
     ensures ok { IfOk result (HeadHolds log.now home.now double.now space) }
     ensures fault { IfErr result (IsHeadRefusal log.now home.now double.now space) }
 {
@@ -69,35 +74,26 @@ fn head_of(
 // What a page from page 1 on recovers to, also by each live slot.
 fn page_of(
     alloc: Global,
-    header: &StoreHeader,
-    keys: &Ring,
+    keys: &SpaceKeys,
     log: &LogText,
-    salt: &[u8; 16],
-    home: &[u8],
-    double: &[u8],
-    space: u32,
-    number: u32,
+    source: &PageSource,
 ) -> Result<Option<PlainPage>, Refusal>
-    requires home { length home.now ≡ 16384 }
-    requires double { length double.now ≡ 64 * 16896 }
-    requires number { 0 < number }
-    ensures ok { IfOk result (λ page. PageHolds header.now keys.now log.now home.now double.now salt.now space number (page_held page)) }
-    ensures fault { IfErr result (IsPageRefusal header.now keys.now log.now home.now double.now salt.now space number) }
+    requires home { length source.now.home.now ≡ page_bytes }
+    requires double { length source.now.double.now ≡ slot_count * slot_size }
+    requires number { 0 < source.now.number }
+    requires key_id { keys.now.key_id ≡ key_id_of keys.now.header.now.spaces source.now.space }
+    ensures ok { IfOk result (λ page. PageHolds keys.now.header.now keys.now.ring.now log.now source.now.home.now source.now.double.now keys.now.salt.now source.now.space source.now.number (page_held page)) }
+    ensures fault { IfErr result (IsPageRefusal keys.now.header.now keys.now.ring.now log.now source.now.home.now source.now.double.now keys.now.salt.now source.now.space source.now.number) }
 {
-    let key_id = key_id_of(header.spaces(), space);
-    match recover_page(
-        alloc, header, keys, log, key_id, salt, home, double, space, number,
-    ) {
-        Err(fault) => Err(refused(fault, space, number)),
+    match recover_page(alloc, keys, log, source) {
+        Err(fault) => Err(refused(fault, source.space, source.number)),
         Ok(page) => {
-            let slot = other_slot(
-                alloc, header, keys, log, key_id, salt, home, double, space, number, &page,
-            )?;
+            let slot = other_slot(alloc, keys, log, source, &page)?;
             match slot {
                 None => Ok(page),
                 Some(slot) => Err(Refusal::Slot {
-                    space,
-                    page: number,
+                    space: source.space,
+                    page: source.number,
                     slot,
                 }),
             }
@@ -108,26 +104,31 @@ fn page_of(
 // The pages of a space from page 1 on.
 fn pages_of(
     alloc: Global,
-    header: &StoreHeader,
-    keys: &Ring,
+    keys: &SpaceKeys,
     log: &LogText,
-    salt: &[u8; 16],
     bytes: &[u8],
     double: &[u8],
     space: u32,
     pages: u32,
 ) -> Result<PageList, Refusal>
-    requires bytes { length bytes.now ≡ pages * 16384 }
+    requires bytes { length bytes.now ≡ pages * page_bytes }
     requires some { 0 < pages }
-    requires double { length double.now ≡ 64 * 16896 }
-    ensures ok { IfOk result (PagesHold header.now keys.now log.now bytes.now double.now salt.now space) }
+    requires double { length double.now ≡ slot_count * slot_size }
+    requires key_id { keys.now.key_id ≡ key_id_of keys.now.header.now.spaces space }
+    ensures ok { IfOk result (PagesHold keys.now.header.now keys.now.ring.now log.now bytes.now double.now keys.now.salt.now space) }
     ensures long { IfOk result (λ list. length list + 1 ≡ pages) }
-    ensures fault { IfErr result (IsPagesRefusal header.now keys.now log.now bytes.now double.now salt.now space pages) }
+    ensures fault { IfErr result (IsPagesRefusal keys.now.header.now keys.now.ring.now log.now bytes.now double.now keys.now.salt.now space pages) }
 {
     let mut list = Vec::new(alloc);
     for number in 1..pages {
-        let home = place(bytes, 16384, number as usize);
-        let page = page_of(alloc, header, keys, log, salt, home, double, space, number)?;
+        let home = place(bytes, PAGE_BYTES, number as usize);
+        let source = PageSource {
+            home,
+            double,
+            space,
+            number,
+        };
+        let page = page_of(alloc, keys, log, &source)?;
         list.push(page)?;
     }
     Ok(PageList::of(list))
@@ -150,28 +151,24 @@ fn space_of(
     double: &[u8],
     space: &StoreSpace,
 ) -> Result<SpaceContents, Refusal>
-    requires bytes { length bytes.now ≡ space.now.pages * 16384 }
+    requires bytes { length bytes.now ≡ space.now.pages * page_bytes }
     requires some { 0 < space.now.pages }
-    requires double { length double.now ≡ 64 * 16896 }
+    requires double { length double.now ≡ slot_count * slot_size }
     ensures ok { IfOk result (SpaceHolds header.now keys.now log.now bytes.now double.now space.now) }
     ensures fault { IfErr result (IsSpaceRefusal header.now keys.now log.now bytes.now double.now space.now) }
 {
     let id = space.space();
-    let info = head_of(alloc, log, place(bytes, 16384, 0), double, id)?;
+    let info = head_of(alloc, log, place(bytes, PAGE_BYTES, 0), double, id)?;
     if !is_space(&info, space) {
         return Err(Refusal::Head { space: id });
     }
-    let pages = pages_of(
-        alloc,
+    let keys = SpaceKeys {
         header,
-        keys,
-        log,
-        &info.salt,
-        bytes,
-        double,
-        id,
-        space.pages(),
-    )?;
+        ring: keys,
+        key_id: key_id_of(header.spaces(), id),
+        salt: &info.salt,
+    };
+    let pages = pages_of(alloc, &keys, log, bytes, double, id, space.pages())?;
     Ok(SpaceContents { info, pages })
 }
 

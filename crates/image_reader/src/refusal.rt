@@ -9,10 +9,11 @@ use thiserror::Error;
 /// Why the files of a store recover to nothing: a condition that fails.
 ///
 /// The conditions come in this order, and each of the kinds before the one that is answered holds of
-/// all: the header; the lengths; the log's text; the pages of its changes; each home (`Mixed`,
-/// `NotChosen`); what each page gives (`NoText`, `Head`, `Slot`); late blocks. The reading goes by space
-/// and page. That it is the first of its kind is stated of lengths, of the log's text, of changes, of
-/// the slots of one page and of late blocks, and of pages it isn't.
+/// all: the header; the lengths; the log's text; the pages of its changes; the homes (`Mixed`); the
+/// pages; late blocks. Of each kind the first is answered: of homes and pages by space, in order of
+/// id, and then by page. Of a page, it is first whether it is read from something (`NotChosen`), then
+/// whether that gives it (`NoText`), then its slots (`Slot`), and of page 0 then what it says of the
+/// space (`Head`): each page before the one that is answered is right in all these.
 #[derive(Clone, Copy, Debug, PartialEq, Eq, Error)]
 pub enum Refusal {
     /// Block 0 of the log's file is no valid header.
@@ -45,7 +46,7 @@ pub enum Refusal {
     OtherPages {
         first: u64,
     },
-    /// The page's home has the text of another page.
+    /// The page's home has the text of another page, and no home before it has.
     #[error("another page at page {page} of space {space}")]
     Mixed {
         space: u32,

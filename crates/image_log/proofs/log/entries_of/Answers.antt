@@ -23,6 +23,13 @@ entry_of-requires-clause-small c =
     let small = c.requires.small in
     omega (arith, within, small)
 
+pub entry_of-requires-clause-whole : goal.entry_of-requires-clause-whole
+entry_of-requires-clause-whole c =
+    let xs = c.args.run.now.sizes.items in
+    let i = c.loop-size.size-index in
+    let left = left_of xs c.deref-size-items.result.now i c.deref-size-items.ensures.value c.loop-size-test.true in
+    (head_whole c.args.header.now c.args.keys.now c.args.log.now c.loop-size.first (get_or c.deref-size-items.result.now i 0) (drop (suc i) xs) c.args.run.now.end (subst (λ (l : List ℕ). MakeWholeMtrs c.args.header.now.blocks c.args.log.now c.loop-size.first l c.args.run.now.end) left c.loop-size.invariant.rest)).0
+
 pub returns-in_err-entry_of-clause-fault : goal.returns-in_err-entry_of-clause-fault
 returns-in_err-entry_of-clause-fault c =
     let is : IsErrAnd c.from_residual.result (λ e. e ≡ c.in_err-entry_of.field-0.0) = search rules in

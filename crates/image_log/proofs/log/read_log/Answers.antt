@@ -3,10 +3,10 @@ use Rattle.std.specs.Prelude.{IsErrAnd}
 use Rattle.cause_core.proofs.Causes.{handed}
 use Rattle.redo_text.specs.declared.change.Change.{Change}
 use Rattle.store_image.specs.Places.{LogView}
-use Rattle.store_files.specs.Run.{IsLogOf, MakeWholeMtrs}
+use Rattle.store_files.specs.Run.{IsLogOf, MakeWholeMtrs, NoWholeMtr}
 use Rattle.image_log.specs.declared.fault.LogTextFault.{LogTextFault}
 use Rattle.image_log.specs.declared.fault.LogTextFault.TheVariants.{NoCheckpoint, OutOfMemory}
-use Rattle.image_log.specs.Logs.{IsLongest, checkpoint_of}
+use Rattle.image_log.specs.Logs.{checkpoint_of}
 use Rattle.store_files.proofs.CheckpointBounds.{from_bounds}
 use Rattle.image_log.proofs.Entries.{entry_fault, fault_refuses}
 use Rattle.image_log.proofs.log.read_log.Goals as goal
@@ -27,13 +27,13 @@ returns-in_err-run-clause-never c =
 pub returns-clause-ok : goal.returns-clause-ok
 returns-clause-ok c =
     let sizes = c.in_ok-sizes.sizes in
-    let longest = subst (λ (n : ℕ). IsLongest n c.args.log.now sizes.end) c.blocks-2.ensures c.in_ok-sizes.ensures.longest in record {
+    let longest = subst (λ (n : ℕ). NoWholeMtr n c.args.log.now sizes.end) c.blocks-2.ensures c.in_ok-sizes.ensures.longest in record {
       run = record {
         sequence = c.in-Some.newest.sequence;
         newest = c.in-Some.ensures.some;
         sizes = sizes.sizes.items;
         whole = subst (λ (n : ℕ). MakeWholeMtrs n c.args.log.now c.in-Some.newest.from sizes.sizes.items sizes.end) c.blocks-2.ensures c.in_ok-sizes.ensures.run;
-        longest = longest.ends;
+        longest = longest;
       };
       entries = c.in_ok-run.ensures.ok;
     }

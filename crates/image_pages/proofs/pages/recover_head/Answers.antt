@@ -1,10 +1,10 @@
 use Rattle.std.proofs.Common.{◌∙◌, subst, refl, Option, arith}
 use Rattle.space_head.specs.declared.space.SpaceInfo.{SpaceInfo}
-use Rattle.store_files.specs.Pages.{Head}
-use Rattle.image_pages.specs.Acting.{later_page}
+use Rattle.store_files.specs.Pages.{Head, mtr_acts}
 use Rattle.image_pages.specs.Meaning.{IsHeadText}
 use Rattle.image_pages.proofs.Recovered.{text_recovers, no_chosen, no_head, no_head_meaning, head_means, no_head_means, late_text, chosen_some, chosen_none}
 use Rattle.image_pages.proofs.pages.recover_head.Goals as goal
+use Rattle.store_image.specs.Recovers.{later_by}
 
 pub returns-in_default-clause-fault : goal.returns-in_default-clause-fault
 returns-in_default-clause-fault c = λ header keys salt salts same. no_chosen header keys c.args.log.now c.args.home.now c.args.double.now c.args.space 0 salts c.in_default.ensures
@@ -41,4 +41,4 @@ returns-clause-ok c = λ header keys salt salts same.
     text_recovers header keys c.args.log.now c.args.home.now c.args.double.now c.args.space 0 salts c.in-Some-chosen.text.now (Head c.in-Some-2.info) (Head c.later_head.result)
     (chosen_some c.args.home.now c.args.double.now c.args.space 0 c.chosen_bytes.result c.in-Some.chosen c.in-Some-chosen.text c.chosen_bytes.ensures c.in-Some.is c.in-Some-chosen.is)
     (head_means header keys salts c.args.space c.in-Some-chosen.text.now c.in-Some-2.info head) (omega (arith, end, lsn, within))
-    (c.later_head.ensures ∙ (λ i. later_page (lsn i) (c.run.ensures i) c.args.space 0 (Head c.in-Some-2.info)))
+    (c.later_head.ensures ∙ (λ i. later_by mtr_acts (lsn i) (c.run.ensures i) c.args.space 0 (Head c.in-Some-2.info)))

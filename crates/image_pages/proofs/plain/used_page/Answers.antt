@@ -6,6 +6,6 @@ use Rattle.image_pages.proofs.plain.used_page.Goals as goal
 
 pub returns : goal.returns
 returns c =
-    used_result c.args.header.now c.args.keys.now c.args.space c.args.number c.args.salt.now c.args.text.now c.args.key_id c.page_key-key.result c.plain_page.result
-    (c.page_key-key.ensures.value ∙ ap (λ (n : ℕ). option_map (λ local. record { local = local; algorithm = c.args.header.now.algorithm }) (local_key c.args.keys.now c.args.key_id n c.args.salt.now)) c.be32_at.ensures)
+    used_result c.args.keys.now.header.now c.args.keys.now.ring.now c.args.space c.args.number c.args.keys.now.salt.now c.args.text.now c.args.keys.now.key_id c.page_key-key.result c.plain_page.result
+    (c.page_key-key.ensures.value ∙ ap (λ (n : ℕ). option_map (λ local. record { local = local; algorithm = c.args.keys.now.header.now.algorithm }) (local_key c.args.keys.now.ring.now c.args.keys.now.key_id n c.args.keys.now.salt.now)) c.be32_at.ensures)
     c.requires.key_id c.requires.number c.page_key-key.ensures.known c.plain_page.ensures

@@ -11,7 +11,7 @@ returns-in-Some-clause-fault c =
     let from = c.from.ensures in
     let double = ap length c.double.ensures in
     let first = c.if-log-from.false in
-    let second = c.if-double-ne1081344.false in (
+    let second = c.if-double.false in (
       omega (arith, log, blocks, from, first),
       omega (arith, double, second),
       subst (λ (hs : List HeldSpace). IsFirstOther (image_of c.args.files.now) hs c.in-Some.space) c.spaces.ensures c.in-Some.ensures.some,

@@ -2,4 +2,4 @@ use Rattle.image_reader.specs.Homes.{AreRightBelow}
 use Rattle.image_reader.proofs.checks.check_space_homes.Given as goal
 
 abbrev pub invariant-loop-page : goal.invariant-loop-page
-invariant-loop-page l = AreRightBelow l.bytes l.double l.space l.page
+invariant-loop-page l = AreRightBelow l.bytes l.page
