@@ -5,3 +5,4 @@ pub mod Told
 pub mod Starts
 pub mod MomentSteps
 pub mod Tells
+pub mod LogWrites
