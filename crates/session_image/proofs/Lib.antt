@@ -6,3 +6,4 @@ pub mod Starts
 pub mod MomentSteps
 pub mod Tells
 pub mod LogWrites
+pub mod Commits
