@@ -7,3 +7,4 @@ pub mod MomentSteps
 pub mod Tells
 pub mod LogWrites
 pub mod Commits
+pub mod HomesRead

@@ -18,12 +18,12 @@ use Rattle.store_image.specs.RecordKept.{IsLifeMoment}
 use Rattle.store_image.specs.Recovers.{Theory}
 use Rattle.store_image.specs.Session.{Session, KeepsSession, IsLogOfSession, fresh}
 use Rattle.store_image.specs.SessionPhases.{Ready}
-use Rattle.store_image.specs.View.{Logged, Text}
+use Rattle.store_image.specs.View.{Logged, Text, Held, Holds, Zero, Bad}
 use Rattle.redo_text.specs.declared.change.Change.{Change}
 use Rattle.redo_text.specs.Reading.{block_version}
 use Rattle.store_model.specs.declared.contents.SpaceContents.{SpaceContents}
 use Rattle.store_files.specs.Header.{HeldHeader, HeldSpace, header_in}
-use Rattle.store_files.specs.Pages.{has_page, key_id_of, pages_of, salts_of, HaveSpaces}
+use Rattle.store_files.specs.Pages.{Page, Unused, MeansPage, has_page, key_id_of, pages_of, salts_of, HaveSpaces}
 use Rattle.crash_image.specs.LogForm.{log_form, log_places}
 use Rattle.crash_image.specs.Recovers.{RunIsOfStore, Recovers}
 use Rattle.crash_image.specs.Rest.{IsAtRest, read_image}
@@ -118,6 +118,12 @@ module _ (store : SessionStore) where
   -- and between two calls that were answered Ok
   abbrev pub SessionRecordReady : Session session_theory → List Event → Type 0
   SessionRecordReady w es = IsLifeMoment session_theory store.header.blocks (InSession w) (written_items (record_of es)) (session_places w es)
+
+  -- what a page that isn't dirty is read from: the home's text is that of the page, or the home is zero bytes and the page unused
+  abbrev pub IsHomeOf : ℕ → ℕ → Held → Page → Type 0
+  IsHomeOf s p (Holds t) x = MeansPage store.header store.book (salts_of store.base) s p t x
+  IsHomeOf s p Zero x = x ≡ Unused
+  IsHomeOf s p Bad x = ⊥
 
   -- ---- the start
 

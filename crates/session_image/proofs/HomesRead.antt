@@ -1,0 +1,42 @@
+-- A page that isn't dirty is what its home says, and a key of the ring is that of the book.
+use Rattle.std.proofs.Common.{◌≡◌, ℕ, true, List, Option, None, sym, ap, subst, ◌∙◌, arith}
+use Rattle.std.specs.Prelude.{IsSome, option_map}
+use Rattle.aes_core.specs.Cipher.{encrypted}
+use Rattle.disk_model.specs.Event.{Event, marks}
+use Rattle.disk_model.specs.declared.names.FileName.TheVariants.{Space}
+use Rattle.key_ring.specs.Local.{local_key}
+use Rattle.key_ring.specs.Ring.{RingEntry, ring_key}
+use Rattle.places.specs.Places.{shown}
+use Rattle.page_places.specs.Texts.{held}
+use Rattle.ring_log.specs.Ring.{RingState}
+use Rattle.store_image.specs.Journal.{IsUpTo}
+use Rattle.store_image.specs.Recovers.{Theory}
+use Rattle.store_image.specs.Session.{Session, now}
+use Rattle.store_image.specs.SessionPhases.{HomeRests, PageFits}
+use Rattle.store_image.specs.View.{Held, Holds, Zero, Bad}
+use Rattle.store_image.proofs.Journals.{until_below, until_last}
+use Rattle.store_files.specs.Pages.{has_page}
+use Rattle.session_image.specs.Kept.{SessionStore, session_theory, SessionReady, IsHomeOf, IsOfBook}
+
+module _ (store : SessionStore) where
+  abbrev T : Theory
+  T = session_theory store
+
+  module _ (w : Session T) (r : RingState) (es : List Event) (ready : SessionReady store w r es) (s p : ℕ) where
+    -- what is known of a page that isn't dirty
+    last : (lsn : ℕ) → w.dirty s p ≡ None → PageFits T w s p lsn (w.dirty s p) → IsUpTo T w.journal s p lsn
+    last lsn clean fits = subst (PageFits T w s p lsn) clean fits
+
+    by_home : (h : Held) → w.dirty s p ≡ None → HomeRests T w (marks es) s p h → IsHomeOf store s p h (now T w s p)
+    by_home (Holds t) clean (good, fits) = subst (T.Means s p t) (until_last T t.lsn w.journal s p (w.base s p) (last t.lsn clean fits)) good.means
+    by_home Zero clean (unused, fits) =
+        sym (until_last T 0 w.journal s p (w.base s p) (last 0 clean fits)) ∙ until_below T w.start w.next 0 w.journal s p (w.base s p) ready.ready.ground.journal (omega arith) ∙ unused.base
+    by_home Bad clean none = absurd none
+
+    -- The home of a page that isn't dirty holds the page after the journal.
+    pub session_page : has_page store.header.spaces s p ≡ true → w.dirty s p ≡ None → IsHomeOf store s p (held p (shown (Space s) 16384 p es)) (now T w s p)
+    session_page there clean = by_home (held p (shown (Space s) 16384 p es)) clean (ready.ready.pages s p there)
+
+-- A local key under a ring is that under a book that has the ring's keys.
+pub local_of_book : (ring book : List RingEntry) → IsOfBook ring book → (id version : ℕ) (salt : List ℕ) → IsSome (ring_key ring id version) → local_key book id version salt ≡ local_key ring id version salt
+local_of_book ring book of_book id version salt there = ap (λ (found : Option (List ℕ)). option_map (λ key. encrypted key salt) found) (of_book id version there)
