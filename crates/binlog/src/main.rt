@@ -3,7 +3,7 @@
 //! being done, and ends with the status' number.
 #![tactic(auto)]
 
-use binlog_cli::{ListOutcome, ListStatus, end_with, list_binlog, read_words};
+use binlog_cli::{ListOutcome, ListStatus, NamingLibrary, end_with, list_binlog, read_words};
 use io_core::{Folder, StdSink};
 use std::io::ErrorKind;
 use std::process::ExitCode;
@@ -18,13 +18,13 @@ fn main(rt: HostRuntime) -> ExitCode {
         }
         Err(_) => return end_early(&rt, ListStatus::Usage),
     };
-    let mut files = Folder::new(rt.alloc(), &rt);
+    let mut files = NamingLibrary::new(rt.alloc(), Folder::new(rt.alloc(), &rt));
     let mut out = StdSink::new(io::writer(&rt));
     let outcome = list_binlog(rt.alloc(), &words, &mut files, &mut out);
     match read_words(rt.alloc(), &words) {
-        Ok(asked) => end(&rt, &outcome, asked.name),
+        Ok(asked) => end(&rt, &outcome, asked.name, files.failed()),
         Err(e) if outcome.status.number() == ListStatus::Usage.number() => explain(&rt, &e),
-        Err(_) => end(&rt, &outcome, ""),
+        Err(_) => end(&rt, &outcome, "", files.failed()),
     }
 }
 
@@ -40,12 +40,17 @@ fn end_early(rt: &(impl Eprint + AllocGlobal), status: ListStatus) -> ExitCode {
         status,
         reached: None,
     };
-    end(rt, &outcome, "")
+    end(rt, &outcome, "", None)
 }
 
 // Prints the outcome's line, and answers its number.
-fn end(rt: &(impl Eprint + AllocGlobal), outcome: &ListOutcome, name: &str) -> ExitCode {
-    match end_with(rt.alloc(), outcome, name) {
+fn end(
+    rt: &(impl Eprint + AllocGlobal),
+    outcome: &ListOutcome,
+    name: &str,
+    failed: Option<&str>,
+) -> ExitCode {
+    match end_with(rt.alloc(), outcome, name, failed) {
         Ok(ended) => {
             let _ = rt.eprint(ended.line.as_str());
             ExitCode::from(ended.number)

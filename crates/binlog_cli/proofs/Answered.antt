@@ -1,5 +1,5 @@
 -- What an answer of the reader says of what was listed so far.
-use Rattle.std.proofs.Common.{◌≡◌, ◌≢◌, ℕ, ◌+◌, Bool, false, List, [], ◌∷◌, ◌++◌, length, refl, sym, subst, ◌∙◌, Option, Some, None, Result, Ok, Err, IfOk, IfSome, IsErrAnd}
+use Rattle.std.proofs.Common.{◌≡◌, ◌⊎◌, inl, inr, ℕ, ◌+◌, Bool, false, List, [], ◌∷◌, ◌++◌, length, refl, sym, subst, ◌∙◌, Option, Some, None, Result, Ok, Err, IfOk, IfSome, IsErrAnd}
 use Rattle.io_core.specs.Files.{Files}
 use Rattle.io_core.specs.Stream.{IsPartlyGiven}
 use Rattle.key_ring.specs.Ring.{RingEntry}
@@ -14,9 +14,10 @@ use Rattle.binlog_text.specs.declared.stage.Stage.TheVariants.{Events, Refused, 
 use Rattle.binlog_cli.specs.EventLines.{event_lines}
 use Rattle.binlog_cli.specs.Printed.{IsPrinted}
 use Rattle.binlog_cli.specs.Stops.{IsListStop, list_status_of}
-use Rattle.binlog_cli.specs.Listing.{HasLogListing, IsLogListing, PrintsSome, lines_of_events}
+use Rattle.binlog_cli.specs.Listing.{HasLogListing, IsStoppedAt, IsTextDue, lines_of_events}
 use Rattle.binlog_cli.specs.declared.status.ListStatus.{ListStatus}
-use Rattle.binlog_cli.proofs.SoFar.{ReadTo, SoFar, events_partly, events_some, lines_push, place_push, read_more}
+use Rattle.binlog_cli.specs.declared.status.ListStatus.TheVariants.{OutFault, OutOfMemory}
+use Rattle.binlog_cli.proofs.SoFar.{ReadTo, SoFar, events_partly, lines_push, place_push, pushed_some, reached_behind, read_more}
 
 -- the next event begins where the last one ended
 stands_next : (old : Stage) (event : BinlogEvent) (stage : Stage) (end : ℕ) → IsBehindEvent old event stage → end ≡ event.mark.place + length event.bytes → StandsAt stage end
@@ -64,10 +65,15 @@ module _ (ring : List RingEntry) (files : Option Files) (name : List ℕ) (old n
       events_partly is_hex ring (fs name) new.stage (so_far.events ++ event ∷ []) before now result (read_event event so_far.events is fs told so_far.read)
       (subst (λ (t : List ℕ). IsPartlyGiven t before now) (sym (lines_push is_hex so_far.events event)) part) stop
 
-  -- they are text
-  pub some_event : (is_hex : Bool) (event : BinlogEvent) (fs : Files) (begins : ℕ) (before mid : Option (List ℕ)) (gathered : List ℕ) → r ≡ Ok (Some event) → files ≡ Some fs
-      → (so_far : SoFar is_hex ring (fs name) old.stage begins before mid gathered)
-      → lines_of_events is_hex so_far.events ++ event_lines is_hex event ≢ [] → PrintsSome (IsLogListing is_hex ring (fs name))
-  some_event is_hex event fs begins before mid gathered is told so_far some =
-      events_some is_hex ring (fs name) new.stage (so_far.events ++ event ∷ []) (read_event event so_far.events is fs told so_far.read)
-      (λ e. some (sym (lines_push is_hex so_far.events event) ∙ e))
+  -- the log was reached behind the event, of which the lines are text
+  pub reached_event : (is_hex : Bool) (event : BinlogEvent) (fs : Files) (begins end : ℕ) (before mid : Option (List ℕ)) (gathered : List ℕ) (status : ListStatus) → r ≡ Ok (Some event) → files ≡ Some fs
+      → end ≡ event.mark.place + length event.bytes → SoFar is_hex ring (fs name) old.stage begins before mid gathered
+      → (status ≡ OutFault) ⊎ (status ≡ OutOfMemory) → IsStoppedAt ring (fs name) status end
+  reached_event is_hex event fs begins end before mid gathered status is told ends so_far (inl out) =
+      subst (λ (s : ListStatus). IsStoppedAt ring (fs name) s end) (sym out)
+      (reached_behind ring (fs name) new.stage (so_far.events ++ event ∷ []) end IsTextDue (read_event event so_far.events is fs told so_far.read) (ends ∙ sym (place_push 4 so_far.events event))
+      (λ behind last. inl (pushed_some so_far.events event)))
+  reached_event is_hex event fs begins end before mid gathered status is told ends so_far (inr memory) =
+      subst (λ (s : ListStatus). IsStoppedAt ring (fs name) s end) (sym memory)
+      (reached_behind ring (fs name) new.stage (so_far.events ++ event ∷ []) end (λ first behind last. Unit {0}) (read_event event so_far.events is fs told so_far.read)
+      (ends ∙ sym (place_push 4 so_far.events event)) (λ behind last. tt))

@@ -1,7 +1,6 @@
 -- Fronts of a text that were given to a sink.
-use Rattle.std.proofs.Common.{◌≡◌, ◌+◌, ℕ, min, List, [], ◌++◌, length, take, refl, sym, ap, ◌∙◌, append_assoc, Option, Some, None, Result, Ok, Err, IsErrAnd, MatchResult, OnErr, OnOk, arith}
-use Rattle.std.proofs.Math.Seq.{take-append-add}
-use Rattle.std.proofs.lemmas.List.{append-nil, take-append-le, take_at, take_min}
+use Rattle.std.proofs.Common.{◌≡◌, ℕ, min, List, [], ◌++◌, length, take, sym, ap, ◌∙◌, append_assoc, Option, Result, Ok, Err, IsErrAnd, MatchResult, OnErr, OnOk, arith}
+use Rattle.std.proofs.lemmas.List.{append-nil, take-append-le, take_min}
 use Rattle.io_core.specs.Stream.{IsPartlyGiven, extended}
 use Rattle.io_core.proofs.Streams.{given_then, front_given, part_given}
 use Rattle.binlog_cli.specs.Printed.{IsPrinted}

@@ -1,7 +1,6 @@
 -- What a fault of the key files or of the log stops with.
 use Rattle.std.proofs.Common.{◌≡◌, ◌≤◌, ◌⊎◌, inl, inr, ℕ, List, [], refl, sym, ap, subst, ◌∙◌, arith, Option, Result, Err, IfErr}
 use Rattle.io_core.specs.Files.{Files}
-use Rattle.cause_core.specs.Counts.{Rose}
 use Rattle.key_file.specs.Cause.{HasCauses}
 use Rattle.key_file.specs.Load.{IsOutside}
 use Rattle.key_file.specs.Loaded.{IsTheAnswer, LoadsFrom}

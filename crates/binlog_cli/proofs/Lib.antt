@@ -6,3 +6,4 @@ pub mod Answered
 pub mod KeyStops
 pub mod WordsListings
 pub mod WordsMatches
+pub mod Reached

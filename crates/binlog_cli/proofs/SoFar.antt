@@ -18,7 +18,7 @@ use Rattle.binlog_text.specs.declared.stage.Stage.TheVariants.{Events, Refused, 
 use Rattle.binlog_cli.specs.EventLines.{end_line, event_lines}
 use Rattle.binlog_cli.specs.Printed.{IsPrinted}
 use Rattle.binlog_cli.specs.Stops.{IsListStop, list_status_of, log_stop}
-use Rattle.binlog_cli.specs.Listing.{AgreesWith, HasLogListing, IsLogListing, IsRefusedAt, Listing, PrintsSome, lines_of_events, listing_of, place_behind, refused_place}
+use Rattle.binlog_cli.specs.Listing.{AgreesWith, HasLogListing, IsReached, IsRefusedAt, Listing, lines_of_events, listing_of, place_behind, refused_place}
 use Rattle.binlog_cli.specs.declared.status.ListStatus.{ListStatus}
 use Rattle.binlog_cli.specs.declared.status.ListStatus.TheVariants.{Done, FileFault, Key, Log, OutFault, OutOfMemory, Usage}
 use Rattle.binlog_cli.proofs.Gathered.{gathered_none, part_of_more}
@@ -171,6 +171,20 @@ events_fault is_hex ring file stage events fault before now r read answer (inl w
           (events_refused is_hex ring file stage events fault before now read (answer inside) inside whole.1)
     ]
 
+-- the log was reached behind these events
+pub reached_behind : (ring : List RingEntry) (file : Option (List ℕ)) (stage : Stage) (events : List BinlogEvent) (place : ℕ) (Has : List BinlogEvent → List BinlogEvent → Result (Unit {0}) BinlogFault → Type 0)
+    → ReadTo ring file stage events → place ≡ place_behind 4 events
+    → ((behind : List BinlogEvent) (end : Result (Unit {0}) BinlogFault) → Has events behind end) → IsReached ring file place Has
+reached_behind ring file stage events place Has read at has =
+    let rest = log_events ring file stage in
+    record { before = events; behind = rest.events; end = rest.end; lists = read.goes_on rest.events rest.end rest.lists; at = at; has = has rest.events rest.end }
+
+-- and ends there
+pub reached_end : (ring : List RingEntry) (file : Option (List ℕ)) (stage : Stage) (events : List BinlogEvent) (place : ℕ) (Has : List BinlogEvent → List BinlogEvent → Result (Unit {0}) BinlogFault → Type 0)
+    → ReadTo ring file stage events → place ≡ place_behind 4 events → answered ring file stage ≡ Ok None → Has events [] (Ok tt) → IsReached ring file place Has
+reached_end ring file stage events place Has read at answer has =
+    record { before = events; behind = []; end = Ok tt; lists = read.goes_on [] (Ok tt) answer; at = at; has = has }
+
 -- the place of a refusal behind these events
 pub refused_behind : (ring : List RingEntry) (file : Option (List ℕ)) (stage : Stage) (events : List BinlogEvent) (begins place : ℕ) (fault : BinlogFault)
     → ReadTo ring file stage events → begins ≡ place_behind 4 events → place ≡ refused_place begins fault → answered ring file stage ≡ Err fault → IsRefusedAt ring file fault place
@@ -186,81 +200,17 @@ behind_some : (front more text : List ℕ) → text ≡ front ++ more → more �
 behind_some [] more text is some = λ e. some (sym is ∙ e)
 behind_some (x ∷ front) more text is some = λ e. let two = sym is ∙ e in cc
 
-before_some : (some more text : List ℕ) → text ≡ some ++ more → some ≢ [] → text ≢ []
-before_some [] more text is none = absurd (none refl)
-before_some (x ∷ front) more text is some = λ e. let two = sym is ∙ e in cc
-
 -- what was gathered is text
 pub gathered_some : (text gathered : List ℕ) (before now : Option (List ℕ)) → IsPrinted text before now gathered → gathered ≢ [] → text ≢ []
 gathered_some text gathered before now printed some = behind_some printed.front gathered text printed.is some
 
--- and lines behind it
-pub more_some : (text lines gathered : List ℕ) (before now : Option (List ℕ)) → IsPrinted text before now gathered → gathered ++ lines ≢ [] → text ++ lines ≢ []
-more_some text lines gathered before now printed some =
-    behind_some printed.front (gathered ++ lines) (text ++ lines) (ap (λ (t : List ℕ). t ++ lines) printed.is ∙ append_assoc printed.front gathered lines) some
+-- events whose lines are text
+pub lines_some : (is_hex : Bool) (events : List BinlogEvent) → lines_of_events is_hex events ≢ [] → events ≢ []
+lines_some is_hex events some = λ e. some (ap (lines_of_events is_hex) e)
 
--- the lines of these events are part of the listing's
-pub events_some : (is_hex : Bool) (ring : List RingEntry) (file : Option (List ℕ)) (stage : Stage) (events : List BinlogEvent) → ReadTo ring file stage events
-    → lines_of_events is_hex events ≢ [] → PrintsSome (IsLogListing is_hex ring file)
-events_some is_hex ring file stage events read some =
-    let rest = log_events ring file stage in
-    let size = length (unwrap_or file []) in
-    let listing : Listing = listing_of is_hex size (events ++ rest.events) rest.end in
-    let behind = text_goes_on is_hex size events rest.events rest.end in
-    record {
-      listing = listing;
-      is = record { events = events ++ rest.events; end = rest.end; lists = read.goes_on rest.events rest.end rest.lists; is = refl };
-      some = before_some (lines_of_events is_hex events) behind.0 listing.text behind.1 some;
-    }
-
--- the last line is text
-pub end_some : (is_hex : Bool) (ring : List RingEntry) (file : Option (List ℕ)) (stage : Stage) (events : List BinlogEvent) → ReadTo ring file stage events
-    → answered ring file stage ≡ Ok None → PrintsSome (IsLogListing is_hex ring file)
-end_some is_hex ring file stage events read answer =
-    let size = length (unwrap_or file []) in
-    let listing : Listing = listing_of is_hex size events (Ok tt) in
-    record {
-      listing = listing;
-      is = record { events = events; end = Ok tt; lists = whole_list ring file stage events (Ok tt) read answer; is = refl };
-      some = behind_some (lines_of_events is_hex events) (end_line size) listing.text refl (λ e. cc);
-    }
-
--- ---- what stops a listing
-
-pub stop_no_refusal : (status : ListStatus) (fault : BinlogFault) → IsListStop status → status ≡ Log fault → ⊥
-stop_no_refusal status fault stop is = subst IsListStop is stop
-
--- an answer that comes from a fault or want of memory is no refusal
-pub no_refusal : (r : Result (Unit {0}) ListStatus) (fault : BinlogFault) → IfErr r IsListStop → r ≡ Err (Log fault) → ⊥
-no_refusal r fault stop is = subst (λ (x : Result (Unit {0}) ListStatus). IfErr x IsListStop) is stop
-
-pub no_refusal_and : (r : Result (Unit {0}) ListStatus) (fault : BinlogFault) → IsErrAnd r IsListStop → r ≡ Err (Log fault) → ⊥
-no_refusal_and r fault stop is = subst (λ (x : Result (Unit {0}) ListStatus). IsErrAnd x IsListStop) is stop
-
--- an answer that is handed on
-pub handed_err : (r : Result (Unit {0}) ListStatus) (own status : ListStatus) → IsErrAnd r (λ s. s ≡ own) → r ≡ Err status → ◌≡◌ {A = Result (Unit {0}) ListStatus} (Err own) (Err status)
-handed_err (Ok u) own status is e = absurd is
-handed_err (Err s) own status is e = ap Err (sym is) ∙ e
-
--- a status that is a refusal is one of this refusal
-pub log_stop_log : (fault other : BinlogFault) → log_stop fault ≡ Log other → (is_outside fault ≡ false) × (fault ≡ other)
-log_stop_log log.FileFault other is = absurd (cc)
-log_stop_log log.OutOfMemory other is = absurd (cc)
-log_stop_log log.Missing other is = (refl, cc)
-log_stop_log log.BadMagic other is = (refl, cc)
-log_stop_log (log.ShortEvent at wanted found) other is = (refl, cc)
-log_stop_log (log.BadLength at length) other is = (refl, cc)
-log_stop_log (log.NoFormat kind) other is = (refl, cc)
-log_stop_log (log.Algorithm number) other is = (refl, cc)
-log_stop_log (log.Scheme number) other is = (refl, cc)
-log_stop_log (log.MissingKey version) other is = (refl, cc)
-log_stop_log (log.Checksum at stored computed) other is = (refl, cc)
-
-pub fault_answered : (fault other : BinlogFault) (r : Result (Unit {0}) ListStatus) → (r ≡ Err (log_stop fault)) ⊎ ((r ≡ Err OutFault) ⊎ (r ≡ Err OutOfMemory)) → r ≡ Err (Log other)
-    → (is_outside fault ≡ false) × (fault ≡ other)
-fault_answered fault other r (inl own) is = let two = sym own ∙ is in log_stop_log fault other (cc)
-fault_answered fault other r (inr (inl out)) is = let two = sym out ∙ is in absurd (cc)
-fault_answered fault other r (inr (inr out)) is = let two = sym out ∙ is in absurd (cc)
+pub pushed_some : (events : List BinlogEvent) (event : BinlogEvent) → events ++ event ∷ [] ≢ []
+pushed_some [] event = λ e. cc
+pushed_some (first ∷ events) event = λ e. cc
 
 -- ---- where a log ends
 

@@ -1,5 +1,5 @@
 -- The listing that the words ask for, and what a status says of it.
-use Rattle.std.proofs.Common.{◌≡◌, ◌⊎◌, inl, inr, ℕ, Bool, List, [], length, map, refl, sym, ap, ap₂, subst, ◌∙◌, string_bytes, unwrap_or, Option, Some, None, Result, Ok, Err, IsErrAnd}
+use Rattle.std.proofs.Common.{◌≡◌, ◌⊎◌, inl, inr, ℕ, Bool, List, [], length, map, refl, sym, ap, ap₂, subst, ◌∙◌, string_bytes, unwrap_or, Option, Some, None, Result, Ok, Err}
 use Rattle.std.specs.Option.{option_copied}
 use Rattle.cause_core.specs.Counts.{Rose}
 use Rattle.io_core.specs.Files.{Files}
@@ -8,12 +8,11 @@ use Rattle.key_file.specs.Loaded.{IsDue, IsSameAnswer}
 use Rattle.key_file.specs.declared.derivation.KeyDigest.{KeyDigest}
 use Rattle.key_file.specs.declared.derivation.KeyDigest.TheVariants.{Sha1}
 use Rattle.key_file.specs.declared.load_fault.LoadFault.{LoadFault}
-use Rattle.binlog_text.specs.declared.fault.BinlogFault.{BinlogFault}
 use Rattle.binlog_text.specs.declared.stage.Stage.TheVariants.{Start}
 use Rattle.binlog_cli.specs.Keys.{IsOneLoad}
-use Rattle.binlog_cli.specs.Listing.{AgreesWith, HasLogListing, IsLogListing, IsOnlyListing, IsRefusedAt, Listing, ListsOne, PrintsSome, listing_of}
-use Rattle.binlog_cli.specs.Stops.{FileCauses, IsListStop, PrintCauses, list_status_of}
-use Rattle.binlog_cli.specs.Words.{IsAskedBy, IsDueAt, IsKeyedListing, IsRefusedAs, IsWordsListing, ListValues, asked_digest, asks_hex, filekey_of, key_names_of, log_name_of}
+use Rattle.binlog_cli.specs.Listing.{AgreesWith, HasLogListing, IsLogListing, IsOnlyListing, IsStoppedAt, Listing, ListsOne, listing_of}
+use Rattle.binlog_cli.specs.Stops.{FileCauses, IsKeyStop, IsListStop, PrintCauses}
+use Rattle.binlog_cli.specs.Words.{IsAskedBy, IsBeforeLog, IsDueAt, IsEndedAt, IsKeyedListing, IsWordsListing, ListValues, asked_digest, asks_hex, filekey_of, key_names_of, log_name_of}
 use Rattle.binlog_cli.specs.declared.status.ListStatus.{ListStatus}
 use Rattle.binlog_cli.specs.declared.status.ListStatus.TheVariants.{Done, FileFault, Key, Log, OutFault, OutOfMemory, Usage}
 use Rattle.binlog_cli.specs.declared.words.ListRequest.{ListRequest}
@@ -90,25 +89,24 @@ pub log_due : (values : ListValues) (asked : ListRequest) (files : Files) (ring 
     → IsOneLoad files (option_copied asked.filekey) asked.digest (map string_bytes asked.key_files.items) (Ok ring) → IsDueAt values files (Some place) asked.name.now
 log_due values asked files ring place is load = let one = one_load values asked files (Ok ring) is load in (ring, one.loads, is.name)
 
--- the log has text that is due
-pub words_some : (values : ListValues) (asked : ListRequest) (files : Files) (ring : List RingEntry) → IsAskedBy values asked
-    → IsOneLoad files (option_copied asked.filekey) asked.digest (map string_bytes asked.key_files.items) (Ok ring)
-    → PrintsSome (IsLogListing asked.is_hex ring (files asked.name.now)) → PrintsSome (IsWordsListing values files)
-words_some values asked files ring is load prints =
-    let one = one_load values asked files (Ok ring) is load in
-    let keyed : IsLogListing (asks_hex values) ring (files (log_name_of values)) prints.listing =
-    subst (λ (h : Bool). IsLogListing h ring (files (log_name_of values)) prints.listing) is.hex
-    (subst (λ (n : List ℕ). IsLogListing asked.is_hex ring (files n) prints.listing) is.name prints.is) in
-    record { listing = prints.listing; is = record { keys = Ok ring; loads = one.loads; is = keyed }; some = prints.some }
-
--- the log is refused
-pub words_refused : (values : ListValues) (asked : ListRequest) (files : Files) (ring : List RingEntry) (fault : BinlogFault) (reached : Option ℕ) (place : ℕ) → IsAskedBy values asked
+-- where the listing of the log stopped
+pub log_ended : (values : ListValues) (asked : ListRequest) (files : Files) (ring : List RingEntry) (status : ListStatus) (reached : Option ℕ) (place : ℕ) → IsAskedBy values asked
     → reached ≡ Some place → IsOneLoad files (option_copied asked.filekey) asked.digest (map string_bytes asked.key_files.items) (Ok ring)
-    → IsRefusedAt ring (files asked.name.now) fault place → IsRefusedAs values files fault reached
-words_refused values asked files ring fault reached place is at load refused =
+    → IsStoppedAt ring (files asked.name.now) status place → IsEndedAt values files status reached
+log_ended values asked files ring status reached place is at load stopped =
     let one = one_load values asked files (Ok ring) is load in
-    subst (IsRefusedAs values files fault) (sym at)
-    (ring, one.loads, subst (λ (n : List ℕ). IsRefusedAt ring (files n) fault place) is.name refused)
+    subst (IsEndedAt values files status) (sym at)
+    (ring, one.loads, subst (λ (n : List ℕ). IsStoppedAt ring (files n) status place) is.name stopped)
+
+-- the keys were not loaded
+pub keys_ended : (status : ListStatus) → IsKeyStop status → IsBeforeLog status
+keys_ended FileFault stop = tt
+keys_ended OutOfMemory stop = tt
+keys_ended (Key fault) stop = tt
+keys_ended Usage stop = tt
+keys_ended Done stop = absurd stop
+keys_ended (Log fault) stop = absurd stop
+keys_ended OutFault stop = absurd stop
 
 -- where no count rose
 not_stopped : (Is : Listing → Type 0) (before now : Option (List ℕ)) (status : ListStatus) → (IsListStop status → ⊥) → ((listing : Listing) → AgreesWith listing before now status → status ≡ listing.status)
@@ -126,8 +124,3 @@ completes Is before now Usage faults faults' absences absences' outs outs' lists
 completes Is before now Done faults faults' absences absences' outs outs' lists files sink taken calm quiet = inr (not_stopped Is before now Done (λ stop. stop) (λ listing agrees. agrees.0) lists)
 completes Is before now (Log fault) faults faults' absences absences' outs outs' lists files sink taken calm quiet = inr (not_stopped Is before now (Log fault) (λ stop. stop) (λ listing agrees. agrees.0) lists)
 completes Is before now (Key fault) faults faults' absences absences' outs outs' lists files sink taken calm quiet = inr (not_stopped Is before now (Key fault) (λ stop. stop) (λ listing agrees. agrees.0) lists)
-
--- the status that a refusal which is handed on comes to
-pub handed_status : (r : Result (Unit {0}) ListStatus) (status : ListStatus) → IsErrAnd r (λ s. s ≡ status) → list_status_of r ≡ status
-handed_status (Ok u) status is = absurd is
-handed_status (Err s) status is = is

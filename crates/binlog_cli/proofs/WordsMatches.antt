@@ -1,5 +1,5 @@
 -- The values that a parse's matches have are those of the command on the words.
-use Rattle.std.proofs.Common.{◌≡◌, ℕ, true, List, [], String, map, string_bytes, unwrap_or, Option, Result, Ok, Err, IfErr, IsErrAnd, refl, sym, ap, subst, ◌∙◌}
+use Rattle.std.proofs.Common.{◌≡◌, ℕ, true, List, [], String, map, string_bytes, unwrap_or, Option, refl, ap, ◌∙◌}
 use Rattle.std.specs.Option.{option_map}
 use Rattle.clap.specs.Words.{App, HasMatchesOf, all_of, first_of, first_value, found_of, is_simple, is_simple_and_free, matched_of, matches_of, raw_values}
 use Rattle.clap.specs.declared.parser.matches.ArgMatches.{ArgMatches}

@@ -53,10 +53,15 @@ abbrev pub log_fault_line : BinlogFault → Option ℕ → List ℕ → List ℕ
 log_fault_line log.Missing reached name = codes "binlog: missing " ++ (name ++ codes "\n")
 log_fault_line fault reached name = refusal_line fault reached
 
--- the line of a fault of a file: of the log, once that was reached
-abbrev pub file_fault_line : Option ℕ → List ℕ → List ℕ
-file_fault_line None name = codes "binlog: file fault in the key files\n"
-file_fault_line (Some place) name = codes "binlog: file fault in " ++ (name ++ codes "\n")
+-- the file that failed, where its name is known; else the log, once that was reached
+abbrev pub failed_file : Option (List ℕ) → Option ℕ → List ℕ → List ℕ
+failed_file (Some failed) reached name = failed
+failed_file None None name = codes "the key files"
+failed_file None (Some place) name = name
+
+-- the line of a fault of a file, with the place of the log, once that was reached
+abbrev pub file_fault_line : Option (List ℕ) → Option ℕ → List ℕ → List ℕ
+file_fault_line failed reached name = codes "binlog: file fault in " ++ (failed_file failed reached name ++ (place_text reached ++ codes "\n"))
 
 -- the line of a fault of the key files, which are counted from 0
 abbrev pub key_fault_line : LoadFault → List ℕ
@@ -65,12 +70,13 @@ key_fault_line load.FileFault = codes "binlog: file fault in the key files\n"
 key_fault_line (load.KeyFile index fault) = codes "binlog: key file " ++ (decimal index ++ (codes ": " ++ (key_fault_text fault ++ codes "\n")))
 key_fault_line load.OutOfMemory = codes "binlog: out of memory\n"
 
--- the line of a status, the place being the one that was reached in the log, and the name the log's
-abbrev pub list_status_line : ListStatus → Option ℕ → List ℕ → List ℕ
-list_status_line Done reached name = []
-list_status_line (Log fault) reached name = log_fault_line fault reached name
-list_status_line Usage reached name = codes "binlog: usage\n"
-list_status_line (Key fault) reached name = key_fault_line fault
-list_status_line FileFault reached name = file_fault_line reached name
-list_status_line OutFault reached name = codes "binlog: output fault\n"
-list_status_line OutOfMemory reached name = codes "binlog: out of memory\n"
+-- the line of a status, the place being the one that was reached in the log; the name is the log's, and the other that of the file that
+-- failed
+abbrev pub list_status_line : ListStatus → Option ℕ → List ℕ → Option (List ℕ) → List ℕ
+list_status_line Done reached name failed = []
+list_status_line (Log fault) reached name failed = log_fault_line fault reached name
+list_status_line Usage reached name failed = codes "binlog: usage\n"
+list_status_line (Key fault) reached name failed = key_fault_line fault
+list_status_line FileFault reached name failed = file_fault_line failed reached name
+list_status_line OutFault reached name failed = codes "binlog: output fault" ++ (place_text reached ++ codes "\n")
+list_status_line OutOfMemory reached name failed = codes "binlog: out of memory" ++ (place_text reached ++ codes "\n")

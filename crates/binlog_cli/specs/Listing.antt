@@ -1,5 +1,5 @@
 -- What is listed of a binary log.
-use Rattle.std.specs.Prelude.{◌≡◌, ◌≢◌, ◌⊎◌, ℕ, ◌+◌, Bool, List, [], ◌∷◌, ◌++◌, length, unwrap_or, Option, Result, Ok, Err}
+use Rattle.std.specs.Prelude.{◌≡◌, ◌≢◌, ◌<◌, ◌⊎◌, ℕ, ◌+◌, Bool, List, [], ◌∷◌, ◌++◌, length, unwrap_or, Option, Result, Ok, Err}
 use Rattle.std.specs.List.{flat_map}
 use Rattle.io_core.specs.Stream.{IsPartlyGiven, extended}
 use Rattle.key_ring.specs.Ring.{RingEntry}
@@ -33,12 +33,6 @@ pub record IsLogListing (is_hex : Bool) (ring : List RingEntry) (file : Option (
   pub lists : Lists ring file Start events end
   pub is : listing ≡ listing_of is_hex (length (unwrap_or file [])) events end
 
--- a listing of a kind has text
-pub record PrintsSome (Is : Listing → Type 0) : Type 0 where
-  pub listing : Listing
-  pub is : Is listing
-  pub some : listing.text ≢ []
-
 -- where the event behind these begins, or the first one where there are none
 abbrev pub place_behind : ℕ → List BinlogEvent → ℕ
 place_behind first [] = first
@@ -55,6 +49,38 @@ pub record IsRefusedAt (ring : List RingEntry) (file : Option (List ℕ)) (fault
   pub events : List BinlogEvent
   pub lists : Lists ring file Start events (Err fault)
   pub at : place ≡ refused_place (place_behind 4 events) fault
+
+-- How far a log was reached: these are its events before the place, these the ones from there on, and this is its end.
+pub record IsReached (ring : List RingEntry) (file : Option (List ℕ)) (place : ℕ) (Has : List BinlogEvent → List BinlogEvent → Result (Unit {0}) BinlogFault → Type 0) : Type 0 where
+  pub before : List BinlogEvent
+  pub behind : List BinlogEvent
+  pub end : Result (Unit {0}) BinlogFault
+  pub lists : Lists ring file Start (before ++ behind) end
+  pub at : place ≡ place_behind 4 before
+  pub has : Has before behind end
+
+-- the log ends behind its last event
+abbrev pub EndsThere : List BinlogEvent → List BinlogEvent → Result (Unit {0}) BinlogFault → Type 0
+EndsThere before behind end = (behind ≡ []) × (end ≡ Ok tt)
+
+-- there is text to give: the line of an event, or that of the end
+abbrev pub IsTextDue : List BinlogEvent → List BinlogEvent → Result (Unit {0}) BinlogFault → Type 0
+IsTextDue before behind end = (before ≢ []) ⊎ EndsThere before behind end
+
+-- Bytes of the file are to be read: at its start, or where it has bytes of an event.
+abbrev pub HasBytesAt : Option (List ℕ) → ℕ → Type 0
+HasBytesAt file place = (place ≡ 4) ⊎ (place < length (unwrap_or file []))
+
+-- Where the listing of a log stopped. It is done at the file's end. A refusal has its place. A fault of the file comes only where
+-- bytes of it are to be read, and one of the output only where there is text to give.
+abbrev pub IsStoppedAt : List RingEntry → Option (List ℕ) → ListStatus → ℕ → Type 0
+IsStoppedAt ring file Done place = IsReached ring file place EndsThere × (place ≡ length (unwrap_or file []))
+IsStoppedAt ring file (Log fault) place = IsRefusedAt ring file fault place
+IsStoppedAt ring file FileFault place = IsReached ring file place (λ before behind end. HasBytesAt file place)
+IsStoppedAt ring file OutFault place = IsReached ring file place IsTextDue
+IsStoppedAt ring file OutOfMemory place = IsReached ring file place (λ before behind end. Unit {0})
+IsStoppedAt ring file Usage place = ⊥
+IsStoppedAt ring file (Key fault) place = ⊥
 
 -- A status, and what was given before it, agree with a listing: either they are its own, or a fault or want of memory came, and
 -- a front of its text was given.

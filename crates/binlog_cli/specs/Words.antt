@@ -12,9 +12,9 @@ use Rattle.key_file.specs.Loaded.{IsDue, LoadsFrom}
 use Rattle.key_file.specs.declared.derivation.KeyDigest.{KeyDigest}
 use Rattle.key_file.specs.declared.derivation.KeyDigest.TheVariants.{Sha1, Sha256}
 use Rattle.key_file.specs.declared.load_fault.LoadFault.{LoadFault}
-use Rattle.binlog_text.specs.declared.fault.BinlogFault.{BinlogFault}
-use Rattle.binlog_cli.specs.Listing.{IsLogListing, IsRefusedAt, Listing}
-use Rattle.binlog_cli.specs.declared.status.ListStatus.TheVariants.{Key}
+use Rattle.binlog_cli.specs.Listing.{IsLogListing, IsStoppedAt, Listing}
+use Rattle.binlog_cli.specs.declared.status.ListStatus.{ListStatus}
+use Rattle.binlog_cli.specs.declared.status.ListStatus.TheVariants.{Done, FileFault, Key, Log, OutFault, OutOfMemory, Usage}
 use Rattle.binlog_cli.specs.declared.words.ListRequest.{ListRequest}
 
 -- ---- the command
@@ -110,11 +110,20 @@ abbrev pub IsDueAt : ListValues → Files → Option ℕ → List ℕ → Type 0
 IsDueAt values files None due = IsDue files (filekey_of values) (unwrap_or (asked_digest values) Sha1) 0 (key_names_of values) due
 IsDueAt values files (Some reached) due = (ring : List RingEntry) × GivesKeys values files (Ok ring) × (due ≡ log_name_of values)
 
--- The log that the words name is refused, under the keys of the key files that they name, and the refusal is one of the place that
--- was reached.
-abbrev pub IsRefusedAs : ListValues → Files → BinlogFault → Option ℕ → Type 0
-IsRefusedAs values files fault None = ⊥
-IsRefusedAs values files fault (Some place) = (ring : List RingEntry) × GivesKeys values files (Ok ring) × IsRefusedAt ring (files (log_name_of values)) fault place
+-- before the log is reached nothing is done, and neither the log nor the output has a fault
+abbrev pub IsBeforeLog : ListStatus → Type 0
+IsBeforeLog Usage = Unit {0}
+IsBeforeLog (Key fault) = Unit {0}
+IsBeforeLog FileFault = Unit {0}
+IsBeforeLog OutOfMemory = Unit {0}
+IsBeforeLog Done = ⊥
+IsBeforeLog (Log fault) = ⊥
+IsBeforeLog OutFault = ⊥
+
+-- Where the listing of the log that the words name stopped, under the keys of the key files that they name; or that it wasn't reached.
+abbrev pub IsEndedAt : ListValues → Files → ListStatus → Option ℕ → Type 0
+IsEndedAt values files status None = IsBeforeLog status
+IsEndedAt values files status (Some place) = (ring : List RingEntry) × GivesKeys values files (Ok ring) × IsStoppedAt ring (files (log_name_of values)) status place
 
 -- what is asked for is what the values say
 pub record IsAskedBy (values : ListValues) (asked : ListRequest) : Type 0 where

@@ -1,8 +1,9 @@
 // What the program ends with.
 
-ghost use Rattle.std.specs.Prelude.{◌≡◌, [], None, IfOk, string_bytes};
+ghost use Rattle.std.specs.Prelude.{◌≡◌, ◌++◌, [], None, IfOk, codes, string_bytes};
+ghost use Rattle.std.specs.Option.{option_copied};
 ghost use Rattle.binlog_cli.specs.Stops.{list_exit_code};
-ghost use Rattle.binlog_cli.specs.EndLines.{file_fault_line, key_fault_text, log_fault_text, list_status_line, place_text, refusal_line};
+ghost use Rattle.binlog_cli.specs.EndLines.{failed_file, file_fault_line, key_fault_text, log_fault_text, list_status_line, place_text, refusal_line};
 
 use crate::{ListOutcome, ListStatus};
 use binlog_text::BinlogFault;
@@ -94,7 +95,7 @@ fn log_line(
     reached: Option<u64>,
     name: &str,
 ) -> Result<String, AllocError>
-    ensures { IfOk result (λ line. string_bytes line ≡ list_status_line (ListStatus.Log fault) reached name.now) }
+    ensures { IfOk result (λ line. string_bytes line ≡ list_status_line (ListStatus.Log fault) reached name.now None) }
 {
     if let BinlogFault::Missing = fault {
         return format!(in alloc; "binlog: missing {name}\n");
@@ -102,19 +103,42 @@ fn log_line(
     refusal_line(alloc, fault, reached)
 }
 
-// The line of a fault of a file.
-fn file_line(alloc: Global, reached: Option<u64>, name: &str) -> Result<String, AllocError>
-    ensures { IfOk result (λ line. string_bytes line ≡ file_fault_line reached name.now) }
+// The file that failed: by its name, where that is known, else the log, once that was reached.
+fn failed_file<'a>(failed: Option<&'a str>, reached: Option<u64>, name: &'a str) -> &'a str
+    ensures { result.now ≡ failed_file (option_copied failed.entry) reached name.entry.now }
 {
-    match reached {
-        Some(_) => format!(in alloc; "binlog: file fault in {name}\n"),
-        None => String::from_str(alloc, "binlog: file fault in the key files\n"),
+    match (failed, reached) {
+        (Some(failed), _) => failed,
+        (None, Some(_)) => name,
+        (None, None) => "the key files",
     }
+}
+
+// The line of a fault of a file.
+fn file_line(
+    alloc: Global,
+    failed: Option<&str>,
+    reached: Option<u64>,
+    name: &str,
+) -> Result<String, AllocError>
+    ensures { IfOk result (λ line. string_bytes line ≡ file_fault_line (option_copied failed.entry) reached name.now) }
+{
+    let place = place_text(alloc, reached)?;
+    let file = failed_file(failed, reached, name);
+    format!(in alloc; "binlog: file fault in {file}{place}\n")
+}
+
+// The line of a cause that has no file, with the place of the log that was reached.
+fn cause_line(alloc: Global, cause: &str, reached: Option<u64>) -> Result<String, AllocError>
+    ensures { IfOk result (λ line. string_bytes line ≡ codes "binlog: " ++ (cause.now ++ (place_text reached ++ codes "\n"))) }
+{
+    let place = place_text(alloc, reached)?;
+    format!(in alloc; "binlog: {cause}{place}\n")
 }
 
 // The line of a fault of the key files.
 fn key_line(alloc: Global, fault: &LoadFault) -> Result<String, AllocError>
-    ensures { IfOk result (λ line. string_bytes line ≡ list_status_line (ListStatus.Key fault.now) None []) }
+    ensures { IfOk result (λ line. string_bytes line ≡ list_status_line (ListStatus.Key fault.now) None [] None) }
 {
     match fault {
         LoadFault::Missing(name) => format!(in alloc; "binlog: missing {name}\n"),
@@ -133,26 +157,33 @@ fn status_line(
     status: &ListStatus,
     reached: Option<u64>,
     name: &str,
+    failed: Option<&str>,
 ) -> Result<String, AllocError>
-    ensures { IfOk result (λ line. string_bytes line ≡ list_status_line status.now reached name.now) }
+    ensures { IfOk result (λ line. string_bytes line ≡ list_status_line status.now reached name.now (option_copied failed.entry)) }
 {
     match status {
         ListStatus::Done => Ok(String::new(alloc)),
         ListStatus::Log(fault) => log_line(alloc, *fault, reached, name),
         ListStatus::Usage => String::from_str(alloc, "binlog: usage\n"),
         ListStatus::Key(fault) => key_line(alloc, fault),
-        ListStatus::FileFault => file_line(alloc, reached, name),
-        ListStatus::OutFault => String::from_str(alloc, "binlog: output fault\n"),
-        ListStatus::OutOfMemory => String::from_str(alloc, "binlog: out of memory\n"),
+        ListStatus::FileFault => file_line(alloc, failed, reached, name),
+        ListStatus::OutFault => cause_line(alloc, "output fault", reached),
+        ListStatus::OutOfMemory => cause_line(alloc, "out of memory", reached),
     }
 }
 
-/// What an outcome comes to, `name` being the log's. `Done` has no line.
-pub fn end_with(alloc: Global, outcome: &ListOutcome, name: &str) -> Result<ListEnd, AllocError>
+/// What an outcome comes to, `name` being the log's, and `failed` that of the file that failed, where it
+/// is known. `Done` has no line.
+pub fn end_with(
+    alloc: Global,
+    outcome: &ListOutcome,
+    name: &str,
+    failed: Option<&str>,
+) -> Result<ListEnd, AllocError>
     ensures number { IfOk result (λ ended. ended.number ≡ list_exit_code outcome.now.status) }
-    ensures line { IfOk result (λ ended. string_bytes ended.line ≡ list_status_line outcome.now.status outcome.now.reached name.now) }
+    ensures line { IfOk result (λ ended. string_bytes ended.line ≡ list_status_line outcome.now.status outcome.now.reached name.now (option_copied failed.entry)) }
 {
-    let line = status_line(alloc, &outcome.status, outcome.reached, name)?;
+    let line = status_line(alloc, &outcome.status, outcome.reached, name, failed)?;
     Ok(ListEnd {
         number: outcome.status.number(),
         line,

@@ -5,7 +5,7 @@ ghost use Rattle.io_core.specs.Told.{Told};
 ghost use Rattle.io_core.specs.Stream.{IsPartlyGiven, extended};
 ghost use Rattle.binlog_cli.specs.EventLines.{end_line};
 ghost use Rattle.binlog_cli.specs.Printed.{IsPrinted};
-ghost use Rattle.binlog_cli.specs.Listing.{HasLogListing, IsLogListing, IsRefusedAt, PrintsSome};
+ghost use Rattle.binlog_cli.specs.Listing.{HasLogListing, IsStoppedAt, refused_place};
 ghost use Rattle.binlog_cli.specs.Stops.{FileCauses, IsListStop, IsLogStop, PrintCauses, list_status_of, log_stop};
 
 use crate::ListStatus;
@@ -38,20 +38,26 @@ fn end_of_log<K: Sink>(
     give_text(out, text.as_str())
 }
 
-// Gives what is left of the text, and answers the fault.
-fn end_by_fault<K: Sink>(text: &str, fault: BinlogFault, out: &mut K) -> Result<(), ListStatus>
+// Gives what is left of the text, and answers the fault. `reached`, where the event that is due begins,
+// becomes the place of the refusal.
+fn end_by_fault<K: Sink>(
+    text: &str,
+    fault: BinlogFault,
+    out: &mut K,
+    reached: &mut u64,
+) -> Result<(), ListStatus>
     ensures printed { (before : Option (List ℕ)) (front : List ℕ) → IsPrinted front before (K.given out.old) text.now
         → ((result ≡ Err (log_stop fault)) × (K.given out.new ≡ extended front before)) ⊎ (IsErrAnd result IsListStop × IsPartlyGiven front before (K.given out.new)) }
-    ensures answer { (result ≡ Err (log_stop fault)) ⊎ (result ≡ Err ListStatus.OutFault) ⊎ (result ≡ Err ListStatus.OutOfMemory) }
+    ensures answer { ((result ≡ Err (log_stop fault)) × (reached.new ≡ refused_place reached.old fault)) ⊎ (((result ≡ Err ListStatus.OutFault) × (text.now ≢ []) × (reached.new ≡ reached.old)) ⊎ ((result ≡ Err ListStatus.OutOfMemory) × (reached.new ≡ reached.old))) }
     ensures cause { PrintCauses (K.faults out.old) (K.faults out.new) result }
-    ensures some { result ≡ Err ListStatus.OutFault → text.now ≢ [] }
 {
     give_text(out, text)?;
+    *reached = refused_place(*reached, fault);
     Err(log_stop(fault))
 }
 
 /// Lists the events of the log of a name, with their bytes where `is_hex` says so. `reached` becomes the
-/// place of the event that is due at the end, or of the refusal.
+/// place where the listing stopped: behind the events that were read, or where the log is refused.
 ///
 /// # Errors
 /// `Log`, `FileFault`, `OutFault`, `OutOfMemory`.
@@ -70,8 +76,7 @@ pub(crate) fn list_log<L: Library, K: Sink>(
     ensures library { FileCauses (L.faults files.old) (L.faults files.new) (L.absences files.old) (L.absences files.new) result }
     ensures sink { PrintCauses (K.faults out.old) (K.faults out.new) result }
     ensures due { IsErrOf result ListStatus.FileFault → L.failed_last files.new name.now }
-    ensures some { result ≡ Err ListStatus.OutFault → Told (λ fs. PrintsSome (IsLogListing is_hex ring.now (fs name.now))) (L.files files.old) }
-    ensures refused { (fault : BinlogFault) → result ≡ Err (ListStatus.Log fault) → Told (λ fs. IsRefusedAt ring.now (fs name.now) fault reached.new) (L.files files.old) }
+    ensures reached { Told (λ fs. IsStoppedAt ring.now (fs name.now) (list_status_of result) reached.new) (L.files files.old) }
 {
     let mut reader = LogReader::new(alloc);
     let mut text = String::new(alloc);
@@ -84,10 +89,7 @@ pub(crate) fn list_log<L: Library, K: Sink>(
                 print_lines(&mut text, lines.as_str(), out)?;
             }
             Ok(None) => return end_of_log(alloc, &mut text, *reached, out),
-            Err(fault) => {
-                *reached = refused_place(*reached, fault);
-                return end_by_fault(text.as_str(), fault, out);
-            }
+            Err(fault) => return end_by_fault(text.as_str(), fault, out, reached),
         }
     }
 }

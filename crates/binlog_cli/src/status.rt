@@ -33,9 +33,9 @@ pub enum ListStatus {
 pub struct ListOutcome {
     /// How it ends.
     pub status: ListStatus,
-    /// Where the event begins in the log that was due when it ended, in bytes from the file's beginning:
-    /// the one that is refused, or 0 where the file is no binary log. None where the log wasn't
-    /// reached.
+    /// Where the log was reached, in bytes from the file's beginning: at its end, where it is done; at
+    /// the event that is refused, or at 0 where there is no such log or the file is no binary log; and
+    /// else behind the events that were read. None where the log wasn't reached.
     pub reached: Option<u64>,
 }
 

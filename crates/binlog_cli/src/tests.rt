@@ -1,7 +1,7 @@
 // A small ciphered log: its listing, what damage to it and other words give, and each call of the outside
 // failing in turn.
 
-use crate::{ListOutcome, ListStatus, binlog, end_with, list_binlog, read_words};
+use crate::{ListOutcome, ListStatus, NamingLibrary, binlog, end_with, list_binlog, read_words};
 use aes_core::BlockKey;
 use binlog_text::{BinlogFault, encipher_event};
 use bytes_core::crc32;
@@ -96,10 +96,10 @@ fn run(
     failing: [u64; 2],
 ) -> Result<(u8, String, Vec<u8>), AllocError> {
     let words = words_of(alloc, line)?;
-    let mut shelf = shelf_of(alloc, log, failing[0])?;
+    let mut files = NamingLibrary::new(alloc, shelf_of(alloc, log, failing[0])?);
     let mut out = ByteSink::new(alloc, vec![in alloc; failing[1]]?);
-    let outcome = list_binlog(alloc, &words, &mut shelf, &mut out);
-    let ended = end_with(alloc, &outcome, "log")?;
+    let outcome = list_binlog(alloc, &words, &mut files, &mut out);
+    let ended = end_with(alloc, &outcome, "log", files.failed())?;
     Ok((
         ended.number,
         ended.line,
@@ -272,12 +272,12 @@ fn each_call_of_the_outside_fails_in_turn(rt: HostRuntime) -> Result<(), Fail> {
     let alloc = rt.alloc();
     let log = small_log(alloc)?;
     let table = [
-        ([1, 0], 7, "binlog: file fault in the key files\n", ""),
-        ([2, 0], 7, "binlog: file fault in the key files\n", ""),
-        ([3, 0], 7, "binlog: file fault in log\n", ""),
-        ([4, 0], 7, "binlog: file fault in log\n", ""),
+        ([1, 0], 7, "binlog: file fault in keys1\n", ""),
+        ([2, 0], 7, "binlog: file fault in keys1\n", ""),
+        ([3, 0], 7, "binlog: file fault in log at 4\n", ""),
+        ([4, 0], 7, "binlog: file fault in log at 4\n", ""),
         ([5, 0], 0, "", WHOLE),
-        ([0, 1], 7, "binlog: output fault\n", ""),
+        ([0, 1], 7, "binlog: output fault at 312\n", ""),
         ([0, 2], 0, "", WHOLE),
     ];
     for (failing, number, line, text) in table {
@@ -319,14 +319,25 @@ fn a_status_has_its_number_and_line(rt: HostRuntime) -> Result<(), Fail> {
             ListStatus::FileFault,
             Some(4),
             7,
-            "binlog: file fault in log\n",
+            "binlog: file fault in log at 4\n",
         ),
-        (ListStatus::OutFault, Some(4), 7, "binlog: output fault\n"),
+        (
+            ListStatus::FileFault,
+            None,
+            7,
+            "binlog: file fault in the key files\n",
+        ),
+        (
+            ListStatus::OutFault,
+            Some(4),
+            7,
+            "binlog: output fault at 4\n",
+        ),
         (ListStatus::OutOfMemory, None, 8, "binlog: out of memory\n"),
     ];
     for (status, reached, number, line) in table {
         let outcome = ListOutcome { status, reached };
-        let ended = end_with(alloc, &outcome, "log")?;
+        let ended = end_with(alloc, &outcome, "log", None)?;
         assert_eq!(rt; ended.number, number);
         assert_eq!(rt; ended.line.as_str(), line);
     }

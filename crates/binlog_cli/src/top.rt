@@ -4,14 +4,13 @@ ghost use Rattle.std.specs.Prelude.{◌≡◌, ◌≢◌, ◌≤◌, ◌⊎◌, 
 ghost use Rattle.cause_core.specs.Counts.{Rose};
 ghost use Rattle.io_core.specs.Told.{Told};
 ghost use Rattle.clap.specs.Words.{fault_of, kind_of, takes};
-ghost use Rattle.binlog_cli.specs.Listing.{HasLogListing, IsLogListing, IsOnlyListing, IsRefusedAt, Listing, ListsOne, PrintsSome};
+ghost use Rattle.binlog_cli.specs.Listing.{HasLogListing, IsOnlyListing, IsStoppedAt, Listing, ListsOne};
 ghost use Rattle.binlog_cli.specs.Stops.{FileCauses, PrintCauses};
-ghost use Rattle.binlog_cli.specs.Words.{IsAskedBy, IsDueAt, IsRefusedAs, IsWordsListing, ListValues, is_within_limits, list_command, list_values_in};
+ghost use Rattle.binlog_cli.specs.Words.{IsAskedBy, IsDueAt, IsEndedAt, IsWordsListing, ListValues, is_within_limits, list_command, list_values_in};
 
 use crate::keys::load_ring;
 use crate::listing::list_log;
 use crate::{ListOutcome, ListRequest, ListStatus, read_words};
-use binlog_text::BinlogFault;
 use clap::Error;
 use clap::error::ErrorKind;
 use io_core::{Library, Sink};
@@ -32,8 +31,7 @@ fn list_keyed<L: Library, K: Sink>(
     ensures library { FileCauses {T = Unit {0}} (L.faults files.old) (L.faults files.new) (L.absences files.old) (L.absences files.new) (Err result.status) }
     ensures sink { PrintCauses {T = Unit {0}} (K.faults out.old) (K.faults out.new) (Err result.status) }
     ensures due { result.status ≡ ListStatus.FileFault → L.failed_last files.new asked.now.name.now }
-    ensures some { result.status ≡ ListStatus.OutFault → Told (λ fs. PrintsSome (IsLogListing asked.now.is_hex ring.now (fs asked.now.name.now))) (L.files files.old) }
-    ensures reached { (place : ℕ) × (result.reached ≡ Some place) × ((fault : BinlogFault) → result.status ≡ ListStatus.Log fault → Told (λ fs. IsRefusedAt ring.now (fs asked.now.name.now) fault place) (L.files files.old)) }
+    ensures reached { (place : ℕ) × (result.reached ≡ Some place) × Told (λ fs. IsStoppedAt ring.now (fs asked.now.name.now) result.status place) (L.files files.old) }
 {
     let mut reached = 0;
     match list_log(
@@ -69,8 +67,7 @@ fn list_asked<L: Library, K: Sink>(
     ensures library { FileCauses {T = Unit {0}} (L.faults files.old) (L.faults files.new) (L.absences files.old) (L.absences files.new) (Err result.status) }
     ensures sink { PrintCauses {T = Unit {0}} (K.faults out.old) (K.faults out.new) (Err result.status) }
     ensures due { (values : ListValues) → IsAskedBy values asked.now → result.status ≡ ListStatus.FileFault → Told (λ fs. (due : List ℕ) × IsDueAt values fs result.reached due × L.failed_last files.new due) (L.files files.old) }
-    ensures some { (values : ListValues) → IsAskedBy values asked.now → result.status ≡ ListStatus.OutFault → Told (λ fs. PrintsSome (IsWordsListing values fs)) (L.files files.old) }
-    ensures refused { (values : ListValues) → IsAskedBy values asked.now → (fault : BinlogFault) → result.status ≡ ListStatus.Log fault → Told (λ fs. IsRefusedAs values fs fault result.reached) (L.files files.old) }
+    ensures reached { (values : ListValues) → IsAskedBy values asked.now → Told (λ fs. IsEndedAt values fs result.status result.reached) (L.files files.old) }
     ensures words { result.status ≢ ListStatus.Usage }
 {
     match load_ring(alloc, asked, files) {
@@ -84,7 +81,8 @@ fn list_asked<L: Library, K: Sink>(
 
 /// Lists the events of the log that the words name, under the keys of the key files that they name, and
 /// prints as it goes. The words come without the program's name. Beside its status it answers how far
-/// the log was reached.
+/// the log was reached. A count of faults of the library or of the sink rises only where its fault is
+/// the status.
 pub fn list_binlog<L: Library, K: Sink>(
     alloc: Global,
     words: &[String],
@@ -110,10 +108,9 @@ pub fn list_binlog<L: Library, K: Sink>(
     ensures sink { PrintCauses {T = Unit {0}} (K.faults out.old) (K.faults out.new) (Err result.status) }
     // A fault of the library is that of a file that was due.
     ensures due { result.status ≡ ListStatus.FileFault → Told (λ fs. (due : List ℕ) × IsDueAt (list_values_in words.now) fs result.reached due × L.failed_last files.new due) (L.files files.old) }
-    // A fault of the output comes only where the listing has text.
-    ensures some { result.status ≡ ListStatus.OutFault → Told (λ fs. PrintsSome (IsWordsListing (list_values_in words.now) fs)) (L.files files.old) }
-    // A refusal of the log has the place of the event that is refused.
-    ensures refused { (fault : BinlogFault) → result.status ≡ ListStatus.Log fault → Told (λ fs. IsRefusedAs (list_values_in words.now) fs fault result.reached) (L.files files.old) }
+    // Where the log was reached: at its end, at the event that is refused, or behind those that were read. Bytes of the log
+    // were due at a fault of it, and text at one of the output.
+    ensures reached { Told (λ fs. IsEndedAt (list_values_in words.now) fs result.status result.reached) (L.files files.old) }
 {
     match read_words(alloc, words) {
         Ok(asked) => list_asked(alloc, &asked, files, out),
@@ -150,8 +147,8 @@ pub fn binlog<L: Library, K: Sink>(
     ensures sink { PrintCauses {T = Unit {0}} (K.faults out.old) (K.faults out.new) (Err result) }
     // A fault of the library is that of a file that was due.
     ensures due { result ≡ ListStatus.FileFault → Told (λ fs. (reached : Option ℕ) × (due : List ℕ) × IsDueAt (list_values_in words.now) fs reached due × L.failed_last files.new due) (L.files files.old) }
-    // A fault of the output comes only where the listing has text.
-    ensures some { result ≡ ListStatus.OutFault → Told (λ fs. PrintsSome (IsWordsListing (list_values_in words.now) fs)) (L.files files.old) }
+    // Bytes of the log were due at a fault of it, and text at one of the output.
+    ensures ends { Told (λ fs. (reached : Option ℕ) × IsEndedAt (list_values_in words.now) fs result reached) (L.files files.old) }
 {
     let outcome = list_binlog(alloc, words, files, out);
     outcome.status

@@ -1,19 +1,19 @@
-use Rattle.std.proofs.Common.{◌≡◌, ◌≢◌, ℕ, List, [], ◌++◌, IsErrAnd, rules, refl, sym, ap, subst, ◌∙◌, arith, string_bytes, Ok}
+use Rattle.std.proofs.Common.{◌≡◌, ℕ, List, ◌++◌, IsErrAnd, rules, refl, sym, ap, subst, ◌∙◌, arith, string_bytes, Ok, Err}
 use Rattle.io_core.specs.Told.{Told}
 use Rattle.io_core.specs.Stream.{IsPartlyGiven}
 use Rattle.binlog_text.specs.Reading.{Keeps, StandsAt, viewed}
-use Rattle.binlog_text.specs.declared.fault.BinlogFault.{BinlogFault}
 use Rattle.binlog_text.specs.declared.stage.Stage.{Stage}
 use Rattle.binlog_text.specs.declared.stage.Stage.TheVariants.{Start}
 use Rattle.binlog_text.specs.Views.{event_of}
 use Rattle.binlog_cli.specs.EventLines.{event_lines}
 use Rattle.binlog_cli.specs.Printed.{IsPrinted}
-use Rattle.binlog_cli.specs.Stops.{IsListStop}
-use Rattle.binlog_cli.specs.Listing.{IsRefusedAt, lines_of_events}
-use Rattle.binlog_cli.specs.declared.status.ListStatus.TheVariants.{OutFault}
+use Rattle.binlog_cli.specs.Stops.{IsListStop, list_status_of}
+use Rattle.binlog_cli.specs.Listing.{lines_of_events}
+use Rattle.binlog_cli.specs.declared.status.ListStatus.TheVariants.{OutOfMemory}
 use Rattle.binlog_cli.proofs.Gathered.{gathered_part}
-use Rattle.binlog_cli.proofs.SoFar.{SoFar, end_length, end_some, events_end, events_fault, events_partly, events_some, fault_answered, gathered_some, handed_err, more_some, refused_behind, so_far_none}
-use Rattle.binlog_cli.proofs.Answered.{answer_err, answer_none, partly_event, so_far_event, some_event, stands_behind}
+use Rattle.binlog_cli.proofs.SoFar.{SoFar, end_length, events_end, events_fault, events_partly, gathered_some, so_far_none}
+use Rattle.binlog_cli.proofs.Reached.{err_out, handed_out, of_err, of_memory, stopped_end, stopped_fault, wants_bytes}
+use Rattle.binlog_cli.proofs.Answered.{answer_err, answer_none, partly_event, reached_event, so_far_event, stands_behind}
 use Rattle.binlog_cli.proofs.listing.list_log.Goals as goal
 
 pub events-init : goal.events-init
@@ -104,47 +104,52 @@ events-preserved g c = record {
   outs = omega (arith, c.events.invariant.outs, c.in_ok-print_lines-in-Ok-Some.ensures.cause.later);
 }
 
-pub returns-in_err-print_lines-in-Ok-Some-clause-some : goal.returns-in_err-print_lines-in-Ok-Some-clause-some
-returns-in_err-print_lines-in-Ok-Some-clause-some g c =
-    let own : IsErrAnd c.from_residual-in_err-print_lines-in-Ok-Some.result (λ s. s ≡ c.in_err-print_lines-in-Ok-Some.field-0.0) = search rules in
-    λ out. record {
+pub returns-in_err-lines-in-Ok-Some-clause-reached : goal.returns-in_err-lines-in-Ok-Some-clause-reached
+returns-in_err-lines-in-Ok-Some-clause-reached g c =
+    let memory : IsErrAnd c.from_residual.result (λ s. s ≡ OutOfMemory) = search rules in
+    record {
       here = λ fs is.
           let so_far = c.events.invariant.so_far.here fs is in
           let answer = ap viewed (c.in-Ok-Some.is ∙ ap Ok c.in-Ok-Some.field-0-is) in
-          let lines : c.as_str.result.now ≡ event_lines c.args.is_hex (event_of c.in-Ok-Some.view) = c.as_str.ensures.value ∙ c.in_ok-lines-in-Ok-Some.ensures in
-          some_event c.args.ring.now _ c.args.name.now c.events.reader _ (viewed c.next.result) c.next.follows.holds-at-none c.args.is_hex (event_of c.in-Ok-Some.view) fs _ _ _ _ answer
-          (c.events.invariant.same ∙ is) so_far
-          (more_some (lines_of_events c.args.is_hex so_far.events) (event_lines c.args.is_hex (event_of c.in-Ok-Some.view)) (string_bytes c.events.text) _ _ so_far.printed
-          (subst (λ (t : List ℕ). string_bytes c.events.text ++ t ≢ []) lines (c.in_err-print_lines-in-Ok-Some.ensures.some (handed_err c.from_residual-in_err-print_lines-in-Ok-Some.result c.in_err-print_lines-in-Ok-Some.field-0.0 OutFault own out))));
+          reached_event c.args.ring.now _ c.args.name.now c.events.reader _ (viewed c.next.result) c.next.follows.holds-at-none c.args.is_hex (event_of c.in-Ok-Some.view) fs c.events.reached c.end.result _ _ _
+          (list_status_of c.from_residual.result) answer (c.events.invariant.same ∙ is) c.end.ensures so_far (of_memory c.from_residual.result memory);
     }
 
-pub returns-in-Ok-None-clause-some : goal.returns-in-Ok-None-clause-some
-returns-in-Ok-None-clause-some g c = λ out. record {
+pub returns-in_err-print_lines-in-Ok-Some-clause-reached : goal.returns-in_err-print_lines-in-Ok-Some-clause-reached
+returns-in_err-print_lines-in-Ok-Some-clause-reached g c =
+    let own : IsErrAnd c.from_residual-in_err-print_lines-in-Ok-Some.result (λ s. s ≡ c.in_err-print_lines-in-Ok-Some.field-0.0) = search rules in
+    let out = err_out c.in_err-print_lines-in-Ok-Some.field-0.0 c.in_err-print_lines-in-Ok-Some.ensures.stop c.in_err-print_lines-in-Ok-Some.ensures.inside in
+    record {
+      here = λ fs is.
+          let so_far = c.events.invariant.so_far.here fs is in
+          let answer = ap viewed (c.in-Ok-Some.is ∙ ap Ok c.in-Ok-Some.field-0-is) in
+          reached_event c.args.ring.now _ c.args.name.now c.events.reader _ (viewed c.next.result) c.next.follows.holds-at-none c.args.is_hex (event_of c.in-Ok-Some.view) fs c.events.reached c.end.result _ _ _
+          (list_status_of c.from_residual-in_err-print_lines-in-Ok-Some.result) answer (c.events.invariant.same ∙ is) c.end.ensures so_far
+          (of_err c.from_residual-in_err-print_lines-in-Ok-Some.result (handed_out c.from_residual-in_err-print_lines-in-Ok-Some.result _ own out));
+    }
+
+pub returns-in-Ok-None-clause-reached : goal.returns-in-Ok-None-clause-reached
+returns-in-Ok-None-clause-reached g c = record {
   here = λ fs is.
       let so_far = c.events.invariant.so_far.here fs is in
       let answer = ap viewed (c.in-Ok-None.is ∙ ap Ok c.in-Ok-None.field-0-is) in
       let none = answer_none c.args.ring.now _ c.args.name.now c.events.reader _ (viewed c.next.result) c.next.follows.holds-at-none answer fs (c.events.invariant.same ∙ is) in
-      end_some c.args.is_hex c.args.ring.now (fs c.args.name.now) c.events.reader.stage so_far.events so_far.read none;
+      let keeps = c.events.invariant.keeps.here fs is in
+      let size = end_length c.args.ring.now (fs c.args.name.now) c.events.reader.stage c.events.reached c.events.reader.buffer.rest c.events.invariant.stands keeps none in
+      stopped_end c.args.ring.now (fs c.args.name.now) c.events.reader.stage so_far.events c.events.reached so_far.read so_far.behind none size c.end_of_log.result c.end_of_log.ensures.stop
+      c.end_of_log.ensures.inside;
 }
 
-pub returns-in-Err-clause-some : goal.returns-in-Err-clause-some
-returns-in-Err-clause-some g c = λ out. record {
+pub returns-in-Err-clause-reached : goal.returns-in-Err-clause-reached
+returns-in-Err-clause-reached g c = record {
   here = λ fs is.
       let so_far = c.events.invariant.so_far.here fs is in
+      let answer = ap viewed c.in-Err.is in
       let gathered : c.as_str-in-Err.result.now ≡ string_bytes c.events.text = c.as_str-in-Err.ensures.value in
-      events_some c.args.is_hex c.args.ring.now (fs c.args.name.now) c.events.reader.stage so_far.events so_far.read
-      (gathered_some (lines_of_events c.args.is_hex so_far.events) (string_bytes c.events.text) _ _ so_far.printed (λ e. c.end_by_fault.ensures.some out (gathered ∙ e)));
+      stopped_fault c.args.ring.now (fs c.args.name.now) c.events.reader.stage so_far.events c.events.reached so_far.read so_far.behind c.args.is_hex c.in-Err.fault c.end_by_fault.new.reached
+      c.end_by_fault.result c.as_str-in-Err.result.now
+      (λ file. wants_bytes (fs c.args.name.now) c.events.reader.stage c.events.reached c.events.reader.buffer.rest c.events.invariant.stands (c.events.invariant.keeps.here fs is) (c.in-Err.ensures.wanted (ap Err file)))
+      (answer_err c.args.ring.now _ c.args.name.now c.events.reader _ (viewed c.next.result) c.next.follows.holds-at-none c.in-Err.fault answer fs (c.events.invariant.same ∙ is))
+      (λ some. gathered_some (lines_of_events c.args.is_hex so_far.events) (string_bytes c.events.text) _ _ so_far.printed (λ e. some (gathered ∙ e)))
+      c.end_by_fault.ensures.answer;
 }
-
-pub returns-in-Err-clause-refused : goal.returns-in-Err-clause-refused
-returns-in-Err-clause-refused g c = λ fault refusal.
-    let known = fault_answered c.in-Err.fault fault c.end_by_fault.result c.end_by_fault.ensures.answer refusal in
-    record {
-      here = λ fs is.
-          let so_far = c.events.invariant.so_far.here fs is in
-          let answer = ap viewed c.in-Err.is in
-          subst (λ (f : BinlogFault). IsRefusedAt c.args.ring.now (fs c.args.name.now) f c.refused_place.result) known.1
-          (refused_behind c.args.ring.now (fs c.args.name.now) c.events.reader.stage so_far.events c.events.reached c.refused_place.result c.in-Err.fault so_far.read so_far.behind
-          c.refused_place.ensures
-          (answer_err c.args.ring.now _ c.args.name.now c.events.reader _ (viewed c.next.result) c.next.follows.holds-at-none c.in-Err.fault answer fs (c.events.invariant.same ∙ is) known.0));
-    }

@@ -15,8 +15,5 @@ returns-in-Ok-clause-complete g c = λ taken within. record {
       c.list_asked.ensures.library c.list_asked.ensures.sink c.list_asked.ensures.words calm quiet;
 }
 
-pub returns-in-Ok-clause-some : goal.returns-in-Ok-clause-some
-returns-in-Ok-clause-some g c = c.list_asked.ensures.some (list_values_in c.args.words.now) c.in-Ok.ensures.asked
-
-pub returns-in-Ok-clause-refused : goal.returns-in-Ok-clause-refused
-returns-in-Ok-clause-refused g c = c.list_asked.ensures.refused (list_values_in c.args.words.now) c.in-Ok.ensures.asked
+pub returns-in-Ok-clause-reached : goal.returns-in-Ok-clause-reached
+returns-in-Ok-clause-reached g c = c.list_asked.ensures.reached (list_values_in c.args.words.now) c.in-Ok.ensures.asked
