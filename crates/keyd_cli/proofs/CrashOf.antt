@@ -12,21 +12,21 @@ use Rattle.disk_model.specs.declared.contents.DiskContents.{DiskContents}
 use Rattle.disk_model.specs.declared.calls.Choice.{Choice}
 use Rattle.disk_model.specs.declared.calls.Choice.TheVariants.{Lost}
 use Rattle.disk_model.proofs.FilesLemmas.{file_in-none}
-use Rattle.engine_core.specs.declared.journal.Entry.{Entry}
-use Rattle.engine_core.specs.Log.{IsRunFrom}
-use Rattle.engine_core.specs.Stands.{AllStand, AllRefusable, LogStands}
-use Rattle.engine_core.specs.Kept.{IsExact}
-use Rattle.engine_core.proofs.Crashes.{crash-stands}
-use Rattle.engine_core.proofs.RunLength.{settled-scan}
+use Rattle.plain_engine.specs.declared.journal.Entry.{Entry}
+use Rattle.plain_engine.specs.Log.{IsRunFrom}
+use Rattle.plain_engine.specs.Stands.{AllStand, AllRefusable, LogStands}
+use Rattle.plain_engine.specs.Kept.{IsExact}
+use Rattle.plain_engine.proofs.Crashes.{crash-stands}
+use Rattle.plain_engine.proofs.RunLength.{settled-scan}
 use Rattle.std.proofs.lemmas.Bool.Decides.{nat_tests}
 use Rattle.disk_model.specs.Log.{IsLaterLog}
 use Rattle.disk_model.specs.Marks.{acked as acked_of}
 use Rattle.disk_model.specs.Turns.{later_turn, turns_in, faults_in, are_planned}
 use Rattle.disk_model.specs.Image.{IsLucky}
 use Rattle.disk_model.specs.declared.calls.DiskCall.{DiskCall}
-use Rattle.engine_core.specs.declared.fault.State.{State}
-use Rattle.engine_core.specs.declared.fault.State.TheVariants.{Up, OutOfMemory}
-use Rattle.engine_core.specs.Stands.{AllRecover, LogKeeps, passes}
+use Rattle.plain_engine.specs.declared.fault.State.{State}
+use Rattle.plain_engine.specs.declared.fault.State.TheVariants.{Up, OutOfMemory}
+use Rattle.plain_engine.specs.Stands.{AllRecover, LogKeeps, passes}
 use Rattle.keyd_cli.specs.declared.act.DrillStatement.{DrillStatement}
 use Rattle.keyd_cli.specs.declared.plan.DrillPlan.{DrillPlan}
 use Rattle.keyd_cli.specs.declared.drill.Drilled.{Drilled}

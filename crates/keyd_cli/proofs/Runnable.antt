@@ -2,7 +2,7 @@
 use Rattle.std.proofs.Common.{◌≡◌, ℕ, ◌+◌, ◌<◌, ◌≤◌, ◌^◌, ◌++◌, length, arith, ap, List, [], ◌∷◌, refl, if◌then◌else◌}
 use Rattle.std.proofs.lemmas.List.{append-nil}
 use Rattle.redo_text.specs.declared.change.Change.TheVariants.{Put}
-use Rattle.engine_core.specs.Text.{mtr_text}
+use Rattle.plain_engine.specs.Text.{mtr_text}
 use Rattle.keyd_cli.specs.declared.act.DrillAct.{DrillAct}
 use Rattle.keyd_cli.specs.declared.act.DrillAct.TheVariants.{Mtr, Sync}
 use Rattle.keyd_cli.specs.declared.act.DrillStatement.{DrillStatement}

@@ -3,7 +3,7 @@ use Rattle.std.proofs.Common.{◌≡◌, ℕ, ◌+◌, ◌≤◌, ◌++◌, leng
 use Rattle.std.proofs.lemmas.List.{append-nil, length-append}
 use Rattle.std.proofs.lemmas.List.Sums.{sum_by-append, sum_by-cons}
 use mathlib.Core.List.{append_assoc}
-use Rattle.engine_core.specs.declared.journal.Entry.{Entry}
+use Rattle.plain_engine.specs.declared.journal.Entry.{Entry}
 use Rattle.keyd_cli.specs.declared.outcome.Reply.{Reply}
 use Rattle.keyd_cli.specs.declared.outcome.Answer.{Answer}
 use Rattle.keyd_cli.specs.declared.outcome.Answer.TheVariants.{Place, Acked}

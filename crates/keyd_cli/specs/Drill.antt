@@ -12,9 +12,9 @@ use Rattle.disk_model.specs.declared.contents.DiskContents.{DiskContents}
 use Rattle.disk_model.specs.declared.calls.Choice.{Choice}
 use Rattle.disk_model.specs.declared.calls.Choice.TheVariants.{Lost}
 use Rattle.space_head.specs.declared.space.SpaceInfo.{SpaceInfo}
-use Rattle.engine_core.specs.Layer.{LogReady}
-use Rattle.engine_core.specs.Made.{IsHeaded}
-use Rattle.engine_core.specs.Stands.{LogKeeps, passes}
+use Rattle.plain_engine.specs.Layer.{LogReady}
+use Rattle.plain_engine.specs.Made.{IsHeaded}
+use Rattle.plain_engine.specs.Stands.{LogKeeps, passes}
 use Rattle.keyd_cli.specs.declared.words.SpaceWords.{SpaceWords}
 use Rattle.keyd_cli.specs.declared.plan.DrillPlan.{DrillPlan}
 use Rattle.keyd_cli.specs.declared.act.DrillStatement.{DrillStatement}

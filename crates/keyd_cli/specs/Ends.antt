@@ -7,8 +7,8 @@ use Rattle.io_core.specs.Stream.{extended, IsPartlyGiven}
 use Rattle.key_file.specs.declared.load_fault.LoadFault.{LoadFault}
 use Rattle.key_file.specs.declared.load_fault.LoadFault.TheVariants as load
 use Rattle.key_ring.specs.Ring as ring
-use Rattle.engine_core.specs.declared.journal.Entry.{Entry}
-use Rattle.engine_core.specs.Stands.{contents_after}
+use Rattle.plain_engine.specs.declared.journal.Entry.{Entry}
+use Rattle.plain_engine.specs.Stands.{contents_after}
 use Rattle.store_model.specs.Fold.{empty}
 use Rattle.store_model.specs.Report.{report_text}
 use Rattle.keyd_cli.specs.declared.plan.DrillPlan.{DrillPlan}

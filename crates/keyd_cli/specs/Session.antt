@@ -1,7 +1,7 @@
 -- What a session of a drill does with its statements.
 use Rattle.std.specs.Prelude.{◌≡◌, ℕ, ◌+◌, ◌*◌, ◌≤◌, ◌<◌, Bool, true, false, List, [], ◌∷◌, ◌++◌, length, take, Option, Some, None}
-use Rattle.engine_core.specs.declared.journal.Entry.{Entry}
-use Rattle.engine_core.specs.Text.{IsSmall}
+use Rattle.plain_engine.specs.declared.journal.Entry.{Entry}
+use Rattle.plain_engine.specs.Text.{IsSmall}
 use Rattle.keyd_cli.specs.declared.act.DrillAct.{DrillAct}
 use Rattle.keyd_cli.specs.declared.act.DrillAct.TheVariants.{Mtr, Sync}
 use Rattle.keyd_cli.specs.declared.act.DrillStatement.{DrillStatement}

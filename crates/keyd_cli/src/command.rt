@@ -21,7 +21,7 @@ use crate::status::Status;
 use crate::words::{SpaceWords, check_words};
 use cause_core::OutOfMemory;
 use disk_model::Disk;
-use engine_core::Journal;
+use plain_engine::Journal;
 use io_core::{IoError, Library, Sink, Source, SourceContents, read_all};
 use key_file::LoadFault;
 use rand_core::Rng;

@@ -1,7 +1,7 @@
 // What a command ends with.
 use crate::status::Status;
 use disk_model::MemDisk;
-use engine_core::Journal;
+use plain_engine::Journal;
 use std::marker::Model;
 
 /// The answer to a statement.

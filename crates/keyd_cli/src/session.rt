@@ -1,6 +1,6 @@
 // A session of a drill: its statements in order, on an engine over a memory disk.
 ghost use Rattle.std.specs.Prelude.{◌≡◌, ◌≢◌, ◌+◌, ◌<◌, ◌≤◌, [], ◌∷◌, ◌++◌, length, IfOk, Ok, Some, None, true, false, MatchOption};
-ghost use Rattle.engine_core.specs.declared.fault.State.TheVariants as state;
+ghost use Rattle.plain_engine.specs.declared.fault.State.TheVariants as state;
 ghost use Rattle.keyd_cli.specs.Session.{IsSmallAct, AreRunnable, entry_of, reply_to, HasRun, acked_after, AreAckedWithin};
 ghost use Rattle.keyd_cli.specs.Reads.{mtr_count, is_mtr};
 
@@ -8,7 +8,7 @@ use crate::act::{DrillAct, DrillStatement};
 use crate::outcome::{Answer, Reply};
 use cause_core::OutOfMemory;
 use disk_model::{Disk, MemDisk};
-use engine_core::{Author, Engine, EngineFault};
+use plain_engine::{Author, Engine, EngineFault};
 use std::alloc::Global;
 
 // Runs one statement. None where the disk was stopped.

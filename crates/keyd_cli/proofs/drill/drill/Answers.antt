@@ -5,10 +5,10 @@ use Rattle.disk_model.specs.Crash.{crash_image}
 use Rattle.disk_model.specs.Image.{IsLucky}
 use Rattle.disk_model.specs.declared.calls.Choice.{Choice}
 use Rattle.disk_model.specs.declared.memory.MemDisk.{MemDisk}
-use Rattle.engine_core.specs.declared.journal.Entry.{Entry}
-use Rattle.engine_core.specs.declared.fault.State.TheVariants.{OutOfMemory}
-use Rattle.engine_core.specs.Stands.{AllRecover, AllRefusable, LogKeeps, passes}
-use Rattle.engine_core.specs.Kept.{IsExact}
+use Rattle.plain_engine.specs.declared.journal.Entry.{Entry}
+use Rattle.plain_engine.specs.declared.fault.State.TheVariants.{OutOfMemory}
+use Rattle.plain_engine.specs.Stands.{AllRecover, AllRefusable, LogKeeps, passes}
+use Rattle.plain_engine.specs.Kept.{IsExact}
 use Rattle.keyd_cli.specs.Session.{HasRun, AreAckedWithin}
 use Rattle.keyd_cli.specs.Drill.{AreLost}
 use Rattle.keyd_cli.proofs.CrashOf.{drilled, moved}

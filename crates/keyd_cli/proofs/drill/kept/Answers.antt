@@ -4,8 +4,8 @@ use Rattle.disk_model.specs.Image.{InFile}
 use Rattle.disk_model.specs.Contents.{events}
 use Rattle.disk_model.specs.Crash.{crash_image}
 use Rattle.disk_model.specs.declared.names.FileName.TheVariants.{Log}
-use Rattle.engine_core.specs.Stands.{LogKeeps, passes}
-use Rattle.engine_core.proofs.Crashes.{crash-keeps, crash-settled}
+use Rattle.plain_engine.specs.Stands.{LogKeeps, passes}
+use Rattle.plain_engine.proofs.Crashes.{crash-keeps, crash-settled}
 use Rattle.disk_model.proofs.Lucky.{crash_is_lucky}
 use Rattle.keyd_cli.proofs.CrashOf.{crash-inside, crash-lost}
 use Rattle.keyd_cli.proofs.drill.kept.Goals as goal

@@ -4,8 +4,8 @@ use Rattle.redo_text.specs.declared.change.Change.{Change}
 use Rattle.store_model.specs.declared.contents.SpaceContents.{SpaceContents}
 use Rattle.store_model.specs.Fold.{fold, empty}
 use Rattle.store_model.specs.Report.{report_text}
-use Rattle.engine_core.specs.declared.journal.Entry.{Entry}
-use Rattle.engine_core.specs.Stands.{contents_after, mtrs}
+use Rattle.plain_engine.specs.declared.journal.Entry.{Entry}
+use Rattle.plain_engine.specs.Stands.{contents_after, mtrs}
 use Rattle.keyd_cli.specs.Drill.{info_of}
 use Rattle.keyd_cli.proofs.drill.report_after.Goals as goal
 

@@ -1,6 +1,6 @@
 use Rattle.std.proofs.Common.{◌≡◌, ◌++◌, ◌≤◌, length}
 use Rattle.std.specs.Vec.Iter.{into_iter_items}
-use Rattle.engine_core.specs.declared.fault.State.TheVariants as state
+use Rattle.plain_engine.specs.declared.fault.State.TheVariants as state
 use Rattle.keyd_cli.specs.Session.{entries_of, replies_to, AreAckedWithin}
 use Rattle.keyd_cli.proofs.session.run_statements.Given as goal
 

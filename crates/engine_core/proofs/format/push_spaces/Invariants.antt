@@ -1,6 +1,0 @@
-use Rattle.std.proofs.Common.{◌≡◌, ◌++◌, drop}
-use Rattle.engine_core.specs.Block.{spaces_fields}
-use Rattle.engine_core.proofs.format.push_spaces.Given as goal
-
-abbrev pub invariant-loop-space : goal.invariant-loop-space
-invariant-loop-space l = l.text.items ++ spaces_fields (drop l.space-index l.spaces) ≡ l.fn.text.items ++ spaces_fields l.spaces
