@@ -1,7 +1,7 @@
 -- A mini-transaction is added to the pending blocks, or isn't taken, or is taken back.
 use Rattle.std.specs.Prelude.{◌≡◌, ℕ, ◌+◌, ◌-◌, ◌*◌, ◌^◌, ◌<◌, ◌≤◌, true, false, List, [], ◌∷◌, ◌++◌, take, nat_lt, if◌then◌else◌}
 use Rattle.aes_core.specs.Cipher.{IsKey as IsCipherKey}
-use Rattle.store_image.specs.View.{Logged}
+use Rattle.store_image.specs.View.{block_bytes, Logged}
 use Rattle.ring_log.specs.Ring.{RingState, AreWholeEntries, IsRingJournal, IsRingState}
 use Rattle.redo_text.specs.declared.change.Change.{Change}
 use Rattle.redo_text.specs.declared.key.RedoKey.{RedoKey}
@@ -27,7 +27,7 @@ appended log mtr key = record log { next = log.next + block_count (text_of mtr);
 
 -- the log with its last k blocks fewer
 abbrev pub taken_back : LogState → ℕ → LogState
-taken_back log k = record log { next = log.next - k; pending = take ((pending_count log - k) * 4096) log.pending }
+taken_back log k = record log { next = log.next - k; pending = take ((pending_count log - k) * block_bytes) log.pending }
 
 -- Each refusal comes exactly where its condition is the first that holds. Without one the mini-transaction is taken, but where there is no memory.
 abbrev pub IsLogRefusal : LogState → ℕ → LogFault → Type 0
@@ -45,7 +45,7 @@ HasPending block log = (j : ℕ) → j < pending_count log → block (durable lo
 
 -- the mini-transaction as an entry of the journal, behind the next block's number of this log
 abbrev pub logged_entry : LogState → List Change → Logged (List Change)
-logged_entry log mtr = record { first = log.next; lsn = (log.next + block_count (text_of mtr)) * 4096; mtr = mtr }
+logged_entry log mtr = record { first = log.next; lsn = (log.next + block_count (text_of mtr)) * block_bytes; mtr = mtr }
 
 -- The pending blocks of the new log end with those of the mini-transaction: it is the journal's next entry, under the keys of each store whose key this is.
 abbrev pub IsEntry : LogState → LogState → List Change → RedoKey → Type 0

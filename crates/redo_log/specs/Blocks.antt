@@ -8,6 +8,7 @@ use Rattle.places.specs.Places.{Layout, place}
 use Rattle.ring_log.specs.Ring.{Form}
 use Rattle.redo_text.specs.declared.change.Change.{Change}
 use Rattle.redo_text.specs.declared.key.RedoKey.{RedoKey}
+use Rattle.store_image.specs.View.{block_bytes}
 use Rattle.store_files.specs.Header.{HeldHeader}
 
 -- what tells the log's key of each version: the store's header, which has the salt and the algorithm, and the keys of its ring
@@ -26,8 +27,8 @@ pub record IsStoreKey (keys : Keys) (key : RedoKey) : Type 0 where
 
 -- the log's file with N ring blocks
 abbrev pub file_layout : ℕ → Layout
-file_layout N = record { size = 4096; count = 3 + N; passes = ends_in_sum }
+file_layout N = record { size = block_bytes; count = 3 + N; passes = ends_in_sum }
 
 -- the bytes at the place of a ring block
 abbrev pub read_at : ℕ → List ℕ → ℕ → List ℕ
-read_at N file n = place 4096 (3 + n % N) file
+read_at N file n = place block_bytes (3 + n % N) file

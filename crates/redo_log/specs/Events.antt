@@ -7,6 +7,7 @@ use Rattle.places.specs.Writes.{writes_of}
 use Rattle.redo_log.specs.State.{LogState}
 use Rattle.redo_log.specs.Blocks.{file_layout}
 use Rattle.redo_log.specs.Check.{check_bytes}
+use Rattle.store_image.specs.View.{block_bytes}
 use Rattle.redo_log.specs.Log.{durable, pending_at, pending_count}
 
 -- the writes of the pending blocks
@@ -29,12 +30,12 @@ BlocksSettled log s m = BatchSettled LogFile (file_layout log.blocks) (block_bat
 
 -- a write of a pending block, or a sync of the log
 abbrev pub IsBlockEvent : LogState → Event → Type 0
-IsBlockEvent log e = IsOf LogFile 4096 (block_batch log) (pending_count log) e
+IsBlockEvent log e = IsOf LogFile block_bytes (block_batch log) (pending_count log) e
 
 -- what a write out adds: each pending block in order, and one sync, but nothing where nothing is pending
 abbrev pub out_events : ℕ → LogState → List Event
 out_events zero log = []
-out_events (suc k) log = Sync LogFile ∷ writes_of LogFile 4096 (block_batch log) (suc k)
+out_events (suc k) log = Sync LogFile ∷ writes_of LogFile block_bytes (block_batch log) (suc k)
 
 -- a checkpoint is being written, was written, and is durable
 abbrev pub CheckWriting : ℕ → ℕ → ℕ → List Event → List Event → Type 0
@@ -48,8 +49,8 @@ CheckSettled blocks sequence from s m = BatchSettled LogFile (file_layout blocks
 
 -- a write of the checkpoint, or a sync of the log
 abbrev pub IsCheckEvent : ℕ → ℕ → Event → Type 0
-IsCheckEvent sequence from e = IsOf LogFile 4096 (side_batch sequence from) 1 e
+IsCheckEvent sequence from e = IsOf LogFile block_bytes (side_batch sequence from) 1 e
 
 -- the write itself
 abbrev pub check_event : ℕ → ℕ → Event
-check_event sequence from = Write LogFile ((1 + sequence % 2) * 4096) (check_bytes sequence from) (check_bytes sequence from)
+check_event sequence from = Write LogFile ((1 + sequence % 2) * block_bytes) (check_bytes sequence from) (check_bytes sequence from)

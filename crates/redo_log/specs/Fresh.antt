@@ -4,17 +4,18 @@ use Rattle.disk_model.specs.Event.{Event, zeros}
 use Rattle.disk_model.specs.declared.names.FileName.TheVariants.{Log as LogFile}
 use Rattle.places.specs.Places.{place, shown, HasPlaces}
 use Rattle.ring_log.specs.Ring.{RingState}
+use Rattle.store_image.specs.View.{block_bytes}
 use Rattle.redo_log.specs.Blocks.{file_layout}
 
 -- its file reads as zero bytes
 pub record IsFresh (blocks : ℕ) (es : List Event) : Type 0 where
-  pub shows : (i : ℕ) → shown LogFile 4096 i es ≡ place 4096 i (zeros ((3 + blocks) * 4096))
+  pub shows : (i : ℕ) → shown LogFile block_bytes i es ≡ place block_bytes i (zeros ((3 + blocks) * block_bytes))
   pub places : HasPlaces LogFile (file_layout blocks) es
 
 -- the ring of a log with its first checkpoint, and a header of zero bytes
 abbrev pub fresh_ring : ℕ → RingState
 fresh_ring blocks = record {
-  header = place 4096 0 (zeros ((3 + blocks) * 4096));
+  header = place block_bytes 0 (zeros ((3 + blocks) * block_bytes));
   sequence = 1;
   from = 2;
   newer = None;

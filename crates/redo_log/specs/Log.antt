@@ -4,11 +4,12 @@ use Rattle.places.specs.Places.{place}
 use Rattle.ring_log.specs.Ring.{RingState}
 use Rattle.ring_log.specs.Batches.{checkpointed}
 use Rattle.redo_log.specs.State.{LogState}
+use Rattle.store_image.specs.View.{block_bytes}
 use Rattle.store_files.specs.RingBlock.{is_ring_block}
 
 -- how many blocks are pending
 abbrev pub pending_count : LogState → ℕ
-pending_count log = length log.pending / 4096
+pending_count log = length log.pending / block_bytes
 
 -- the number of the first pending block
 abbrev pub durable : LogState → ℕ
@@ -16,7 +17,7 @@ durable log = log.next - pending_count log
 
 -- the pending block at this place, from 0
 abbrev pub pending_at : LogState → ℕ → List ℕ
-pending_at log j = place 4096 j log.pending
+pending_at log j = place block_bytes j log.pending
 
 -- the numbers are those of a ring, each durable block was handed to the disk, and each pending block is valid under its number
 pub record IsOpen (log : LogState) : Type 0 where
@@ -30,7 +31,7 @@ pub record IsOpen (log : LogState) : Type 0 where
   pub room : log.next ≤ log.from + log.blocks
   pub handed_all : durable log ≤ log.handed
   pub handed_few : log.handed ≤ log.next
-  pub whole : length log.pending ≡ pending_count log * 4096
+  pub whole : length log.pending ≡ pending_count log * block_bytes
   pub valid : (j : ℕ) → j < pending_count log → is_ring_block (durable log + j) (pending_at log j) ≡ true
 
 -- a log with nothing pending

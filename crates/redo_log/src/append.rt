@@ -11,7 +11,9 @@ ghost use Rattle.redo_log.specs.Blocks.{Keys, redo_form};
 ghost use Rattle.redo_log.specs.Log.{IsOpen, pending_at, pending_count, FitsRing};
 ghost use Rattle.redo_log.specs.Append.{appended, taken_back, with_pending, IsRedoKey, IsLogRefusal, IsEntry, HasLast, HasRoomFor, JournalGrows, JournalShrinks};
 ghost use Rattle.redo_log.specs.Recorded.{BlocksOnce};
+ghost use Rattle.store_image.specs.View.{block_bytes};
 
+use crate::layout::{BLOCK, BLOCK_BYTES};
 use crate::{Log, LogFault};
 use byte_list::fields::be16_at;
 use redo_text::{LAST_BLOCK, Mtr, RedoKey, encode, mtr_blocks};
@@ -32,7 +34,7 @@ impl Log {
         requires allowed { AreAllowed mtr.now }
         requires most { block_count (text_of mtr.now) ≤ 16 }
         requires version { 1 ≤ key.now.version }
-        ensures lsn { IfOk result (λ lsn. lsn ≡ (self.old.next + block_count (text_of mtr.now)) * 4096) }
+        ensures lsn { IfOk result (λ lsn. lsn ≡ (self.old.next + block_count (text_of mtr.now)) * block_bytes) }
         ensures room { OnOk result (HasRoomFor self.old (block_count (text_of mtr.now))) }
         ensures added { OnOk result (self.new ≡ appended self.old mtr.now key.now) }
         ensures entry { OnOk result (IsEntry self.old self.new mtr.now key.now) }
@@ -65,7 +67,7 @@ impl Log {
             return Err(LogFault::OutOfMemory);
         };
         self.next += needed;
-        Ok(self.next * 4096)
+        Ok(self.next * BLOCK_BYTES)
     }
 
     /// Takes back the mini-transaction of this LSN, whose blocks must be the last pending ones: they
@@ -73,7 +75,7 @@ impl Log {
     /// to the disk, since other bytes get their numbers then, and with these their IVs.
     pub fn take_back(&mut self, lsn: u64)
         requires last { (k : ℕ) × HasLast self.old k }
-        requires lsn { lsn ≡ self.old.next * 4096 }
+        requires lsn { lsn ≡ self.old.next * block_bytes }
         ensures taken { (k : ℕ) → HasLast self.old k → self.new ≡ taken_back self.old k }
         // A ring that the log fitted is fitted still, and its journal is without the mini-transaction.
         ensures fits { (r : RingState) → FitsRing r self.old → FitsRing r self.new }
@@ -84,7 +86,7 @@ impl Log {
         let _ = lsn;
         let kept = self.last_first();
         let dropped = self.pending_count() - kept;
-        self.pending.truncate(kept * 4096);
+        self.pending.truncate(kept * BLOCK);
         self.next -= dropped as u64;
     }
 
@@ -106,7 +108,7 @@ impl Log {
 
 // Whether a block begins a mini-transaction.
 fn begins(block: &[u8]) -> bool
-    requires { length block.now ≡ 4096 }
+    requires { length block.now ≡ block_bytes }
     ensures { result ≡ is_first (block_flags block.now) }
 {
     be16_at(block, 14) % 2 == 1

@@ -2,7 +2,9 @@
 ghost use Rattle.std.specs.Prelude.{◌≡◌, ◌+◌, ◌≤◌, length, take, drop};
 ghost use Rattle.byte_list.specs.Bytes.{put, zeros};
 ghost use Rattle.redo_log.specs.Check.{check_words, check_bytes};
+ghost use Rattle.store_image.specs.View.{block_bytes};
 
+use crate::layout::{SUM_AT, WORDS_END};
 use bytes_core::crc32c;
 
 fn write_part(bytes: &mut [u8], at: usize, part: &[u8])
@@ -41,11 +43,11 @@ fn words(sequence: u64, from: u64) -> [u8; 24]
 
 /// Makes of 4096 bytes the checkpoint of this sequence, from which the run begins at this block.
 pub(crate) fn fill_check(block: &mut [u8], sequence: u64, from: u64)
-    requires size { length block.old ≡ 4096 }
+    requires size { length block.old ≡ block_bytes }
     ensures { block.new ≡ check_bytes sequence from }
 {
     write_part(block, 0, &words(sequence, from));
-    clear_part(block, 24, 4068);
-    let sum = crc32c(part(block, 0, 4092));
-    write_part(block, 4092, &sum.to_be_bytes());
+    clear_part(block, WORDS_END, SUM_AT - WORDS_END);
+    let sum = crc32c(part(block, 0, SUM_AT));
+    write_part(block, SUM_AT, &sum.to_be_bytes());
 }

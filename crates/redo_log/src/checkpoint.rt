@@ -12,7 +12,7 @@ ghost use Rattle.ring_log.specs.Ring.{RingState, Ringed, RingReady, IsBound, IsR
 ghost use Rattle.ring_log.specs.Opening.{IsFound};
 ghost use Rattle.store_files.specs.Header.{HeldHeader};
 ghost use Rattle.store_image.specs.Places.{LogView};
-ghost use Rattle.store_image.specs.View.{Logged};
+ghost use Rattle.store_image.specs.View.{block_bytes, Logged};
 ghost use Rattle.redo_text.specs.declared.change.Change.{Change};
 ghost use Rattle.redo_log.specs.Blocks.{Keys, redo_form, file_layout};
 ghost use Rattle.redo_log.specs.Check.{check_bytes};
@@ -25,6 +25,7 @@ ghost use Rattle.redo_log.specs.Recorded.{KeepsItems, BlocksOnce, IsRecordOnce, 
 
 use crate::Log;
 use crate::check_block::fill_check;
+use crate::layout::{BLOCK, BLOCK_BYTES};
 use disk_model::{Disk, DiskError, FileName};
 
 // Writes a checkpoint of a log with so many ring blocks.
@@ -40,7 +41,7 @@ fn write_check<D: Disk>(
     requires places { At (HasPlaces LogFile (file_layout blocks)) (D.past disk.old) }
     ensures does { Does (From (CheckWriting blocks sequence from) (D.past disk.old)) (IsCheckEvent sequence from) (From (CheckWrote blocks sequence from 1) (D.past disk.old)) (D.past disk.old) (D.past disk.new) result }
     ensures ok { OnOk result (D.past disk.new ≡ grow (check_event sequence from) (D.past disk.old)) }
-    ensures err { OnErr result (MayGrow (IsWrite LogFile ((1 + sequence % 2) * 4096) (check_bytes sequence from)) (D.past disk.old) (D.past disk.new)) }
+    ensures err { OnErr result (MayGrow (IsWrite LogFile ((1 + sequence % 2) * block_bytes) (check_bytes sequence from)) (D.past disk.old) (D.past disk.new)) }
     ensures later { D.is_later disk.old disk.new }
     ensures calls { D.clock disk.new ≤ D.clock disk.old + 1 }
     ensures cause { HasDiskCause (D.faults disk.old) (D.faults disk.new) result }
@@ -50,9 +51,9 @@ fn write_check<D: Disk>(
     ensures no_refusal { OnOk result (D.memory_refusals disk.new ≡ D.memory_refusals disk.old) }
 {
     let _ = blocks;
-    let mut block = [0; 4096];
+    let mut block = [0; BLOCK];
     fill_check(&mut block, sequence, from);
-    disk.write(FileName::Log, (1 + sequence % 2) * 4096, &block)
+    disk.write(FileName::Log, (1 + sequence % 2) * BLOCK_BYTES, &block)
 }
 
 // Writes a checkpoint, and syncs the log.
@@ -68,7 +69,7 @@ fn settle_check<D: Disk>(
     requires places { At (HasPlaces LogFile (file_layout blocks)) (D.past disk.old) }
     ensures does { Does (From (CheckWriting blocks sequence from) (D.past disk.old)) (IsCheckEvent sequence from) (From (CheckSettled blocks sequence from) (D.past disk.old)) (D.past disk.old) (D.past disk.new) result }
     ensures exact { OnOk result (D.past disk.new ≡ grow (Sync LogFile) (grow (check_event sequence from) (D.past disk.old))) }
-    ensures part { OnErr result (IsPart LogFile 4096 (side_batch sequence from) 1 (D.past disk.old) (D.past disk.new)) }
+    ensures part { OnErr result (IsPart LogFile block_bytes (side_batch sequence from) 1 (D.past disk.old) (D.past disk.new)) }
     ensures items { Throughout (From KeepsItems (D.past disk.old)) (D.past disk.old) (D.past disk.new) }
     ensures later { D.is_later disk.old disk.new }
     ensures calls { D.clock disk.new ≤ D.clock disk.old + 2 }
@@ -93,7 +94,7 @@ pub fn write_first_checkpoint<D: Disk>(disk: &mut D, blocks: u64) -> Result<(), 
     requires made { At (IsFresh blocks) (D.past disk.old) }
     ensures ready { (keys : Keys) → OnOk result (At (RingReady blocks (redo_form keys) (fresh_ring blocks)) (D.past disk.new)) }
     ensures exact { OnOk result (D.past disk.new ≡ grow (Sync LogFile) (grow (check_event 1 2) (D.past disk.old))) }
-    ensures part { OnErr result (IsPart LogFile 4096 (side_batch 1 2) 1 (D.past disk.old) (D.past disk.new)) }
+    ensures part { OnErr result (IsPart LogFile block_bytes (side_batch 1 2) 1 (D.past disk.old) (D.past disk.new)) }
     // Nothing of the record's page texts and ring blocks is changed by it.
     ensures items { Throughout (From KeepsItems (D.past disk.old)) (D.past disk.old) (D.past disk.new) }
     ensures places { At (HasPlaces LogFile (file_layout blocks)) (D.past disk.new) }
@@ -128,7 +129,7 @@ pub fn write_opening_checkpoint<D: Disk>(
     // Each lucky image of each moment has its length, its header, and the log that was found or the one behind it, and at Ok a session may begin there.
     ensures opens { (keys : Keys) (found : LogView (List Change)) (header : List ℕ) → found.end ≡ end → At (IsFound blocks (redo_form keys) sequence found) (D.past disk.old) → At (HasHeaderBlock header) (D.past disk.old) → Does (IsOpening blocks (redo_form keys) header found) (IsCheckEvent (sequence + 1) (end + blocks)) (IsOpenedLog blocks (redo_form keys) sequence header found) (D.past disk.old) (D.past disk.new) result }
     ensures exact { OnOk result (D.past disk.new ≡ grow (Sync LogFile) (grow (check_event (sequence + 1) (end + blocks)) (D.past disk.old))) }
-    ensures part { OnErr result (IsPart LogFile 4096 (side_batch (sequence + 1) (end + blocks)) 1 (D.past disk.old) (D.past disk.new)) }
+    ensures part { OnErr result (IsPart LogFile block_bytes (side_batch (sequence + 1) (end + blocks)) 1 (D.past disk.old) (D.past disk.new)) }
     // Nothing of the record's page texts and ring blocks is changed by it.
     ensures items { Throughout (From KeepsItems (D.past disk.old)) (D.past disk.old) (D.past disk.new) }
     ensures places { At (HasPlaces LogFile (file_layout blocks)) (D.past disk.new) }
@@ -154,7 +155,7 @@ impl Log {
         ensures places { At (HasPlaces LogFile (file_layout self.now.blocks)) (D.past disk.new) }
         ensures nothing { from ≡ self.now.from → (result ≡ Ok tt) × (D.past disk.new ≡ D.past disk.old) × (disk.new ≡ disk.old) }
         ensures exact { self.now.from < from → OnOk result (D.past disk.new ≡ grow (Sync LogFile) (grow (check_event (self.now.sequence + 1) from) (D.past disk.old))) }
-        ensures part { OnErr result (IsPart LogFile 4096 (side_batch (self.now.sequence + 1) from) 1 (D.past disk.old) (D.past disk.new)) }
+        ensures part { OnErr result (IsPart LogFile block_bytes (side_batch (self.now.sequence + 1) from) 1 (D.past disk.old) (D.past disk.new)) }
         ensures items { Throughout (From KeepsItems (D.past disk.old)) (D.past disk.old) (D.past disk.new) }
         ensures later { D.is_later disk.old disk.new }
         ensures calls { D.clock disk.new ≤ D.clock disk.old + 2 }
@@ -202,7 +203,7 @@ impl Log {
         ensures journal { OnOk result ((keys : Keys) (r : RingState) (start : ℕ) (journal : List (Logged (List Change))) → IsBound self.old.blocks (redo_form keys) r.block start journal from → IsRingJournal self.old.blocks (redo_form keys) r start journal self.old.next → IsRingJournal self.old.blocks (redo_form keys) (checked r from) start journal self.new.next) }
         ensures nothing { from ≡ self.old.from → (result ≡ Ok tt) × (D.past disk.new ≡ D.past disk.old) × (disk.new ≡ disk.old) }
         ensures exact { self.old.from < from → OnOk result (D.past disk.new ≡ grow (Sync LogFile) (grow (check_event (self.old.sequence + 1) from) (D.past disk.old))) }
-        ensures part { OnErr result (IsPart LogFile 4096 (side_batch (self.old.sequence + 1) from) 1 (D.past disk.old) (D.past disk.new)) }
+        ensures part { OnErr result (IsPart LogFile block_bytes (side_batch (self.old.sequence + 1) from) 1 (D.past disk.old) (D.past disk.new)) }
         ensures moved { OnOk result (self.new ≡ with_checkpoint self.old from) }
         ensures kept { OnErr result (self.new ≡ self.old) }
         // The record of writes agrees with the log at each moment, and nothing of its page texts and ring blocks is changed.

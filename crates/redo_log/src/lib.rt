@@ -21,6 +21,7 @@
 mod append;
 mod check_block;
 mod checkpoint;
+mod layout;
 mod log;
 mod reading;
 mod run;

@@ -7,6 +7,7 @@ ghost use Rattle.redo_log.specs.Blocks.{Keys, redo_form};
 ghost use Rattle.redo_log.specs.Log.{IsOpen, durable, empty_log, free_of, pending_at, pending_count, FitsRing};
 ghost use Rattle.redo_log.specs.Recorded.{AreBlocksOnce, AreBlocksBelow, BlocksOnce};
 
+use crate::layout::BLOCK;
 use cause_core::OutOfMemory;
 use std::alloc::Global;
 use std::marker::Model;
@@ -138,7 +139,7 @@ impl Log {
         ensures count { result ≡ pending_count self.now }
         ensures open { IsOpen self.now }
     {
-        self.pending.len() / 4096
+        self.pending.len() / BLOCK
     }
 
     // The pending block at this place, from 0.
@@ -146,6 +147,6 @@ impl Log {
         requires { i < pending_count self.now }
         ensures { result.now ≡ pending_at self.now i }
     {
-        &self.pending[i * 4096..i * 4096 + 4096]
+        &self.pending[i * BLOCK..i * BLOCK + BLOCK]
     }
 }

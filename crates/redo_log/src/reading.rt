@@ -2,7 +2,9 @@
 ghost use Rattle.std.specs.Prelude.{◌≡◌, ◌≤◌, IfSome, IfNone, Some, None, length, take, codes, true};
 ghost use Rattle.page_places.specs.Texts.{ends_in_sum};
 ghost use Rattle.store_files.specs.Checkpoint.{checkpoint_in};
+ghost use Rattle.store_image.specs.View.{block_bytes};
 
+use crate::layout::SUM_AT;
 use byte_list::fields::{be32_at, be64_at};
 use bytes_core::crc32c;
 
@@ -22,14 +24,14 @@ fn front(bytes: &[u8], n: usize) -> &[u8]
 
 // Whether the checksum of a file block is right.
 fn ends_in_sum(block: &[u8]) -> bool
-    requires { length block.now ≡ 4096 }
+    requires { length block.now ≡ block_bytes }
     ensures { result ≡ ends_in_sum block.now }
 {
-    be32_at(block, 4092) == crc32c(front(block, 4092))
+    be32_at(block, SUM_AT) == crc32c(front(block, SUM_AT))
 }
 
 fn has_magic(block: &[u8]) -> bool
-    requires { length block.now ≡ 4096 }
+    requires { length block.now ≡ block_bytes }
     ensures yes { result ≡ true → take 8 block.now ≡ codes "KEYCHK01" }
     ensures no { take 8 block.now ≡ codes "KEYCHK01" → result ≡ true }
 {
@@ -41,7 +43,7 @@ fn has_magic(block: &[u8]) -> bool
 /// The valid checkpoint in this block of the file, of 4096 bytes. There is none exactly where the
 /// block isn't valid there. It takes no memory.
 pub fn read_checkpoint(block: &[u8], place: u64) -> Option<Checkpoint>
-    requires { length block.now ≡ 4096 }
+    requires { length block.now ≡ block_bytes }
     ensures some { IfSome result (λ c. checkpoint_in place block.now ≡ Some (record { sequence = c.sequence; from = c.from })) }
     ensures none { IfNone result (checkpoint_in place block.now ≡ None) }
 {

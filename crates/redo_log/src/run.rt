@@ -11,7 +11,9 @@ ghost use Rattle.ring_log.specs.Scans.{IsRingRun, Goes, Stops};
 ghost use Rattle.redo_text.specs.Reading.{block_version};
 ghost use Rattle.redo_log.specs.Blocks.{Keys, redo_form, read_at};
 ghost use Rattle.redo_log.specs.Runs.{versions_up, AreVersions, IsReadOnce};
+ghost use Rattle.store_image.specs.View.{block_bytes};
 
+use crate::layout::{BLOCK, BLOCK_BYTES, MOST_BLOCKS, RING_BEGINS};
 use disk_model::{Disk, DiskError, FileName};
 use redo_text::read_block;
 use std::alloc::Global;
@@ -88,7 +90,7 @@ struct Next {
 // What the block of this number says where it goes on with what was read, whose whole
 // mini-transactions end at `end`, and none where it doesn't.
 fn next_of(block: &[u8], number: u64, end: u64) -> Option<Next>
-    requires size { length block.now ≡ 4096 }
+    requires size { length block.now ≡ block_bytes }
     requires small { number + 1 ≤ 2 ^ 63 }
     requires order { end ≤ number }
     requires few { number < end + 16 }
@@ -120,8 +122,8 @@ fn read_number<D: Disk>(
 ) -> Result<(), DiskError>
     requires least { 32 ≤ blocks }
     requires most { blocks ≤ 4096 }
-    requires inside { At (InFile LogFile 0 ((3 + blocks) * 4096)) (D.past disk.old) }
-    requires size { length buffer.old ≡ 4096 }
+    requires inside { At (InFile LogFile 0 ((3 + blocks) * block_bytes)) (D.past disk.old) }
+    requires size { length buffer.old ≡ block_bytes }
     ensures block { OnOk result (At (λ es. buffer.new ≡ read_at blocks (reads LogFile es) number) (D.past disk.old)) }
     ensures same { D.past disk.new ≡ D.past disk.old }
     ensures later { D.is_later disk.old disk.new }
@@ -132,7 +134,8 @@ fn read_number<D: Disk>(
     ensures no_fault_at_want { IsErrOf result DiskError.NoMemory → D.faults disk.new ≡ D.faults disk.old }
     ensures no_refusal { OnOk result (D.memory_refusals disk.new ≡ D.memory_refusals disk.old) }
 {
-    disk.read(FileName::Log, (3 + number % blocks) * 4096, buffer)
+    let place = RING_BEGINS + number % blocks;
+    disk.read(FileName::Log, place * BLOCK_BYTES, buffer)
 }
 
 // Reads the run into the versions of its blocks, one for each block that was read, and gives the
@@ -147,8 +150,8 @@ fn scan_into<D: Disk>(
     requires least { 32 ≤ blocks }
     requires most { blocks ≤ 4096 }
     requires high { from ≤ 2 ^ 50 }
-    requires inside { At (InFile LogFile 0 ((3 + blocks) * 4096)) (D.past disk.old) }
-    requires size { length buffer.old ≡ 4096 }
+    requires inside { At (InFile LogFile 0 ((3 + blocks) * block_bytes)) (D.past disk.old) }
+    requires size { length buffer.old ≡ block_bytes }
     requires none { versions.old.items ≡ [] }
     ensures low { IfOk result (λ end. (from ≤ end) × (end ≤ from + length versions.new.items)) }
     ensures run { IfOk result (λ end. At (λ es. (keys : Keys) → IsRingRun blocks (redo_form keys) (read_at blocks (reads LogFile es)) from end) (D.past disk.old)) }
@@ -166,7 +169,7 @@ fn scan_into<D: Disk>(
     let mut end = from;
     for i in 0..blocks {
         let number = from + i;
-        if number - end >= 16 {
+        if number - end >= MOST_BLOCKS {
             return Ok(end);
         }
         read_number(disk, blocks, number, buffer)?;
@@ -192,7 +195,7 @@ pub fn scan<D: Disk>(alloc: Global, disk: &mut D, blocks: u64, from: u64) -> Res
     requires most { blocks ≤ 4096 }
     requires low { 2 ≤ from }
     requires high { from ≤ 2 ^ 50 }
-    requires inside { At (InFile LogFile 0 ((3 + blocks) * 4096)) (D.past disk.old) }
+    requires inside { At (InFile LogFile 0 ((3 + blocks) * block_bytes)) (D.past disk.old) }
     ensures low { IfOk result (λ run. from ≤ run.last + 1) }
     ensures run { IfOk result (λ run. At (λ es. (keys : Keys) → IsRingRun blocks (redo_form keys) (read_at blocks (reads LogFile es)) from (run.last + 1)) (D.past disk.old)) }
     ensures versions { IfOk result (λ run. At (λ es. AreVersions (read_at blocks (reads LogFile es)) from (run.last + 1) run.versions) (D.past disk.old)) }
@@ -208,7 +211,7 @@ pub fn scan<D: Disk>(alloc: Global, disk: &mut D, blocks: u64, from: u64) -> Res
     ensures no_fault_at_want { IsErrOf result DiskError.NoMemory → D.faults disk.new ≡ D.faults disk.old }
     ensures no_refusal { OnOk result (D.memory_refusals disk.new ≡ D.memory_refusals disk.old) }
 {
-    let mut buffer = [0; 4096];
+    let mut buffer = [0; BLOCK];
     let mut versions = Vec::new(alloc);
     let end = scan_into(disk, blocks, from, &mut buffer, &mut versions)?;
     versions.truncate((end - from) as usize);

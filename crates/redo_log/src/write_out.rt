@@ -10,7 +10,7 @@ ghost use Rattle.ring_log.specs.Batches.{more, settle};
 ghost use Rattle.key_ring.specs.Ring.{RingEntry};
 ghost use Rattle.ring_log.specs.Ring.{RingState, Ringed, RingReady, IsRingJournal, AllRingStand};
 ghost use Rattle.store_files.specs.Header.{HeldHeader};
-ghost use Rattle.store_image.specs.View.{Logged};
+ghost use Rattle.store_image.specs.View.{block_bytes, Logged};
 ghost use Rattle.redo_text.specs.declared.change.Change.{Change};
 ghost use Rattle.redo_log.specs.Blocks.{Keys, redo_form, file_layout};
 ghost use Rattle.places.specs.Writes.{writes_of, grows, IsPart};
@@ -19,6 +19,7 @@ ghost use Rattle.redo_log.specs.Log.{IsOpen, durable, pending_at, pending_count,
 ghost use Rattle.redo_log.specs.Recorded.{BlocksOnce, IsRecordOnce, AreBlocksSettled};
 
 use crate::Log;
+use crate::layout::{BLOCK_BYTES, RING_BEGINS};
 use disk_model::{Disk, DiskError, FileName};
 
 impl Log {
@@ -27,8 +28,8 @@ impl Log {
         requires more { i < pending_count self.now }
         requires places { At (HasPlaces LogFile (file_layout self.now.blocks)) (D.past disk.old) }
         ensures does { (first : Past) → At (From (BlocksWrote self.now i) first) (D.past disk.old) → Does (From (BlocksWriting self.now) first) (IsBlockEvent self.now) (From (BlocksWrote self.now (i + 1)) first) (D.past disk.old) (D.past disk.new) result }
-        ensures ok { OnOk result (D.past disk.new ≡ grow (Write LogFile ((3 + (durable self.now + i) % self.now.blocks) * 4096) (pending_at self.now i) (pending_at self.now i)) (D.past disk.old)) }
-        ensures err { OnErr result (MayGrow (IsWrite LogFile ((3 + (durable self.now + i) % self.now.blocks) * 4096) (pending_at self.now i)) (D.past disk.old) (D.past disk.new)) }
+        ensures ok { OnOk result (D.past disk.new ≡ grow (Write LogFile ((3 + (durable self.now + i) % self.now.blocks) * block_bytes) (pending_at self.now i) (pending_at self.now i)) (D.past disk.old)) }
+        ensures err { OnErr result (MayGrow (IsWrite LogFile ((3 + (durable self.now + i) % self.now.blocks) * block_bytes) (pending_at self.now i)) (D.past disk.old) (D.past disk.new)) }
         ensures later { D.is_later disk.old disk.new }
         ensures calls { D.clock disk.new ≤ D.clock disk.old + 1 }
         ensures cause { HasDiskCause (D.faults disk.old) (D.faults disk.new) result }
@@ -38,16 +39,16 @@ impl Log {
         ensures no_refusal { OnOk result (D.memory_refusals disk.new ≡ D.memory_refusals disk.old) }
     {
         let number = self.durable() + i as u64;
-        let place = 3 + number % self.blocks();
-        disk.write(FileName::Log, place * 4096, self.pending_block(i))
+        let place = RING_BEGINS + number % self.blocks();
+        disk.write(FileName::Log, place * BLOCK_BYTES, self.pending_block(i))
     }
 
     // Writes the pending blocks in order.
     fn write_blocks<D: Disk>(&self, disk: &mut D) -> Result<(), DiskError>
         requires places { At (HasPlaces LogFile (file_layout self.now.blocks)) (D.past disk.old) }
         ensures does { Does (From (BlocksWriting self.now) (D.past disk.old)) (IsBlockEvent self.now) (From (BlocksWrote self.now (pending_count self.now)) (D.past disk.old)) (D.past disk.old) (D.past disk.new) result }
-        ensures exact { OnOk result (D.past disk.new ≡ grows (writes_of LogFile 4096 (block_batch self.now) (pending_count self.now)) (D.past disk.old)) }
-        ensures part { OnErr result (IsPart LogFile 4096 (block_batch self.now) (pending_count self.now) (D.past disk.old) (D.past disk.new)) }
+        ensures exact { OnOk result (D.past disk.new ≡ grows (writes_of LogFile block_bytes (block_batch self.now) (pending_count self.now)) (D.past disk.old)) }
+        ensures part { OnErr result (IsPart LogFile block_bytes (block_batch self.now) (pending_count self.now) (D.past disk.old) (D.past disk.new)) }
         ensures later { D.is_later disk.old disk.new }
         ensures calls { D.clock disk.new ≤ D.clock disk.old + pending_count self.now }
         ensures cause { HasDiskCause (D.faults disk.old) (D.faults disk.new) result }
@@ -72,7 +73,7 @@ impl Log {
         ensures places { At (HasPlaces LogFile (file_layout self.now.blocks)) (D.past disk.new) }
         ensures nothing { pending_count self.now ≡ 0 → (result ≡ Ok tt) × (disk.new ≡ disk.old) }
         ensures exact { OnOk result (D.past disk.new ≡ grows (out_events (pending_count self.now) self.now) (D.past disk.old)) }
-        ensures part { OnErr result (IsPart LogFile 4096 (block_batch self.now) (pending_count self.now) (D.past disk.old) (D.past disk.new)) }
+        ensures part { OnErr result (IsPart LogFile block_bytes (block_batch self.now) (pending_count self.now) (D.past disk.old) (D.past disk.new)) }
         ensures later { D.is_later disk.old disk.new }
         ensures calls { D.clock disk.new ≤ D.clock disk.old + (pending_count self.now + 1) }
         ensures cause { HasDiskCause (D.faults disk.old) (D.faults disk.new) result }
@@ -121,7 +122,7 @@ impl Log {
         ensures journal { OnOk result ((keys : Keys) (r : RingState) (start : ℕ) (journal : List (Logged (List Change))) → FitsRing r self.old → r.written ≡ r.settled → IsRingJournal self.old.blocks (redo_form keys) r start journal self.old.next → IsRingJournal self.old.blocks (redo_form keys) (settle r (pending_count self.old)) start journal self.new.next) }
         ensures nothing { pending_count self.old ≡ 0 → (result ≡ Ok tt) × (disk.new ≡ disk.old) }
         ensures exact { OnOk result (D.past disk.new ≡ grows (out_events (pending_count self.old) self.old) (D.past disk.old)) }
-        ensures part { OnErr result (IsPart LogFile 4096 (block_batch self.old) (pending_count self.old) (D.past disk.old) (D.past disk.new)) }
+        ensures part { OnErr result (IsPart LogFile block_bytes (block_batch self.old) (pending_count self.old) (D.past disk.old) (D.past disk.new)) }
         ensures given_up { OnOk result (self.new ≡ written_out self.old) }
         ensures kept { OnErr result (self.new ≡ handed_over self.old) }
         // At each moment the record of writes has one block a number, and none that wasn't handed to the disk; and what a store's record says of its texts.

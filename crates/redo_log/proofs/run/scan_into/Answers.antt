@@ -46,7 +46,7 @@ loop-i-preserved g c =
       low = omega (arith, c.loop-i.invariant.low, c.in-Some.ensures.bounds);
       high = omega (arith, c.in-Some.ensures.bounds);
       count = ap length c.in-Ok.ensures.items ∙ length-append c.loop-i.versions.items (c.in-Some.next.version ∷ []) ∙ omega (arith, c.loop-i.invariant.count);
-      few = omega (arith, c.in-Some.ensures.bounds, c.if-number-end-ge16.false, c.loop-i.invariant.high);
+      few = omega (arith, c.in-Some.ensures.bounds, c.if-number-end-ge-MOST_BLOCKS.false, c.loop-i.invariant.high);
       calls = omega (arith, c.loop-i.invariant.calls, c.in_ok-read_number.ensures.once);
       read = at_both (λ es r is keys. subst (λ (m : ℕ). IsScanned c.args.blocks (redo_form keys) (read_at c.args.blocks (reads LogFile es)) c.args.from c.in-Some.next.end m) on
           (read_more c.args.blocks (redo_form keys) (read_at c.args.blocks (reads LogFile es)) c.args.from c.loop-i.end n c.in-Some.next.end (r keys)
@@ -68,14 +68,14 @@ returns-clause-run g c =
     at_each (λ es r keys. read_all c.args.blocks (redo_form keys) (read_at c.args.blocks (reads LogFile es)) c.args.from c.loop-i.end (c.args.from + c.loop-i.i) all (r keys)) c.loop-i.invariant.read
 
 -- sixteen blocks behind the run are none that is whole
-pub returns-then-number-end-ge16-clause-run : goal.returns-then-number-end-ge16-clause-run
-returns-then-number-end-ge16-clause-run g c =
+pub returns-then-number-end-ge-MOST_BLOCKS-clause-run : goal.returns-then-number-end-ge-MOST_BLOCKS-clause-run
+returns-then-number-end-ge-MOST_BLOCKS-clause-run g c =
     let n = c.args.from + c.loop-i.i in
     at_each (λ es r keys. read_stops c.args.blocks (redo_form keys) (read_at c.args.blocks (reads LogFile es)) c.args.from c.loop-i.end n (omega (arith, c.loop-i-test.true)) (r keys)
-    (λ few valid starts. absurd (omega (arith, few, c.if-number-end-ge16.true)))) c.loop-i.invariant.read
+    (λ few valid starts. absurd (omega (arith, few, c.if-number-end-ge-MOST_BLOCKS.true)))) c.loop-i.invariant.read
 
-pub returns-then-number-end-ge16-clause-once : goal.returns-then-number-end-ge16-clause-once
-returns-then-number-end-ge16-clause-once g c =
+pub returns-then-number-end-ge-MOST_BLOCKS-clause-once : goal.returns-then-number-end-ge-MOST_BLOCKS-clause-once
+returns-then-number-end-ge-MOST_BLOCKS-clause-once g c =
     let calls = c.loop-i.invariant.calls in
     let few = c.loop-i.invariant.few in
     at_each (λ es r. record { stop = c.args.from + c.loop-i.i; goes_on = r; calls = omega (arith, calls); few = omega (arith, calls, few) }) c.loop-i.invariant.read
@@ -84,7 +84,7 @@ pub returns-in_default-clause-once : goal.returns-in_default-clause-once
 returns-in_default-clause-once g c =
     let calls = c.loop-i.invariant.calls in
     let once = c.in_ok-read_number.ensures.once in
-    let few = c.if-number-end-ge16.false in
+    let few = c.if-number-end-ge-MOST_BLOCKS.false in
     let high = c.loop-i.invariant.high in
     at_each (λ es r. record { stop = c.args.from + c.loop-i.i; goes_on = r; calls = omega (arith, calls, once); few = omega (arith, calls, once, few, high) }) c.loop-i.invariant.read
 

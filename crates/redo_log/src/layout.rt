@@ -1,0 +1,14 @@
+// Sizes and places of the log's file.
+
+// A block of the file in bytes: the header, a checkpoint or a ring block.
+pub(crate) const BLOCK: usize = 4096;
+// The same for places of blocks in the file, and for LSNs.
+pub(crate) const BLOCK_BYTES: u64 = 4096;
+// Where the checksum of a block stands.
+pub(crate) const SUM_AT: usize = 4092;
+// Where the words of a checkpoint end, and its zero bytes begin.
+pub(crate) const WORDS_END: usize = 24;
+// The file's first block of the ring, behind the header and two checkpoints.
+pub(crate) const RING_BEGINS: u64 = 3;
+// The most blocks that a mini-transaction has.
+pub(crate) const MOST_BLOCKS: u64 = 16;
