@@ -4,10 +4,11 @@ ghost use Rattle.places.specs.Places.{HasPlaces};
 ghost use Rattle.redo_log.specs.Blocks.{file_layout};
 ghost use Rattle.disk_model.specs.Past.{At};
 ghost use Rattle.disk_model.specs.declared.names.FileName.TheVariants.{Log as LogFile};
+ghost use Rattle.store_image.specs.View.{block_bytes};
 
 use crate::RING_BLOCKS;
 use disk_model::{Disk, DiskError, FileName};
-use redo_log::{Checkpoint, Run, read_checkpoint, scan};
+use redo_log::{BLOCK, BLOCK_BYTES, Checkpoint, Run, read_checkpoint, scan};
 use std::alloc::Global;
 
 /// The newest checkpoint of a log's file, and the run from it.
@@ -20,12 +21,12 @@ pub struct RunHeld {
 // Reads a block of the file.
 fn read_place<D: Disk>(disk: &mut D, place: u64, buffer: &mut [u8]) -> Result<(), DiskError>
     requires place { place < 35 }
-    requires size { length buffer.old ≡ 4096 }
+    requires size { length buffer.old ≡ block_bytes }
     requires inside { At (HasPlaces LogFile (file_layout 32)) (D.past disk.old) }
     ensures same { D.past disk.new ≡ D.past disk.old }
-    ensures size { length buffer.new ≡ 4096 }
+    ensures size { length buffer.new ≡ block_bytes }
 {
-    disk.read(FileName::Log, place * 4096, buffer)
+    disk.read(FileName::Log, place * BLOCK_BYTES, buffer)
 }
 
 fn newer(even: Option<Checkpoint>, odd: Option<Checkpoint>) -> Option<Checkpoint> {
@@ -50,7 +51,7 @@ pub fn newest_checkpoint<D: Disk>(disk: &mut D) -> Result<Option<Checkpoint>, Di
     requires { At (HasPlaces LogFile (file_layout 32)) (D.past disk.old) }
     ensures { D.past disk.new ≡ D.past disk.old }
 {
-    let mut block = [0; 4096];
+    let mut block = [0; BLOCK];
     read_place(disk, 1, &mut block)?;
     let even = read_checkpoint(&block, 1);
     read_place(disk, 2, &mut block)?;
@@ -87,7 +88,7 @@ pub(crate) fn has_blocks<D: Disk>(
     requires inside { At (HasPlaces LogFile (file_layout 32)) (D.past disk.old) }
     ensures { D.past disk.new ≡ D.past disk.old }
 {
-    let mut buffer = [0; 4096];
+    let mut buffer = [0; BLOCK];
     for n in from..end {
         read_place(disk, 3 + n % RING_BLOCKS, &mut buffer)?;
         if !is_block_of(blocks, (n - 2) as usize, &buffer) {
@@ -101,9 +102,9 @@ pub(crate) fn has_blocks<D: Disk>(
 fn is_block_of(blocks: &[u8], i: usize, block: &[u8]) -> bool
     requires { i ≤ 1000 }
 {
-    let at = i * 4096;
-    if blocks.len() < at + 4096 {
+    let at = i * BLOCK;
+    if blocks.len() < at + BLOCK {
         return false;
     }
-    &blocks[at..at + 4096] == block
+    &blocks[at..at + BLOCK] == block
 }

@@ -18,13 +18,16 @@ ghost use Rattle.log_drill.specs.Kept.{drill_key, KeepsJournal, MayBegin, IsBetw
 use aes_core::Algorithm;
 use cause_core::OutOfMemory;
 use disk_model::{Disk, DiskError, FileName, MemDisk};
-use redo_log::{Log, LogFault, write_first_checkpoint};
+use redo_log::{BLOCK_BYTES, Log, LogFault, write_first_checkpoint};
 use redo_text::{Change, Mtr, Piece, RedoKey, encode};
 use std::alloc::Global;
 use thiserror::Error;
 
 /// The ring blocks of the log.
 pub const RING_BLOCKS: u64 = 32;
+
+// The log's file in bytes: a header, two checkpoints and the ring.
+const LOG_BYTES: u64 = (3 + RING_BLOCKS) * BLOCK_BYTES;
 
 /// Why a session did not come to its end.
 #[derive(Clone, Copy, Debug, PartialEq, Eq, Error)]
@@ -102,7 +105,7 @@ pub fn make_log<D: Disk>(disk: &mut D) -> Result<(), DrillHalt>
     ensures ready { (keys : Keys) → OnOk result (At (RingReady 32 (redo_form keys) (fresh_ring 32)) (D.past disk.new)) }
     ensures items { OnOk result (At (From KeepsItems (D.past disk.old)) (D.past disk.new)) }
 {
-    if let Err(error) = disk.make(FileName::Log, 143_360) {
+    if let Err(error) = disk.make(FileName::Log, LOG_BYTES) {
         return Err(halt_of(error));
     }
     write_first(disk)

@@ -1,9 +1,9 @@
 // Sizes and places of the log's file.
 
-// A block of the file in bytes: the header, a checkpoint or a ring block.
-pub(crate) const BLOCK: usize = 4096;
-// The same for places of blocks in the file, and for LSNs.
-pub(crate) const BLOCK_BYTES: u64 = 4096;
+/// A block of the log's file in bytes: the header, a checkpoint or a ring block.
+pub const BLOCK: usize = 4096;
+/// The same for places of blocks in the file, and for LSNs.
+pub const BLOCK_BYTES: u64 = 4096;
 // Where the checksum of a block stands.
 pub(crate) const SUM_AT: usize = 4092;
 // Where the words of a checkpoint end, and its zero bytes begin.

@@ -28,6 +28,7 @@ mod run;
 mod write_out;
 
 pub use checkpoint::{write_first_checkpoint, write_opening_checkpoint};
+pub use layout::{BLOCK, BLOCK_BYTES};
 pub use log::{Log, LogFault};
 pub use reading::{Checkpoint, read_checkpoint};
 pub use run::{Run, Versions, scan};
