@@ -19,11 +19,11 @@ use Rattle.doublewrite.specs.Layer.{SlotsWriting, SlotsSettled, IsSlotEvent, IsI
 use Rattle.doublewrite.specs.declared.texts.Texts.{Texts}
 use Rattle.doublewrite.proofs.Lifts.{slot_in, text_of, store_within, store_refines, home_within, home_refines}
 
-pages_length : (xs : List (List ℕ)) → length (pages_in xs) ≡ length xs
+pub pages_length : (xs : List (List ℕ)) → length (pages_in xs) ≡ length xs
 pages_length [] = refl
 pages_length (x ∷ xs) = ap suc (pages_length xs)
 
-page_item : (space : ℕ) (xs : List (List ℕ)) (k : ℕ) → k < length xs → slot_of space (page_number_of (slice_index_or xs k [])) (text_in (slice_index_or xs k [])) ≡ item_of space (pages_in xs) k
+pub page_item : (space : ℕ) (xs : List (List ℕ)) (k : ℕ) → k < length xs → slot_of space (page_number_of (slice_index_or xs k [])) (text_in (slice_index_or xs k [])) ≡ item_of space (pages_in xs) k
 page_item space [] k lt = absurd (omega (arith, lt))
 page_item space (x ∷ xs) zero lt = refl
 page_item space (x ∷ xs) (suc k) lt = page_item space xs k (omega (arith, lt))

@@ -8,3 +8,4 @@ pub mod Tells
 pub mod LogWrites
 pub mod Commits
 pub mod HomesRead
+pub mod Puts

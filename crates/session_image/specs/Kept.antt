@@ -7,7 +7,7 @@ use Rattle.disk_model.specs.declared.names.FileName.TheVariants.{Log, Double, Sp
 use Rattle.key_ring.specs.Ring.{RingEntry, ring_key}
 use Rattle.places.specs.Places.{place, AreWhole, HasPlaces}
 use Rattle.places.specs.Batches.{IsFileSettled}
-use Rattle.page_places.specs.Texts.{page_bytes, slots, pages}
+use Rattle.page_places.specs.Texts.{page_bytes, slot_size, slots, pages}
 use Rattle.page_places.specs.Placed.{MayBePlaced}
 use Rattle.page_places.specs.Views.{places_by}
 use Rattle.ring_log.specs.Ring.{Form, RingState, Ringed, RingReady, IsRingJournal}
@@ -17,7 +17,7 @@ use Rattle.store_image.specs.Record.{IsAmongTexts, IsAmongBlocks}
 use Rattle.store_image.specs.RecordKept.{IsLifeMoment}
 use Rattle.store_image.specs.Recovers.{Theory}
 use Rattle.store_image.specs.Session.{Session, KeepsSession, IsLogOfSession, fresh}
-use Rattle.store_image.specs.SessionPhases.{Ready}
+use Rattle.store_image.specs.SessionPhases.{IsPutStored, Ready}
 use Rattle.store_image.specs.View.{Logged, Text, Held, Holds, Zero, Bad}
 use Rattle.redo_text.specs.declared.change.Change.{Change}
 use Rattle.redo_text.specs.Reading.{block_version}
@@ -104,9 +104,20 @@ module _ (store : SessionStore) where
     pub moment : SessionMoment w r es
     pub ring : RingReady store.header.blocks session_form r es
     pub ready : Ready session_theory w (session_places w es)
-    pub double : IsFileSettled Double 16896 es
+    pub double : IsFileSettled Double slot_size es
     pub spaces : (s : ℕ) → IsFileSettled (Space s) page_bytes es
     -- the numbers of the session and those of the ring are the same
+    pub from : w.from ≡ r.from
+    pub newest : w.newest ≡ r.from
+    pub written : w.written ≡ r.written
+
+  -- What holds of a put between its slots and its homes: the texts are in their slots, synced, and the homes are as they were.
+  pub record PutReady (w : Session session_theory) (r : RingState) (space : ℕ) (pages : List (ℕ × Text)) (es : List Event) : Type 0 where
+    pub moment : SessionMoment w r es
+    pub ring : RingReady store.header.blocks session_form r es
+    pub stored : IsPutStored session_theory w (session_places w es) space pages
+    pub double : IsFileSettled Double slot_size es
+    pub spaces : (s : ℕ) → IsFileSettled (Space s) page_bytes es
     pub from : w.from ≡ r.from
     pub newest : w.newest ≡ r.from
     pub written : w.written ≡ r.written
@@ -140,7 +151,7 @@ module _ (store : SessionStore) where
     pub log : HasPlaces Log (log_places store.header.blocks) es
     pub log_settled : IsFileSettled Log 4096 es
     pub files : SessionFiles es
-    pub double_settled : IsFileSettled Double 16896 es
+    pub double_settled : IsFileSettled Double slot_size es
     pub spaces_settled : (s : ℕ) → IsFileSettled (Space s) page_bytes es
 
   -- What it needs of the record of writes beside that, so that no number serves two texts.
