@@ -9,3 +9,4 @@ pub mod LogWrites
 pub mod Commits
 pub mod HomesRead
 pub mod Puts
+pub mod PutRecords
