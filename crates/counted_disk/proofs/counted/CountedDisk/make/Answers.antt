@@ -1,0 +1,25 @@
+use Rattle.std.proofs.Common.{rules, ◌≡◌, false, None, refl, ap, ◌∙◌, subst}
+use Rattle.disk_model.specs.Event.{Make}
+use Rattle.counted_disk.specs.Counting.{Counts, turns_of_event}
+use Rattle.counted_disk.proofs.CallCounts.{went_one, may_event, adds_same, on_ok, on_err, called, cause_as}
+use Rattle.counted_disk.proofs.counted.CountedDisk.make.Goals as goal
+
+pub returns-in-Err-clause-cause : goal.returns-in-Err-clause-cause
+returns-in-Err-clause-cause g c = cause_as (c.in-Err.ensures.cause g.D.Disk.faults)
+
+pub returns-in-Err-clause-memory : goal.returns-in-Err-clause-memory
+returns-in-Err-clause-memory g c = cause_as (c.in-Err.ensures.memory g.D.Disk.memory_refusals)
+
+pub returns-clause-later : goal.returns-clause-later
+returns-clause-later g c =
+    let running : c.args.self.now.stop ≡ None = search rules in
+    let disk_same : c.check_running.new.self.disk ≡ c.args.self.now.disk = search rules in
+    let turns_same : c.check_running.new.self.turns ≡ c.args.self.now.turns = search rules in
+    let stop_same : c.check_running.new.self.stop ≡ c.args.self.now.stop = search rules in
+    subst (λ d. g.D.Disk.is_later d c.make-done.new.self × Counts (record { past = g.D.Disk.past d; faults = g.D.Disk.faults d; refusals = g.D.Disk.memory_refusals d; turns = c.args.self.now.turns; stop = c.args.self.now.stop }) (record { past = g.D.Disk.past c.make-done.new.self; faults = g.D.Disk.faults c.make-done.new.self; refusals = g.D.Disk.memory_refusals c.make-done.new.self; turns = c.check_running.new.self.turns; stop = c.keep_stop.new.stop })) disk_same (
+      c.make-done.ensures.later,
+      called false 0 _ _ c.make-done.result refl running
+          (on_ok c.make-done.result (λ same. same ∙ stop_same) c.keep_stop.ensures.ok) c.keep_stop.ensures.err
+          (on_ok c.make-done.result (went_one (Make c.args.file c.args.length) 0 refl _ _) c.make-done.ensures.ok) (on_err c.make-done.result (may_event _ 0 (λ e k. ap turns_of_event k) _ _) c.make-done.ensures.err) (adds_same _ _ turns_same)
+          c.make-done.ensures.cause c.make-done.ensures.memory c.make-done.ensures.no_fault c.make-done.ensures.no_fault_at_want c.make-done.ensures.no_refusal,
+    )
