@@ -1,15 +1,23 @@
 -- The events of homes that are restored, one after another.
-use Rattle.std.proofs.Common.{◌≡◌, ℕ, zero, suc, ◌+◌, ◌*◌, ◌<◌, ◌≤◌, ◌≢◌, ◌⊎◌, inl, inr, ⊎_elim, Bool, true, false, is_some, if◌then◌else◌, List, [], ◌∷◌, ◌++◌, length, Option, Some, None, refl, sym, ap, subst, ◌∙◌, append_assoc, arith, Result, Ok, Err, OnErr}
+use Rattle.std.proofs.Common.{◌≡◌, ℕ, zero, suc, ◌+◌, ◌*◌, ◌<◌, ◌≤◌, ◌≢◌, ◌⊎◌, inl, inr, ⊎_elim, Bool, true, false, is_some, if◌then◌else◌, List, [], ◌∷◌, ◌++◌, length, Option, Some, None, refl, sym, ap, subst, ◌∙◌, append_assoc, arith, Result, Ok, Err, OnOk, OnErr}
 use Rattle.std.proofs.lemmas.Bool.{cases_eq}
 use Rattle.std.proofs.lemmas.List.{append-nil}
-use Rattle.disk_model.specs.Event.{Event, Write, Sync}
+use Rattle.std.proofs.lemmas.Bool.Decides.{nat_tests}
+use Rattle.std.proofs.lemmas.Option.{same_Some, none-some}
+use Rattle.disk_model.specs.Event.{Event, Write, Sync, same_file}
+use Rattle.disk_model.specs.Does.{AllAre, Since}
 use Rattle.disk_model.specs.Past.{Past, At, MayGrow, IsWrite, grow}
 use Rattle.disk_model.specs.declared.names.FileName.{FileName}
 use Rattle.disk_model.specs.declared.names.FileName.TheVariants.{Space}
 use Rattle.disk_model.proofs.Moments.{at_each}
 use Rattle.places.specs.Batches.{From}
+use Rattle.places.specs.Places.{shown}
+use Rattle.places.specs.Beside.{LeavesFile}
+use Rattle.places.proofs.FileSteps.{file_left_alone}
+use Rattle.places.proofs.LeftAlone.{shown_left_alone}
+use Rattle.page_places.specs.Texts.{pages}
 use Rattle.space_head.specs.declared.space.SpaceInfo.{SpaceInfo}
-use Rattle.doublewrite.specs.Restore.{wanted, space_at, PagesFilled, IsUntouched, AreRestored}
+use Rattle.doublewrite.specs.Restore.{wanted, space_at, AreSpacesApart, HasSpaceFile, HaveFiles, PagesStay}
 use Rattle.doublewrite.specs.Events.{page_write, page_writes, synced, is_any, space_events, spaces_events, calls_to, AreFirstEvents, Done, Failed}
 use Rattle.doublewrite.specs.declared.listing.Copied.{Copied}
 use Rattle.doublewrite.proofs.SpaceSteps.{same_want}
@@ -18,6 +26,23 @@ use Rattle.doublewrite.proofs.SpaceSteps.{same_want}
 pub at_error : {T X : Type 0} {P : Type 0} (result : Result T X) → P → OnErr result P
 at_error (Ok v) p = tt
 at_error (Err x) p = p
+
+-- a disk that tells nothing tells nothing behind a call
+pub untold_more : (e : Event) (old mid new : Past) → mid ≡ old → new ≡ grow e mid → old ≡ None → new ≡ None
+untold_more e old mid new same more none = more ∙ ap (grow e) (same ∙ none)
+
+pub untold_may : (E : Event → Type 0) (old mid new : Past) → mid ≡ old → MayGrow E mid new → old ≡ None → new ≡ None
+untold_may E old mid new same (inl stays) none = stays ∙ same ∙ none
+untold_may E old mid new same (inr (e, kind, more)) none = untold_more e old mid new same more none
+
+pub untold_by : {T X : Type 0} (result : Result T X) (e : Event) {mid new : Past} → mid ≡ None → OnOk result (new ≡ grow e mid) → OnErr result (new ≡ mid) → new ≡ None
+untold_by (Ok v) e {mid} {new} none ok err = untold_more e mid mid new refl ok none
+untold_by (Err x) e none ok err = err ∙ none
+
+-- what is known of the end of a stretch, by the moment at which it began
+pub at_behind : {R : List Event → List Event → Type 0} {X : List Event → Type 0} {first mid : Past} → ((s m : List Event) → R s m → X m) → (first ≡ None → mid ≡ None) → At (From R first) mid → At X mid
+at_behind {first = None} goes untold at = record { here = λ es is. absurd (none-some es (sym (untold refl) ∙ is)) }
+at_behind {first = Some s} goes untold at = record { here = λ es is. goes s es ((at.here es is).here s refl) }
 
 -- ---- a front of events
 
@@ -136,7 +161,7 @@ module _ (copies : List Copied) (z : ℕ) where
     page_unread new same = record { here = λ es is. front_none (page_write z k (wanted copies es z k)) es old new is same }
 
 -- what is wanted of the next page is what was wanted of it at first
-module _ (copies : List Copied) (info : SpaceInfo) (k : ℕ) (first mid : Past) (exact : At (λ s. mid ≡ Some (page_writes copies s info.space k ++ s)) first) (filled : At (From (PagesFilled copies info k) first) mid) where
+module _ (copies : List Copied) (info : SpaceInfo) (k : ℕ) (first mid : Past) (exact : At (λ s. mid ≡ Some (page_writes copies s info.space k ++ s)) first) (stays : At (From (PagesStay info k) first) mid) where
   abbrev z : ℕ
   z = info.space
 
@@ -144,8 +169,8 @@ module _ (copies : List Copied) (info : SpaceInfo) (k : ℕ) (first mid : Past) 
   behind_pages F now = record {
     here = λ s is.
         let es : List Event = page_writes copies s z k ++ s in
-        let still : PagesFilled copies info k s es = (filled.here es (exact.here s is)).here s is in
-        subst (λ (o : Option (List ℕ)). F o es) (same_want copies s es z k (still.old k (λ lt. absurd (omega (arith, lt))))) (now.here es (exact.here s is));
+        let still : PagesStay info k s es = (stays.here es (exact.here s is)).here s is in
+        subst (λ (o : Option (List ℕ)). F o es) (same_want copies s es z k (still.rest k (omega arith))) (now.here es (exact.here s is));
   }
 
   pub next_page : (new : Past) → At (λ es. new ≡ Some (page_write z k (wanted copies es z k) ++ es)) mid → At (λ s. new ≡ Some (page_writes copies s z (k + 1) ++ s)) first
@@ -169,6 +194,31 @@ module _ (copies : List Copied) (info : SpaceInfo) (k : ℕ) (first mid : Past) 
 
 -- ---- the spaces, one after the other
 
+all_append : (E : Event → Type 0) (xs ys : List Event) → AllAre E xs → AllAre E ys → AllAre E (xs ++ ys)
+all_append E [] ys one two = two
+all_append E (x ∷ xs) ys one two = (one.0, all_append E xs ys one.1 two)
+
+-- the events of a space leave another one as it is
+module _ (copies : List Copied) (y : ℕ) (info : SpaceInfo) (differs : info.space ≢ y) (s : List Event) where
+  other : same_file (Space y) (Space info.space) ≡ false
+  other = let flip : y ≢ info.space = λ e. differs (sym e) in grind (arith, nat_tests)
+
+  page_leaves : (k : ℕ) (o : Option (List ℕ)) → AllAre (LeavesFile (Space y)) (page_write info.space k o)
+  page_leaves k None = tt
+  page_leaves k (Some text) = (other, tt)
+
+  pages_leave : (n : ℕ) → AllAre (LeavesFile (Space y)) (page_writes copies s info.space n)
+  unfolding page_writes
+  pages_leave zero = tt
+  pages_leave (suc n) = all_append (LeavesFile (Space y)) (page_write info.space n (wanted copies s info.space n)) (page_writes copies s info.space n) (page_leaves n (wanted copies s info.space n)) (pages_leave n)
+
+  synced_leaves : (es : List Event) → AllAre (LeavesFile (Space y)) es → AllAre (LeavesFile (Space y)) (synced (Space info.space) es)
+  synced_leaves [] all = tt
+  synced_leaves (e ∷ es) all = (other, all)
+
+  space_leaves : AllAre (LeavesFile (Space y)) (space_events copies s info)
+  space_leaves = synced_leaves (page_writes copies s info.space info.pages) (pages_leave info.pages)
+
 module _ (copies : List Copied) (spaces : List SpaceInfo) where
   pub spaces_none : (s : List Event) → spaces_events copies s spaces 0 ≡ []
   unfolding spaces_events
@@ -186,7 +236,31 @@ module _ (copies : List Copied) (spaces : List SpaceInfo) where
       (λ (ne : j ≢ suc n). begins_more (space_events copies s (space_at spaces n)) (spaces_events copies s spaces n) (spaces_events copies s spaces j) (spaces_begin_with s j n (omega (arith, le, ne))))
       (cases_eq j (suc n))
 
-  module _ (k : ℕ) (more : k < length spaces) (first mid : Past) (exact : At (λ s. mid ≡ Some (spaces_events copies s spaces k ++ s)) first) (restored : At (From (AreRestored copies spaces k) first) mid) where
+  -- the spaces before it leave a space as it is
+  spaces_leave : (y k : ℕ) → ((j : ℕ) → j < k → (space_at spaces j).space ≢ y) → (s : List Event) → AllAre (LeavesFile (Space y)) (spaces_events copies s spaces k)
+  unfolding spaces_events
+  spaces_leave y zero others s = tt
+  spaces_leave y (suc k) others s =
+      all_append (LeavesFile (Space y)) (space_events copies s (space_at spaces k)) (spaces_events copies s spaces k) (space_leaves copies y (space_at spaces k) (others k (omega arith)) s)
+      (spaces_leave y k (λ j lt. others j (omega (arith, lt))) s)
+
+  left_alone : AreSpacesApart spaces → (k : ℕ) → k < length spaces → (s : List Event) → Since (LeavesFile (Space (space_at spaces k).space)) s (spaces_events copies s spaces k ++ s)
+  left_alone apart k more s = record { news = spaces_events copies s spaces k; is = refl; all = spaces_leave (space_at spaces k).space k (λ j lt. apart j k lt more) s }
+
+  -- the next space's file is there
+  pub next_file : AreSpacesApart spaces → (k : ℕ) → k < length spaces → (first mid : Past) → At (λ s. mid ≡ Some (spaces_events copies s spaces k ++ s)) first → (first ≡ None → mid ≡ None) → At (HaveFiles spaces) first → At (HasSpaceFile (space_at spaces k)) mid
+  next_file apart k more first mid exact untold files = begun first exact untold (at_each (λ s has. has k more) files)
+    where
+      info : SpaceInfo
+      info = space_at spaces k
+
+      begun : (first : Past) → At (λ s. mid ≡ Some (spaces_events copies s spaces k ++ s)) first → (first ≡ None → mid ≡ None) → At (HasSpaceFile info) first → At (HasSpaceFile info) mid
+      begun None exact untold has = record { here = λ es is. absurd (none-some es (sym (untold refl) ∙ is)) }
+      begun (Some s) exact untold has =
+          let now : List Event = spaces_events copies s spaces k ++ s in
+          record { here = λ es is. subst (HasSpaceFile info) (same_Some now es (sym (exact.here s refl) ∙ is)) (file_left_alone (Space info.space) (pages info.pages) s now (left_alone apart k more s) (has.here s refl)) }
+
+  module _ (apart : AreSpacesApart spaces) (k : ℕ) (more : k < length spaces) (first mid : Past) (exact : At (λ s. mid ≡ Some (spaces_events copies s spaces k ++ s)) first) where
     abbrev info : SpaceInfo
     info = space_at spaces k
 
@@ -194,8 +268,8 @@ module _ (copies : List Copied) (spaces : List SpaceInfo) where
     behind_spaces F now = record {
       here = λ s is.
           let es : List Event = spaces_events copies s spaces k ++ s in
-          let as_it_was : IsUntouched info s es = ((restored.here es (exact.here s is)).here s is).rest k (omega arith) more in
-          let same = same_pages copies info.space s es (λ p. same_want copies s es info.space p (as_it_was.shows p)) info.pages in
+          let as_it_was : (p : ℕ) → shown (Space info.space) 16384 p es ≡ shown (Space info.space) 16384 p s = λ p. shown_left_alone (Space info.space) 16384 p s es (left_alone apart k more s) in
+          let same = same_pages copies info.space s es (λ p. same_want copies s es info.space p (as_it_was p)) info.pages in
           subst (λ (l : List Event). F (synced (Space info.space) l) es) same (now.here es (exact.here s is));
     }
 

@@ -1,5 +1,5 @@
 -- What each device call does to a space that is restored.
-use Rattle.std.proofs.Common.{◌≡◌, ℕ, ◌+◌, ◌*◌, ◌<◌, ◌≤◌, Bool, true, false, if◌then◌else◌, List, ◌∷◌, Option, Some, None, refl, sym, ap, subst, ◌∙◌, arith}
+use Rattle.std.proofs.Common.{◌≡◌, ℕ, ◌+◌, ◌*◌, ◌<◌, ◌≤◌, Bool, true, false, if◌then◌else◌, List, ◌∷◌, length, Option, Some, None, refl, sym, ap, subst, ◌∙◌, arith}
 use Rattle.std.specs.Option.{option_map}
 use Rattle.disk_model.specs.Event.{Event, Write, Sync}
 use Rattle.std.specs.Prelude.{Result, OnOk, OnErr}
@@ -8,16 +8,18 @@ use Rattle.disk_model.proofs.Layers.{does_write}
 use Rattle.disk_model.specs.Does.{IsOn, Does}
 use Rattle.disk_model.specs.declared.names.FileName.TheVariants.{Space}
 use Rattle.disk_model.proofs.FilesLemmas.{same_file-itself}
-use Rattle.disk_model.proofs.Moments.{at_each, at_both, at_is as moved}
+use Rattle.disk_model.proofs.Moments.{at_each, at_both, at_grow, at_is as moved}
 use Rattle.places.specs.Places.{shown}
 use Rattle.places.specs.Batches.{From}
 use Rattle.places.proofs.Batches.{at_start}
+use Rattle.places.proofs.FileSteps.{file_write}
+use Rattle.places.proofs.Steps.{place_ends, file_shown_other}
 use Rattle.places.proofs.Fills.{filled_none, filled_skip, filling_more, fill_each, fill_write, fill_sync}
 use Rattle.space_head.specs.declared.space.SpaceInfo.{SpaceInfo}
 use Rattle.page_places.specs.Texts.{is_page_text, pages}
 use Rattle.page_places.proofs.Sums.{torn_page}
 use Rattle.doublewrite.specs.Text.{IsPageText}
-use Rattle.doublewrite.specs.Restore.{wanted, newest, HasPages, PagesFilling, PagesFilled, PagesRestored, IsSpaceEvent}
+use Rattle.doublewrite.specs.Restore.{wanted, newest, HasPages, HasSpaceFile, PagesStay, PagesFilling, PagesFilled, PagesRestored, IsSpaceEvent}
 use Rattle.doublewrite.specs.declared.listing.Copied.{Copied}
 
 pub none_of_text : (copies : List Copied) (s : List Event) (z k : ℕ) → is_page_text k (shown (Space z) 16384 k s) ≡ true → wanted copies s z k ≡ None
@@ -101,3 +103,28 @@ module _ (copies : List Copied) (info : SpaceInfo) where
 
   pub pages_then : (first : Past) (es : List Event) → From (PagesRestored copies info) first es → From (PagesFilling copies info) first es
   pages_then first es r = at_each (λ s g. g.filled.filling) r
+
+-- ---- the pages that aren't come to yet, whatever is pending
+
+module _ (info : SpaceInfo) where
+  pub stays_begin : (first : Past) → At (HasSpaceFile info) first → At (From (PagesStay info 0) first) first
+  stays_begin first has = at_start (λ s h. record { file = h; rest = λ i le. refl }) has
+
+  one_less : (k : ℕ) (s m : List Event) → PagesStay info k s m → PagesStay info (k + 1) s m
+  one_less k s m p = record { file = p.file; rest = λ i le. p.rest i (omega (arith, le)) }
+
+  -- a page that isn't written
+  pub stays_unwritten : (k : ℕ) (first : Past) {old new : Past} → new ≡ old → At (From (PagesStay info k) first) old → At (From (PagesStay info (k + 1)) first) new
+  stays_unwritten k first same at = moved same (at_each (λ es r. at_each (λ s p. one_less k s es p) r) at)
+
+  -- and one that is
+  pub stays_written : (k : ℕ) → k < info.pages → (first : Past) (bytes : List ℕ) → length bytes ≡ 16384 → (at : ℕ) → at ≡ k * 16384 → {old mid new : Past} → mid ≡ old → new ≡ grow (Write (Space info.space) at bytes bytes) mid
+      → At (From (PagesStay info k) first) old → At (From (PagesStay info (k + 1)) first) new
+  stays_written k below first bytes long at at_is {mid = mid} same more known =
+      moved (more ∙ ap (λ (p : ℕ). grow (Write (Space info.space) p bytes bytes) mid) at_is) (at_grow (Write (Space info.space) (k * 16384) bytes bytes) (λ es r. at_each (λ s p. written s es p) r) (moved same known))
+    where
+      written : (s es : List Event) → PagesStay info k s es → PagesStay info (k + 1) s (Write (Space info.space) (k * 16384) bytes bytes ∷ es)
+      written s es p = record {
+        file = file_write (Space info.space) (Space info.space) (pages info.pages) (k * 16384) bytes bytes es (omega (arith, long, place_ends (pages info.pages) k below)) p.file;
+        rest = λ i le. file_shown_other (Space info.space) (pages info.pages) k bytes bytes es p.file below long i (λ e. omega (arith, e, le)) ∙ p.rest i (omega (arith, le));
+      }

@@ -1,7 +1,6 @@
 -- A slot is put together part by part.
-use Rattle.std.proofs.Common.{◌≡◌, ℕ, ◌+◌, List, [], ◌++◌, length, take, drop, refl, sym, ap, ◌∙◌, arith, length-append, length-drop, append_assoc}
+use Rattle.std.proofs.Common.{◌≡◌, ℕ, List, [], ◌++◌, length, take, drop, refl, sym, ap, ◌∙◌, arith, length-append, length-drop, append_assoc}
 use Rattle.std.proofs.lemmas.List.{take_at, drop_all, append-nil}
-use Rattle.std.proofs.Math.Seq.{drop-append-add}
 use Rattle.std.specs.Int.{to_be_bytes, w32}
 use Rattle.bytes_core.specs.Crc.{crc32c}
 use Rattle.disk_model.specs.Event.{put, zeros}

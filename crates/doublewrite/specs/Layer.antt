@@ -2,7 +2,7 @@
 use Rattle.std.specs.Prelude.{◌≢◌, ℕ, ◌<◌, List, length}
 use Rattle.disk_model.specs.Event.{Event}
 use Rattle.disk_model.specs.declared.names.FileName.TheVariants.{Double, Space}
-use Rattle.places.specs.Places.{HasPlaces}
+use Rattle.places.specs.Places.{HasFile, HasPlaces}
 use Rattle.places.specs.Batches.{Writing, Wrote, BatchSettled, IsOf}
 use Rattle.page_places.specs.Texts.{slots, pages, slot_size, page_bytes}
 use Rattle.doublewrite.specs.Text.{page_number_of}
@@ -27,6 +27,11 @@ IsSlotEvent batch e = IsOf Double slot_size (slot_batch batch) (length batch.pag
 -- the pages of the batch are pages of their space, which has so many
 pub record IsInside (batch : Texts) (count : ℕ) (es : List Event) : Type 0 where
   pub places : HasPlaces (Space batch.space) (pages count) es
+  pub within : (i : ℕ) → i < length batch.pages → page_number_of (text_at batch i) < count
+
+-- and so whatever is pending in the space
+pub record FitsSpace (batch : Texts) (count : ℕ) (es : List Event) : Type 0 where
+  pub file : HasFile (Space batch.space) (pages count) es
   pub within : (i : ℕ) → i < length batch.pages → page_number_of (text_at batch i) < count
 
 -- no two texts of the same page

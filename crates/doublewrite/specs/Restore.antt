@@ -4,7 +4,7 @@ use Rattle.std.specs.Option.{option_map}
 use Rattle.disk_model.specs.Event.{Event}
 use Rattle.disk_model.specs.Does.{IsOn}
 use Rattle.disk_model.specs.declared.names.FileName.TheVariants.{Space}
-use Rattle.places.specs.Places.{shown, May, HasPlaces}
+use Rattle.places.specs.Places.{shown, May, HasFile, HasPlaces}
 use Rattle.places.specs.Filling.{Filling, Filled, FilledWhole}
 use Rattle.space_head.specs.declared.space.SpaceInfo.{SpaceInfo}
 use Rattle.page_places.specs.Texts.{is_page_text, pages, page_bytes}
@@ -35,6 +35,15 @@ wanted copies s space page = if is_page_text page (shown (Space space) page_byte
 abbrev pub HasPages : SpaceInfo → List Event → Type 0
 HasPages info es = HasPlaces (Space info.space) (pages info.pages) es
 
+-- and so whatever is pending there
+abbrev pub HasSpaceFile : SpaceInfo → List Event → Type 0
+HasSpaceFile info es = HasFile (Space info.space) (pages info.pages) es
+
+-- the space's pages from page k on read as at s
+pub record PagesStay (info : SpaceInfo) (k : ℕ) (s m : List Event) : Type 0 where
+  pub file : HasSpaceFile info m
+  pub rest : (i : ℕ) → k ≤ i → shown (Space info.space) page_bytes i m ≡ shown (Space info.space) page_bytes i s
+
 -- each moment while a space is restored
 abbrev pub PagesFilling : List Copied → SpaceInfo → List Event → List Event → Type 0
 PagesFilling copies info s m = Filling (Space info.space) (pages info.pages) (wanted copies s info.space) info.pages s m
@@ -63,6 +72,9 @@ AreSpacesApart spaces = (i j : ℕ) → i < j → j < length spaces → (space_a
 
 abbrev pub HaveAll : List SpaceInfo → List Event → Type 0
 HaveAll spaces es = (i : ℕ) → i < length spaces → HasPages (space_at spaces i) es
+
+abbrev pub HaveFiles : List SpaceInfo → List Event → Type 0
+HaveFiles spaces es = (i : ℕ) → i < length spaces → HasSpaceFile (space_at spaces i) es
 
 -- since s nothing was asked of the space
 pub record IsUntouched (info : SpaceInfo) (s m : List Event) : Type 0 where

@@ -2,7 +2,6 @@
 ghost use Rattle.std.specs.Prelude.{◌≡◌, ◌+◌, ◌*◌, ◌<◌, ◌≤◌, ℕ, length, OnOk, OnErr, IsErrOf};
 ghost use Rattle.disk_model.specs.Does.{Does};
 ghost use Rattle.disk_model.specs.Event.{Sync, Write};
-ghost use Rattle.disk_model.specs.Image.{InFile};
 ghost use Rattle.disk_model.specs.Past.{Past, At, MayGrow, IsWrite, grow, HasDiskCause, HasDiskMemoryCause};
 ghost use Rattle.disk_model.specs.declared.names.DiskError.TheVariants.{NoMemory};
 ghost use Rattle.disk_model.specs.declared.names.FileName.TheVariants.{Space};
@@ -10,7 +9,7 @@ ghost use Rattle.places.specs.Batches.{From};
 ghost use Rattle.places.specs.Writes.{writes_of, grows, IsPart};
 ghost use Rattle.doublewrite.specs.Batch.{text_at, home_batch, home_events};
 ghost use Rattle.doublewrite.specs.Images.{AreHomesHonest, HomesHold, HomesMay};
-ghost use Rattle.doublewrite.specs.Layer.{ArePagesDistinct, HomesSettled, HomesWriting, HomesWrote, IsHomeEvent, IsInside};
+ghost use Rattle.doublewrite.specs.Layer.{ArePagesDistinct, FitsSpace, HomesSettled, HomesWriting, HomesWrote, IsHomeEvent, IsInside};
 ghost use Rattle.doublewrite.specs.Text.{page_number_of};
 ghost use Rattle.page_places.specs.Texts.{page_bytes};
 
@@ -21,9 +20,10 @@ use disk_model::{Disk, DiskError, FileName};
 fn write_home<D: Disk>(disk: &mut D, batch: &Texts, i: usize) -> Result<(), DiskError>
     requires more { i < length batch.now.pages }
     requires distinct { ArePagesDistinct batch.now }
-    requires inside { At (InFile (Space batch.now.space) (page_number_of (text_at batch.now i) * page_bytes) page_bytes) (D.past disk.old) }
+    requires inside { At (λ es. (count : ℕ) × FitsSpace batch.now count es) (D.past disk.old) }
     ensures does { (first : Past) → At (From (HomesWrote batch.now i) first) (D.past disk.old) → Does (From (HomesWriting batch.now) first) (IsHomeEvent batch.now) (From (HomesWrote batch.now (i + 1)) first) (D.past disk.old) (D.past disk.new) result }
     ensures ok { OnOk result (D.past disk.new ≡ grow (Write (Space batch.now.space) (page_number_of (text_at batch.now i) * page_bytes) (text_at batch.now i) (text_at batch.now i)) (D.past disk.old)) }
+    ensures inside { OnOk result (At (λ es. (count : ℕ) × FitsSpace batch.now count es) (D.past disk.new)) }
     ensures err { OnErr result (MayGrow (IsWrite (Space batch.now.space) (page_number_of (text_at batch.now i) * page_bytes) (text_at batch.now i)) (D.past disk.old) (D.past disk.new)) }
     ensures later { D.is_later disk.old disk.new }
     ensures calls { D.clock disk.new ≤ D.clock disk.old + 1 }
@@ -40,7 +40,7 @@ fn write_home<D: Disk>(disk: &mut D, batch: &Texts, i: usize) -> Result<(), Disk
 
 fn write_homes<D: Disk>(disk: &mut D, batch: &Texts) -> Result<(), DiskError>
     requires distinct { ArePagesDistinct batch.now }
-    requires inside { At (λ es. (count : ℕ) × IsInside batch.now count es) (D.past disk.old) }
+    requires inside { At (λ es. (count : ℕ) × FitsSpace batch.now count es) (D.past disk.old) }
     ensures does { Does (From (HomesWriting batch.now) (D.past disk.old)) (IsHomeEvent batch.now) (From (HomesWrote batch.now (length batch.now.pages)) (D.past disk.old)) (D.past disk.old) (D.past disk.new) result }
     ensures exact { OnOk result (D.past disk.new ≡ grows (writes_of (Space batch.now.space) page_bytes (home_batch batch.now) (length batch.now.pages)) (D.past disk.old)) }
     ensures part { OnErr result (IsPart (Space batch.now.space) page_bytes (home_batch batch.now) (length batch.now.pages) (D.past disk.old) (D.past disk.new)) }
@@ -76,7 +76,7 @@ fn sync_homes<D: Disk>(disk: &mut D, batch: &Texts) -> Result<(), DiskError>
 // Writes the homes, and syncs them.
 fn bring_home<D: Disk>(disk: &mut D, batch: &Texts) -> Result<(), DiskError>
     requires distinct { ArePagesDistinct batch.now }
-    requires inside { At (λ es. (count : ℕ) × IsInside batch.now count es) (D.past disk.old) }
+    requires inside { At (λ es. (count : ℕ) × FitsSpace batch.now count es) (D.past disk.old) }
     ensures does { Does (From (HomesWriting batch.now) (D.past disk.old)) (IsHomeEvent batch.now) (From (HomesSettled batch.now) (D.past disk.old)) (D.past disk.old) (D.past disk.new) result }
     ensures exact { OnOk result (D.past disk.new ≡ grows (home_events batch.now) (D.past disk.old)) }
     ensures part { OnErr result (IsPart (Space batch.now.space) page_bytes (home_batch batch.now) (length batch.now.pages) (D.past disk.old) (D.past disk.new)) }
@@ -103,9 +103,9 @@ fn bring_home<D: Disk>(disk: &mut D, batch: &Texts) -> Result<(), DiskError>
 /// held, its text, or is torn.
 pub fn home<D: Disk>(disk: &mut D, batch: &Texts) -> Result<(), DiskError>
     requires distinct { ArePagesDistinct batch.now }
-    requires inside { At (λ es. (count : ℕ) × IsInside batch.now count es) (D.past disk.old) }
+    requires inside { At (λ es. (count : ℕ) × FitsSpace batch.now count es) (D.past disk.old) }
     ensures does { Does (From (HomesWriting batch.now) (D.past disk.old)) (IsHomeEvent batch.now) (From (HomesSettled batch.now) (D.past disk.old)) (D.past disk.old) (D.past disk.new) result }
-    ensures images { At (AreHomesHonest batch.now.space) (D.past disk.old) → Does (From (HomesMay batch.now) (D.past disk.old)) (IsHomeEvent batch.now) (From (HomesHold batch.now) (D.past disk.old)) (D.past disk.old) (D.past disk.new) result }
+    ensures images { At (λ es. (count : ℕ) × IsInside batch.now count es) (D.past disk.old) → At (AreHomesHonest batch.now.space) (D.past disk.old) → Does (From (HomesMay batch.now) (D.past disk.old)) (IsHomeEvent batch.now) (From (HomesHold batch.now) (D.past disk.old)) (D.past disk.old) (D.past disk.new) result }
     ensures exact { OnOk result (D.past disk.new ≡ grows (home_events batch.now) (D.past disk.old)) }
     ensures part { OnErr result (IsPart (Space batch.now.space) page_bytes (home_batch batch.now) (length batch.now.pages) (D.past disk.old) (D.past disk.new)) }
     ensures later { D.is_later disk.old disk.new }

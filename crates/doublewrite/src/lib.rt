@@ -1,7 +1,9 @@
 //! The doublewrite file: page texts go to its slots and are synced before they go home, so that a
 //! home that a crash tears can be written again from its copy.
 //!
-//! What this layer promises, over a disk that tells its events and keeps its places (`HasPlaces`):
+//! What this layer asks of a disk that tells its events is that the files are there with their
+//! lengths (`HasFile`), whatever is pending. What it says of images, it says where they keep their
+//! places too (`HasPlaces`); what it says of events, answers and calls, in any case:
 //!
 //! 1. [`store`] writes page i of a batch to slot i, each slot whole, and syncs the file; [`home`]
 //!    writes each page to its place in the space's file, and syncs it. At every moment of them, also
@@ -39,6 +41,7 @@ pub use listing::{Copied, Copies};
 pub use reading::copies;
 pub use recovery::restore;
 pub use refuse::OpenRefuse;
+pub use restoring::newest_copy;
 pub use storing::store;
 pub use texts::{PageText, PageTexts, Texts};
 

@@ -6,7 +6,7 @@ ghost use Rattle.disk_model.specs.Past.{At, HasDiskCause};
 ghost use Rattle.disk_model.specs.Past.{HasDiskMemoryCause};
 ghost use Rattle.disk_model.specs.declared.names.DiskError.TheVariants.{NoMemory};
 ghost use Rattle.disk_model.specs.declared.names.FileName.TheVariants.{Double};
-ghost use Rattle.places.specs.Places.{HasPlaces, shown};
+ghost use Rattle.places.specs.Places.{HasFile, shown};
 ghost use Rattle.page_places.specs.Texts.{has_magic, is_page_text, is_slot, slot_held, slots, slot_size};
 ghost use Rattle.std.specs.Str.{bytes_eq};
 ghost use Rattle.doublewrite.specs.Copies.{as_list, as_copied, copies_to};
@@ -91,7 +91,7 @@ fn read_copy(alloc: Global, index: usize, slot: &[u8]) -> Result<Option<Copied>,
 fn read_slot<D: Disk>(disk: &mut D, i: usize, slot: &mut [u8]) -> Result<(), DiskError>
     requires within { i < slot_count }
     requires size { length slot.old ≡ slot_size }
-    requires places { At (HasPlaces Double slots) (D.past disk.old) }
+    requires places { At (HasFile Double slots) (D.past disk.old) }
     ensures bytes { OnOk result (At (λ es. slot.new ≡ shown Double slot_size i es) (D.past disk.old)) }
     ensures same { D.past disk.new ≡ D.past disk.old }
     ensures later { D.is_later disk.old disk.new }
@@ -111,7 +111,7 @@ fn read_copies<D: Disk>(
     slot: &mut [u8],
 ) -> Result<Vec<Copied>, DiskError>
     requires size { length slot.old ≡ slot_size }
-    requires places { At (HasPlaces Double slots) (D.past disk.old) }
+    requires places { At (HasFile Double slots) (D.past disk.old) }
     ensures copies { IfOk result (λ copies. At (λ es. copies.items ≡ copies_to slot_count es) (D.past disk.old)) }
     ensures same { D.past disk.new ≡ D.past disk.old }
     ensures later { D.is_later disk.old disk.new }
@@ -152,7 +152,7 @@ fn keep(copies: &mut Vec<Copied>, copy: Option<Copied>) -> Result<(), AllocError
 /// [`DiskError::Failed`] only where the disk's count of faults rose, [`DiskError::NoMemory`] where
 /// there was no memory, and then no call met a fault.
 pub fn copies<D: Disk>(alloc: Global, disk: &mut D) -> Result<Copies, DiskError>
-    requires places { At (HasPlaces Double slots) (D.past disk.old) }
+    requires places { At (HasFile Double slots) (D.past disk.old) }
     ensures copies { IfOk result (λ copies. At (λ es. copies ≡ copies_to slot_count es) (D.past disk.old)) }
     ensures same { D.past disk.new ≡ D.past disk.old }
     ensures later { D.is_later disk.old disk.new }

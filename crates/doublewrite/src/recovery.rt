@@ -1,15 +1,15 @@
 // The homes of all spaces are restored from the doublewrite file.
-ghost use Rattle.std.specs.Prelude.{◌≡◌, ◌+◌, ◌*◌, ◌<◌, ◌≤◌, ◌++◌, Some, length, OnOk, OnErr, IfErr, IsErrOf};
+ghost use Rattle.std.specs.Prelude.{◌≡◌, ◌+◌, ◌*◌, ◌<◌, ◌≤◌, ◌++◌, Some, None, length, OnOk, OnErr, IfErr, IsErrOf};
 ghost use Rattle.cause_core.specs.Cause.{HasCauseOf};
 ghost use Rattle.disk_model.specs.Does.{Does};
 ghost use Rattle.disk_model.specs.Past.{Past, At, HasDiskCause, HasDiskMemoryCause};
 ghost use Rattle.disk_model.specs.declared.names.DiskError.TheVariants.{NoMemory};
 ghost use Rattle.disk_model.specs.declared.names.FileName.TheVariants.{Double};
 ghost use Rattle.places.specs.Batches.{From};
-ghost use Rattle.places.specs.Places.{HasPlaces};
+ghost use Rattle.places.specs.Places.{HasFile};
 ghost use Rattle.page_places.specs.Texts.{slots, page_bytes};
 ghost use Rattle.doublewrite.specs.Events.{space_events, spaces_events, restore_events, calls_to, AreFirstEvents};
-ghost use Rattle.doublewrite.specs.Restore.{AreSpacesApart, AreRestored, HaveAll, IsRestoreEvent, HomesRestored, HomesRestoring, SpacesFilling, SpacesRestored, space_at};
+ghost use Rattle.doublewrite.specs.Restore.{AreSpacesApart, AreRestored, HasSpaceFile, HaveAll, HaveFiles, IsRestoreEvent, HomesRestored, HomesRestoring, SpacesFilling, SpacesRestored, space_at};
 ghost use Rattle.store_image.specs.Places.{log_of};
 ghost use Rattle.store_image.specs.View.{View, slot_count};
 ghost use Rattle.page_places.specs.Views.{IsReadAs};
@@ -36,11 +36,12 @@ fn restore_next<D: Disk>(
     requires more { i < length spaces.now }
     requires apart { AreSpacesApart spaces.now }
     requires size { length page.old ≡ page_bytes }
-    requires places { At (HaveAll spaces.now) (D.past disk.old) }
-    ensures does { (first : Past) → At (From (AreRestored copies.now spaces.now i) first) (D.past disk.old) → Does (From (SpacesFilling copies.now spaces.now) first) (IsRestoreEvent spaces.now) (From (AreRestored copies.now spaces.now (i + 1)) first) (D.past disk.old) (D.past disk.new) result }
+    requires places { At (HasSpaceFile (space_at spaces.now i)) (D.past disk.old) }
+    ensures does { At (HaveAll spaces.now) (D.past disk.old) → (first : Past) → At (From (AreRestored copies.now spaces.now i) first) (D.past disk.old) → Does (From (SpacesFilling copies.now spaces.now) first) (IsRestoreEvent spaces.now) (From (AreRestored copies.now spaces.now (i + 1)) first) (D.past disk.old) (D.past disk.new) result }
     ensures size { length page.new ≡ page_bytes }
     ensures exact { OnOk result (At (λ s. D.past disk.new ≡ Some (space_events copies.now s (space_at spaces.now i) ++ s)) (D.past disk.old)) }
     ensures part { OnErr result (At (λ s. AreFirstEvents (space_events copies.now s (space_at spaces.now i)) s (D.past disk.new)) (D.past disk.old)) }
+    ensures untold { D.past disk.old ≡ None → D.past disk.new ≡ None }
     ensures later { D.is_later disk.old disk.new }
     ensures calls { D.clock disk.new ≤ D.clock disk.old + ((space_at spaces.now i).pages * 2 + 1) }
     ensures cause { HasDiskCause (D.faults disk.old) (D.faults disk.new) result }
@@ -60,10 +61,11 @@ fn restore_spaces<D: Disk>(
 ) -> Result<(), DiskError>
     requires apart { AreSpacesApart spaces.now }
     requires size { length page.old ≡ page_bytes }
-    requires places { At (HaveAll spaces.now) (D.past disk.old) }
-    ensures does { Does (From (SpacesFilling copies.now spaces.now) (D.past disk.old)) (IsRestoreEvent spaces.now) (From (SpacesRestored copies.now spaces.now) (D.past disk.old)) (D.past disk.old) (D.past disk.new) result }
+    requires places { At (HaveFiles spaces.now) (D.past disk.old) }
+    ensures does { At (HaveAll spaces.now) (D.past disk.old) → Does (From (SpacesFilling copies.now spaces.now) (D.past disk.old)) (IsRestoreEvent spaces.now) (From (SpacesRestored copies.now spaces.now) (D.past disk.old)) (D.past disk.old) (D.past disk.new) result }
     ensures exact { OnOk result (At (λ s. D.past disk.new ≡ Some (spaces_events copies.now s spaces.now (length spaces.now) ++ s)) (D.past disk.old)) }
     ensures part { OnErr result (At (λ s. AreFirstEvents (spaces_events copies.now s spaces.now (length spaces.now)) s (D.past disk.new)) (D.past disk.old)) }
+    ensures untold { D.past disk.old ≡ None → D.past disk.new ≡ None }
     ensures later { D.is_later disk.old disk.new }
     ensures calls { D.clock disk.new ≤ D.clock disk.old + calls_to spaces.now (length spaces.now) }
     ensures cause { HasDiskCause (D.faults disk.old) (D.faults disk.new) result }
@@ -85,11 +87,12 @@ fn restore_from_copies<D: Disk>(
     spaces: &[SpaceInfo],
 ) -> Result<(), DiskError>
     requires apart { AreSpacesApart spaces.now }
-    requires double { At (HasPlaces Double slots) (D.past disk.old) }
-    requires places { At (HaveAll spaces.now) (D.past disk.old) }
-    ensures does { Does (From (HomesRestoring spaces.now) (D.past disk.old)) (IsRestoreEvent spaces.now) (From (HomesRestored spaces.now) (D.past disk.old)) (D.past disk.old) (D.past disk.new) result }
+    requires double { At (HasFile Double slots) (D.past disk.old) }
+    requires places { At (HaveFiles spaces.now) (D.past disk.old) }
+    ensures does { At (HaveAll spaces.now) (D.past disk.old) → Does (From (HomesRestoring spaces.now) (D.past disk.old)) (IsRestoreEvent spaces.now) (From (HomesRestored spaces.now) (D.past disk.old)) (D.past disk.old) (D.past disk.new) result }
     ensures exact { OnOk result (At (λ s. D.past disk.new ≡ Some (restore_events spaces.now s ++ s)) (D.past disk.old)) }
     ensures part { OnErr result (At (λ s. AreFirstEvents (restore_events spaces.now s) s (D.past disk.new)) (D.past disk.old)) }
+    ensures untold { D.past disk.old ≡ None → D.past disk.new ≡ None }
     ensures later { D.is_later disk.old disk.new }
     ensures calls { D.clock disk.new ≤ D.clock disk.old + (slot_count + calls_to spaces.now (length spaces.now)) }
     ensures cause { HasDiskCause (D.faults disk.old) (D.faults disk.new) result }
@@ -110,12 +113,13 @@ fn restore_or_refuse<D: Disk>(
     spaces: &[SpaceInfo],
 ) -> Result<(), OpenRefuse>
     requires apart { AreSpacesApart spaces.now }
-    requires double { At (HasPlaces Double slots) (D.past disk.old) }
-    requires places { At (HaveAll spaces.now) (D.past disk.old) }
-    ensures does { Does (From (HomesRestoring spaces.now) (D.past disk.old)) (IsRestoreEvent spaces.now) (From (HomesRestored spaces.now) (D.past disk.old)) (D.past disk.old) (D.past disk.new) result }
+    requires double { At (HasFile Double slots) (D.past disk.old) }
+    requires places { At (HaveFiles spaces.now) (D.past disk.old) }
+    ensures does { At (HaveAll spaces.now) (D.past disk.old) → Does (From (HomesRestoring spaces.now) (D.past disk.old)) (IsRestoreEvent spaces.now) (From (HomesRestored spaces.now) (D.past disk.old)) (D.past disk.old) (D.past disk.new) result }
     ensures refuses { IfErr result IsDiskRefuse }
     ensures exact { OnOk result (At (λ s. D.past disk.new ≡ Some (restore_events spaces.now s ++ s)) (D.past disk.old)) }
     ensures part { OnErr result (At (λ s. AreFirstEvents (restore_events spaces.now s) s (D.past disk.new)) (D.past disk.old)) }
+    ensures untold { D.past disk.old ≡ None → D.past disk.new ≡ None }
     ensures later { D.is_later disk.old disk.new }
     ensures calls { D.clock disk.new ≤ D.clock disk.old + (slot_count + calls_to spaces.now (length spaces.now)) }
     ensures cause { HasCauseOf DiskFault (D.faults disk.old) (D.faults disk.new) result }
@@ -143,13 +147,14 @@ fn restore_or_refuse<D: Disk>(
 /// written holds what it held, its copy's text, or is torn.
 pub fn restore<D: Disk>(alloc: Global, disk: &mut D, spaces: &[SpaceInfo]) -> Result<(), OpenRefuse>
     requires apart { AreSpacesApart spaces.now }
-    requires double { At (HasPlaces Double slots) (D.past disk.old) }
-    requires places { At (HaveAll spaces.now) (D.past disk.old) }
-    ensures does { Does (From (HomesRestoring spaces.now) (D.past disk.old)) (IsRestoreEvent spaces.now) (From (HomesRestored spaces.now) (D.past disk.old)) (D.past disk.old) (D.past disk.new) result }
-    ensures chosen { (v : View (Unit {0})) → At (IsReadAs (λ l. l ≡ log_of v) v) (D.past disk.old) → Does (ChosenMay v) (IsRestoreEvent spaces.now) (ChosenHold v spaces.now) (D.past disk.old) (D.past disk.new) result }
+    requires double { At (HasFile Double slots) (D.past disk.old) }
+    requires places { At (HaveFiles spaces.now) (D.past disk.old) }
+    ensures does { At (HaveAll spaces.now) (D.past disk.old) → Does (From (HomesRestoring spaces.now) (D.past disk.old)) (IsRestoreEvent spaces.now) (From (HomesRestored spaces.now) (D.past disk.old)) (D.past disk.old) (D.past disk.new) result }
+    ensures chosen { At (HaveAll spaces.now) (D.past disk.old) → (v : View (Unit {0})) → At (IsReadAs (λ l. l ≡ log_of v) v) (D.past disk.old) → Does (ChosenMay v) (IsRestoreEvent spaces.now) (ChosenHold v spaces.now) (D.past disk.old) (D.past disk.new) result }
     ensures refuses { IfErr result IsDiskRefuse }
     ensures exact { OnOk result (At (λ s. D.past disk.new ≡ Some (restore_events spaces.now s ++ s)) (D.past disk.old)) }
     ensures part { OnErr result (At (λ s. AreFirstEvents (restore_events spaces.now s) s (D.past disk.new)) (D.past disk.old)) }
+    ensures untold { D.past disk.old ≡ None → D.past disk.new ≡ None }
     ensures later { D.is_later disk.old disk.new }
     ensures calls { D.clock disk.new ≤ D.clock disk.old + (slot_count + calls_to spaces.now (length spaces.now)) }
     ensures cause { HasCauseOf DiskFault (D.faults disk.old) (D.faults disk.new) result }

@@ -9,8 +9,8 @@ ghost use Rattle.disk_model.specs.declared.names.FileName.TheVariants.{Space};
 ghost use Rattle.places.specs.Batches.{From};
 ghost use Rattle.places.specs.Places.{shown};
 ghost use Rattle.doublewrite.specs.Events.{page_write, page_writes, is_any, space_events, AreFirstEvents};
-ghost use Rattle.doublewrite.specs.Restore.{HasPages, IsSpaceEvent, PagesFilled, PagesFilling, PagesRestored, newer, newest, wanted};
 ghost use Rattle.page_places.specs.Texts.{page_bytes};
+ghost use Rattle.doublewrite.specs.Restore.{HasPages, HasSpaceFile, IsSpaceEvent, PagesFilled, PagesFilling, PagesRestored, PagesStay, newer, newest, wanted};
 
 use crate::reading::is_page_text;
 use crate::texts::PAGE_BYTES;
@@ -18,8 +18,8 @@ use crate::{Copied, Copies};
 use disk_model::{Disk, DiskError, FileName};
 use space_head::SpaceInfo;
 
-// The newest copy of a page.
-fn newest<'a>(copies: &'a Copies, space: u32, page: u32) -> Option<&'a Copied>
+/// The newest copy of a page: of those of greatest LSN the one of least index.
+pub fn newest_copy<'a>(copies: &'a Copies, space: u32, page: u32) -> Option<&'a Copied>
     ensures { option_map (λ c. c.now) result ≡ newest copies.now space page }
 {
     let mut best: Option<&Copied> = None;
@@ -49,7 +49,7 @@ fn read_home<D: Disk>(
 ) -> Result<(), DiskError>
     requires within { number < info.now.pages }
     requires size { length page.old ≡ page_bytes }
-    requires places { At (HasPages info.now) (D.past disk.old) }
+    requires places { At (HasSpaceFile info.now) (D.past disk.old) }
     ensures bytes { OnOk result (At (λ es. page.new ≡ shown (Space info.now.space) page_bytes number es) (D.past disk.old)) }
     ensures same { D.past disk.new ≡ D.past disk.old }
     ensures later { D.is_later disk.old disk.new }
@@ -77,13 +77,15 @@ fn restore_page<D: Disk>(
 ) -> Result<bool, DiskError>
     requires within { number < info.now.pages }
     requires size { length page.old ≡ page_bytes }
-    requires places { At (HasPages info.now) (D.past disk.old) }
+    requires places { At (HasSpaceFile info.now) (D.past disk.old) }
     ensures does { (first : Past) → At (From (PagesFilled copies.now info.now number) first) (D.past disk.old) → Does (From (PagesFilling copies.now info.now) first) (IsSpaceEvent info.now) (From (PagesFilled copies.now info.now (number + 1)) first) (D.past disk.old) (D.past disk.new) result }
     ensures same { result ≡ Ok false → D.past disk.new ≡ D.past disk.old }
     ensures size { length page.new ≡ page_bytes }
+    ensures stays { (first : Past) → At (From (PagesStay info.now number) first) (D.past disk.old) → OnOk result (At (From (PagesStay info.now (number + 1)) first) (D.past disk.new)) }
     ensures exact { OnOk result (At (λ s. D.past disk.new ≡ Some (page_write info.now.space number (wanted copies.now s info.now.space number) ++ s)) (D.past disk.old)) }
     ensures part { OnErr result (At (λ s. AreFirstEvents (page_write info.now.space number (wanted copies.now s info.now.space number)) s (D.past disk.new)) (D.past disk.old)) }
     ensures told { IfOk result (λ w. At (λ s. w ≡ is_some (wanted copies.now s info.now.space number)) (D.past disk.old)) }
+    ensures untold { D.past disk.old ≡ None → D.past disk.new ≡ None }
     ensures later { D.is_later disk.old disk.new }
     ensures calls { D.clock disk.new ≤ D.clock disk.old + 2 }
     ensures cause { HasDiskCause (D.faults disk.old) (D.faults disk.new) result }
@@ -96,7 +98,7 @@ fn restore_page<D: Disk>(
     if is_page_text(page, number) {
         return Ok(false);
     }
-    let Some(copied) = newest(copies, info.space, number) else {
+    let Some(copied) = newest_copy(copies, info.space, number) else {
         return Ok(false);
     };
     let at = u64::from(number) * PAGE_BYTES;
@@ -112,13 +114,14 @@ fn restore_pages<D: Disk>(
     page: &mut [u8],
 ) -> Result<bool, DiskError>
     requires size { length page.old ≡ page_bytes }
-    requires places { At (HasPages info.now) (D.past disk.old) }
-    ensures does { Does (From (PagesFilling copies.now info.now) (D.past disk.old)) (IsSpaceEvent info.now) (From (PagesFilled copies.now info.now info.now.pages) (D.past disk.old)) (D.past disk.old) (D.past disk.new) result }
+    requires places { At (HasSpaceFile info.now) (D.past disk.old) }
+    ensures does { At (HasPages info.now) (D.past disk.old) → Does (From (PagesFilling copies.now info.now) (D.past disk.old)) (IsSpaceEvent info.now) (From (PagesFilled copies.now info.now info.now.pages) (D.past disk.old)) (D.past disk.old) (D.past disk.new) result }
     ensures same { result ≡ Ok false → D.past disk.new ≡ D.past disk.old }
     ensures size { length page.new ≡ page_bytes }
     ensures exact { OnOk result (At (λ s. D.past disk.new ≡ Some (page_writes copies.now s info.now.space info.now.pages ++ s)) (D.past disk.old)) }
     ensures part { OnErr result (At (λ s. AreFirstEvents (page_writes copies.now s info.now.space info.now.pages) s (D.past disk.new)) (D.past disk.old)) }
     ensures told { IfOk result (λ w. At (λ s. w ≡ is_any (page_writes copies.now s info.now.space info.now.pages)) (D.past disk.old)) }
+    ensures untold { D.past disk.old ≡ None → D.past disk.new ≡ None }
     ensures later { D.is_later disk.old disk.new }
     ensures calls { D.clock disk.new ≤ D.clock disk.old + info.now.pages * 2 }
     ensures cause { HasDiskCause (D.faults disk.old) (D.faults disk.new) result }
@@ -160,11 +163,12 @@ pub(crate) fn restore_space<D: Disk>(
     page: &mut [u8],
 ) -> Result<(), DiskError>
     requires size { length page.old ≡ page_bytes }
-    requires places { At (HasPages info.now) (D.past disk.old) }
-    ensures does { Does (From (PagesFilling copies.now info.now) (D.past disk.old)) (IsSpaceEvent info.now) (From (PagesRestored copies.now info.now) (D.past disk.old)) (D.past disk.old) (D.past disk.new) result }
+    requires places { At (HasSpaceFile info.now) (D.past disk.old) }
+    ensures does { At (HasPages info.now) (D.past disk.old) → Does (From (PagesFilling copies.now info.now) (D.past disk.old)) (IsSpaceEvent info.now) (From (PagesRestored copies.now info.now) (D.past disk.old)) (D.past disk.old) (D.past disk.new) result }
     ensures size { length page.new ≡ page_bytes }
     ensures exact { OnOk result (At (λ s. D.past disk.new ≡ Some (space_events copies.now s info.now ++ s)) (D.past disk.old)) }
     ensures part { OnErr result (At (λ s. AreFirstEvents (space_events copies.now s info.now) s (D.past disk.new)) (D.past disk.old)) }
+    ensures untold { D.past disk.old ≡ None → D.past disk.new ≡ None }
     ensures later { D.is_later disk.old disk.new }
     ensures calls { D.clock disk.new ≤ D.clock disk.old + (info.now.pages * 2 + 1) }
     ensures cause { HasDiskCause (D.faults disk.old) (D.faults disk.new) result }

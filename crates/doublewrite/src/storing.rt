@@ -6,7 +6,7 @@ ghost use Rattle.disk_model.specs.Past.{Past, At, MayGrow, IsWrite, grow, HasDis
 ghost use Rattle.disk_model.specs.declared.names.DiskError.TheVariants.{NoMemory};
 ghost use Rattle.disk_model.specs.declared.names.FileName.TheVariants.{Double};
 ghost use Rattle.places.specs.Batches.{From};
-ghost use Rattle.places.specs.Places.{HasPlaces};
+ghost use Rattle.places.specs.Places.{HasFile, HasPlaces};
 ghost use Rattle.places.specs.Writes.{writes_of, grows, IsPart};
 ghost use Rattle.page_places.specs.Texts.{slots, slot_size};
 ghost use Rattle.doublewrite.specs.Batch.{slot_batch, slot_events};
@@ -28,9 +28,10 @@ fn write_slot<D: Disk>(
     requires more { i < length batch.now.pages }
     requires most { length batch.now.pages ≤ slot_count }
     requires size { length slot.old ≡ slot_size }
-    requires places { At (HasPlaces Double slots) (D.past disk.old) }
+    requires places { At (HasFile Double slots) (D.past disk.old) }
     ensures does { (first : Past) → At (From (SlotsWrote batch.now i) first) (D.past disk.old) → Does (From (SlotsWriting batch.now) first) (IsSlotEvent batch.now) (From (SlotsWrote batch.now (i + 1)) first) (D.past disk.old) (D.past disk.new) result }
     ensures size { length slot.new ≡ slot_size }
+    ensures places { OnOk result (At (HasFile Double slots) (D.past disk.new)) }
     ensures ok { OnOk result (D.past disk.new ≡ grow (Write Double (i * slot_size) ((slot_batch batch.now).bytes i) ((slot_batch batch.now).bytes i)) (D.past disk.old)) }
     ensures err { OnErr result (MayGrow (IsWrite Double (i * slot_size) ((slot_batch batch.now).bytes i)) (D.past disk.old) (D.past disk.new)) }
     ensures later { D.is_later disk.old disk.new }
@@ -49,8 +50,8 @@ fn write_slot<D: Disk>(
 fn write_slots<D: Disk>(disk: &mut D, batch: &Texts, slot: &mut [u8]) -> Result<(), DiskError>
     requires most { length batch.now.pages ≤ slot_count }
     requires size { length slot.old ≡ slot_size }
-    requires places { At (HasPlaces Double slots) (D.past disk.old) }
-    ensures does { Does (From (SlotsWriting batch.now) (D.past disk.old)) (IsSlotEvent batch.now) (From (SlotsWrote batch.now (length batch.now.pages)) (D.past disk.old)) (D.past disk.old) (D.past disk.new) result }
+    requires places { At (HasFile Double slots) (D.past disk.old) }
+    ensures does { At (HasPlaces Double slots) (D.past disk.old) → Does (From (SlotsWriting batch.now) (D.past disk.old)) (IsSlotEvent batch.now) (From (SlotsWrote batch.now (length batch.now.pages)) (D.past disk.old)) (D.past disk.old) (D.past disk.new) result }
     ensures exact { OnOk result (D.past disk.new ≡ grows (writes_of Double slot_size (slot_batch batch.now) (length batch.now.pages)) (D.past disk.old)) }
     ensures part { OnErr result (IsPart Double slot_size (slot_batch batch.now) (length batch.now.pages) (D.past disk.old) (D.past disk.new)) }
     ensures later { D.is_later disk.old disk.new }
@@ -86,8 +87,8 @@ fn sync_slots<D: Disk>(disk: &mut D, batch: &Texts) -> Result<(), DiskError>
 // Writes the slots, and syncs them.
 fn store_slots<D: Disk>(disk: &mut D, batch: &Texts) -> Result<(), DiskError>
     requires most { length batch.now.pages ≤ slot_count }
-    requires places { At (HasPlaces Double slots) (D.past disk.old) }
-    ensures does { Does (From (SlotsWriting batch.now) (D.past disk.old)) (IsSlotEvent batch.now) (From (SlotsSettled batch.now) (D.past disk.old)) (D.past disk.old) (D.past disk.new) result }
+    requires places { At (HasFile Double slots) (D.past disk.old) }
+    ensures does { At (HasPlaces Double slots) (D.past disk.old) → Does (From (SlotsWriting batch.now) (D.past disk.old)) (IsSlotEvent batch.now) (From (SlotsSettled batch.now) (D.past disk.old)) (D.past disk.old) (D.past disk.new) result }
     ensures exact { OnOk result (D.past disk.new ≡ grows (slot_events batch.now) (D.past disk.old)) }
     ensures part { OnErr result (IsPart Double slot_size (slot_batch batch.now) (length batch.now.pages) (D.past disk.old) (D.past disk.new)) }
     ensures later { D.is_later disk.old disk.new }
@@ -113,9 +114,9 @@ fn store_slots<D: Disk>(disk: &mut D, batch: &Texts) -> Result<(), DiskError>
 /// held, its text, or is torn.
 pub fn store<D: Disk>(disk: &mut D, batch: &Texts) -> Result<(), DiskError>
     requires most { length batch.now.pages ≤ slot_count }
-    requires places { At (HasPlaces Double slots) (D.past disk.old) }
-    ensures does { Does (From (SlotsWriting batch.now) (D.past disk.old)) (IsSlotEvent batch.now) (From (SlotsSettled batch.now) (D.past disk.old)) (D.past disk.old) (D.past disk.new) result }
-    ensures images { At AreSlotsHonest (D.past disk.old) → Does (From (SlotsMay batch.now) (D.past disk.old)) (IsSlotEvent batch.now) (From (SlotsHold batch.now) (D.past disk.old)) (D.past disk.old) (D.past disk.new) result }
+    requires places { At (HasFile Double slots) (D.past disk.old) }
+    ensures does { At (HasPlaces Double slots) (D.past disk.old) → Does (From (SlotsWriting batch.now) (D.past disk.old)) (IsSlotEvent batch.now) (From (SlotsSettled batch.now) (D.past disk.old)) (D.past disk.old) (D.past disk.new) result }
+    ensures images { At (HasPlaces Double slots) (D.past disk.old) → At AreSlotsHonest (D.past disk.old) → Does (From (SlotsMay batch.now) (D.past disk.old)) (IsSlotEvent batch.now) (From (SlotsHold batch.now) (D.past disk.old)) (D.past disk.old) (D.past disk.new) result }
     ensures exact { OnOk result (D.past disk.new ≡ grows (slot_events batch.now) (D.past disk.old)) }
     ensures part { OnErr result (IsPart Double slot_size (slot_batch batch.now) (length batch.now.pages) (D.past disk.old) (D.past disk.new)) }
     ensures later { D.is_later disk.old disk.new }

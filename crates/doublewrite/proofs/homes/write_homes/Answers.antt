@@ -1,13 +1,12 @@
-use Rattle.std.proofs.Common.{◌≡◌, ◌<◌, length, subst, arith, refl, ◌∙◌, sym, ap}
+use Rattle.std.proofs.Common.{◌≡◌, length, subst, arith, refl, ◌∙◌, sym, ap}
 use Rattle.disk_model.proofs.Layers.{does_err, so_far_none, so_far_more, so_far_then, so_far_done}
 use Rattle.disk_model.specs.declared.names.FileName.TheVariants.{Space}
-use Rattle.places.proofs.Batches.{at_end}
 use Rattle.places.proofs.WriteLemmas.{grows_none, write_more, write_failed}
 use Rattle.places.specs.Batches.{From}
 use Rattle.places.specs.Writes.{writes_of, grows}
 use Rattle.doublewrite.specs.Batch.{home_batch}
 use Rattle.doublewrite.specs.Layer.{HomesWrote}
-use Rattle.doublewrite.proofs.HomeSteps.{homes_begin, homes_now, home_inside}
+use Rattle.doublewrite.proofs.HomeSteps.{homes_begin, homes_now}
 use Rattle.doublewrite.proofs.homes.write_homes.Goals as goal
 
 pub loop-i-init : goal.loop-i-init
@@ -15,18 +14,14 @@ loop-i-init g c =
     let batch = c.args.batch.now in
     let first = g.D.Disk.past c.args.disk.now in
     record {
-      so_far = so_far_none (homes_now batch 0 (omega arith) first) (homes_begin batch first c.requires.inside);
+      so_far = so_far_none (homes_now batch 0 (omega arith) first) (homes_begin batch first);
+      inside = c.requires.inside;
       exact = sym (grows_none first);
       calls = omega arith;
       faults = refl;
       memory = refl;
       later = g.met.D.Disk.is_later_reflexive c.args.disk.now;
     }
-
-pub write_home-requires-clause-inside : goal.write_home-requires-clause-inside
-write_home-requires-clause-inside g c =
-    let more : c.loop-i.i < length c.args.batch.now.pages = omega (arith, c.loop-i-test.true, c.len-i-end.ensures) in
-    at_end (home_inside c.args.batch.now c.loop-i.i more) c.loop-i.invariant.so_far.moments.later c.requires.inside c.loop-i.invariant.so_far.at
 
 pub returns-in_err-write_home-clause-does : goal.returns-in_err-write_home-clause-does
 returns-in_err-write_home-clause-does g c =
@@ -45,6 +40,7 @@ loop-i-preserved g c =
     let batch = c.args.batch.now in
     record {
       so_far = so_far_more c.loop-i.invariant.so_far (c.in_ok-write_home.ensures.does first c.loop-i.invariant.so_far.at);
+      inside = c.in_ok-write_home.ensures.inside;
       exact = write_more (Space batch.space) 16384 (home_batch batch) c.loop-i.i first (g.D.Disk.past c.loop-i.disk) (g.D.Disk.past c.write_home.new.disk) c.loop-i.invariant.exact c.in_ok-write_home.ensures.ok;
       calls = omega (arith, c.loop-i.invariant.calls, c.in_ok-write_home.ensures.calls);
       faults = c.in_ok-write_home.ensures.no_fault ∙ c.loop-i.invariant.faults;

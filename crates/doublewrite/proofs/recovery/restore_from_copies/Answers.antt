@@ -1,4 +1,4 @@
-use Rattle.std.proofs.Common.{◌≡◌, ◌++◌, ◌∙◌, List, Some, length, ap, subst}
+use Rattle.std.proofs.Common.{◌≡◌, ◌++◌, ◌∙◌, List, Some, length, ap, sym, subst}
 use Rattle.std.proofs.lemmas.Result.{on_ok_weaker, on_err_weaker}
 use Rattle.disk_model.specs.Past.{Past, At}
 use Rattle.disk_model.proofs.Moments.{at_both}
@@ -7,23 +7,23 @@ use Rattle.places.specs.Batches.{From}
 use Rattle.places.proofs.Batches.{does_failed, from_known}
 use Rattle.doublewrite.specs.Events.{spaces_events, restore_events, AreFirstEvents}
 use Rattle.doublewrite.proofs.EventSteps.{at_error, front_none}
-use Rattle.doublewrite.specs.Restore.{SpacesFilling, SpacesRestored, IsRestoreEvent}
+use Rattle.doublewrite.specs.Restore.{HaveAll, SpacesFilling, SpacesRestored, IsRestoreEvent}
 use Rattle.doublewrite.specs.declared.listing.Copied.{Copied}
 use Rattle.doublewrite.proofs.SpaceSteps.{restoring_begin}
 use Rattle.doublewrite.proofs.recovery.restore_from_copies.Goals as goal
 
 pub returns-in_err-copies-clause-does : goal.returns-in_err-copies-clause-does
-returns-in_err-copies-clause-does g c =
-    does_failed _ _ c.from_residual.ensures.1 (restoring_begin c.args.spaces.now (g.D.Disk.past c.args.disk.now) c.requires.places) (λ es r. r) c.in_err-copies.ensures.same
+returns-in_err-copies-clause-does g c = λ has.
+    does_failed _ _ c.from_residual.ensures.1 (restoring_begin c.args.spaces.now (g.D.Disk.past c.args.disk.now) has) (λ es r. r) c.in_err-copies.ensures.same
 
 pub returns-clause-does : goal.returns-clause-does
-returns-clause-does g c =
+returns-clause-does g c = λ has.
     let spaces = c.args.spaces.now in
     from_known c.in_ok-copies.ensures.copies
     (λ s m is r. subst (λ (cs : List Copied). SpacesFilling cs spaces s m) is r)
     (λ s m is r. subst (λ (cs : List Copied). SpacesRestored cs spaces s m) is r) (λ e k. k)
     (subst (λ (h : Past). Does (From (SpacesFilling c.in_ok-copies.copies spaces) h) (IsRestoreEvent spaces) (From (SpacesRestored c.in_ok-copies.copies spaces) h) h (g.D.Disk.past c.restore_spaces.new.disk) c.restore_spaces.result)
-    c.in_ok-copies.ensures.same c.restore_spaces.ensures.does)
+    c.in_ok-copies.ensures.same (c.restore_spaces.ensures.does (subst (At (HaveAll spaces)) (sym c.in_ok-copies.ensures.same) has)))
 
 pub returns-in_err-copies-clause-part : goal.returns-in_err-copies-clause-part
 returns-in_err-copies-clause-part g c =

@@ -4,7 +4,7 @@ use Rattle.disk_model.proofs.Moments.{at_each}
 use Rattle.disk_model.proofs.Layers.{does_err, so_far_none, so_far_more, so_far_then, so_far_done}
 use Rattle.places.proofs.Batches.{at_end}
 use Rattle.doublewrite.specs.Events.{spaces_events}
-use Rattle.doublewrite.proofs.EventSteps.{at_error, spaces_none, next_space, next_space_part, calls_none, calls_more, calls_below}
+use Rattle.doublewrite.proofs.EventSteps.{at_error, spaces_none, next_file, next_space, next_space_part, calls_none, calls_more, calls_below}
 use Rattle.doublewrite.proofs.SpaceSteps.{spaces_begin, spaces_now, all_places, all_done}
 use Rattle.doublewrite.proofs.recovery.restore_spaces.Goals as goal
 
@@ -12,7 +12,8 @@ pub loop-i-init : goal.loop-i-init
 loop-i-init g c =
     let first = g.D.Disk.past c.args.disk.now in
     record {
-      so_far = so_far_none (spaces_now c.args.copies.now c.args.spaces.now c.requires.apart 0 first) (spaces_begin c.args.copies.now c.args.spaces.now c.requires.apart first c.requires.places);
+      so_far = λ has. so_far_none (spaces_now c.args.copies.now c.args.spaces.now c.requires.apart 0 first) (spaces_begin c.args.copies.now c.args.spaces.now c.requires.apart first has);
+      untold = λ none. none;
       exact = record { here = λ s is. is ∙ ap (λ (l : List Event). Some (l ++ s)) (sym (spaces_none c.args.copies.now c.args.spaces.now s)) };
       calls = omega (arith, calls_none c.args.spaces.now);
       size = c.requires.size;
@@ -23,12 +24,14 @@ loop-i-init g c =
 
 pub restore_next-requires-clause-places : goal.restore_next-requires-clause-places
 restore_next-requires-clause-places g c =
-    at_end (all_places c.args.copies.now c.args.spaces.now c.requires.apart c.loop-i.i) c.loop-i.invariant.so_far.moments.later c.requires.places c.loop-i.invariant.so_far.at
+    next_file c.args.copies.now c.args.spaces.now c.requires.apart c.loop-i.i (omega (arith, c.loop-i-test.true)) (g.D.Disk.past c.args.disk.now) (g.D.Disk.past c.loop-i.disk) c.loop-i.invariant.exact c.loop-i.invariant.untold c.requires.places
 
 pub returns-in_err-restore_next-clause-does : goal.returns-in_err-restore_next-clause-does
-returns-in_err-restore_next-clause-does g c =
+returns-in_err-restore_next-clause-does g c = λ has.
     let first = g.D.Disk.past c.args.disk.now in
-    does_err _ _ c.from_residual.ensures.1 (so_far_then c.loop-i.invariant.so_far (c.in_err-restore_next.ensures.does first c.loop-i.invariant.so_far.at))
+    let so_far = c.loop-i.invariant.so_far has in
+    let still = at_end (all_places c.args.copies.now c.args.spaces.now c.requires.apart c.loop-i.i) so_far.moments.later has so_far.at in
+    does_err _ _ c.from_residual.ensures.1 (so_far_then so_far (c.in_err-restore_next.ensures.does still first so_far.at))
 
 pub returns-in_err-restore_next-clause-part : goal.returns-in_err-restore_next-clause-part
 returns-in_err-restore_next-clause-part g c =
@@ -38,7 +41,7 @@ returns-in_err-restore_next-clause-part g c =
     let first = g.D.Disk.past c.args.disk.now in
     let more : i < length spaces = omega (arith, c.loop-i-test.true) in
     at_error c.from_residual.result
-    (next_space_part copies spaces i more first (g.D.Disk.past c.loop-i.disk) c.loop-i.invariant.exact c.loop-i.invariant.so_far.at (g.D.Disk.past c.restore_next.new.disk) c.in_err-restore_next.ensures.part)
+    (next_space_part copies spaces c.requires.apart i more first (g.D.Disk.past c.loop-i.disk) c.loop-i.invariant.exact (g.D.Disk.past c.restore_next.new.disk) c.in_err-restore_next.ensures.part)
 
 pub returns-in_err-restore_next-clause-calls : goal.returns-in_err-restore_next-clause-calls
 returns-in_err-restore_next-clause-calls g c =
@@ -55,9 +58,13 @@ loop-i-preserved g c =
     let i = c.loop-i.i in
     let more : i < length spaces = omega (arith, c.loop-i-test.true) in
     record {
-      exact = next_space copies spaces i more first (g.D.Disk.past c.loop-i.disk) c.loop-i.invariant.exact c.loop-i.invariant.so_far.at (g.D.Disk.past c.restore_next.new.disk) c.in_ok-restore_next.ensures.exact;
+      untold = λ none. c.in_ok-restore_next.ensures.untold (c.loop-i.invariant.untold none);
+      exact = next_space copies spaces c.requires.apart i more first (g.D.Disk.past c.loop-i.disk) c.loop-i.invariant.exact (g.D.Disk.past c.restore_next.new.disk) c.in_ok-restore_next.ensures.exact;
       calls = omega (arith, c.loop-i.invariant.calls, c.in_ok-restore_next.ensures.calls, calls_more spaces i);
-      so_far = so_far_more c.loop-i.invariant.so_far (c.in_ok-restore_next.ensures.does first c.loop-i.invariant.so_far.at);
+      so_far = λ has.
+          let so_far = c.loop-i.invariant.so_far has in
+          let still = at_end (all_places copies spaces c.requires.apart i) so_far.moments.later has so_far.at in
+          so_far_more so_far (c.in_ok-restore_next.ensures.does still first so_far.at);
       size = c.in_ok-restore_next.ensures.size;
       faults = c.in_ok-restore_next.ensures.no_fault ∙ c.loop-i.invariant.faults;
       memory = c.in_ok-restore_next.ensures.no_refusal ∙ c.loop-i.invariant.memory;
@@ -65,9 +72,9 @@ loop-i-preserved g c =
     }
 
 pub returns-clause-does : goal.returns-clause-does
-returns-clause-does g c =
+returns-clause-does g c = λ has.
     let all : c.loop-i.i ≡ length c.args.spaces.now = omega (arith, c.loop-i.auto.i-end, c.loop-i-test.false) in
-    so_far_done (all_done c.args.copies.now c.args.spaces.now c.requires.apart c.loop-i.i all (g.D.Disk.past c.args.disk.now)) c.loop-i.invariant.so_far
+    so_far_done (all_done c.args.copies.now c.args.spaces.now c.requires.apart c.loop-i.i all (g.D.Disk.past c.args.disk.now)) (c.loop-i.invariant.so_far has)
 
 pub returns-clause-exact : goal.returns-clause-exact
 returns-clause-exact g c =

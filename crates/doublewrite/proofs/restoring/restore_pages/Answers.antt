@@ -2,12 +2,11 @@ use Rattle.std.proofs.Common.{◌≡◌, ◌++◌, ◌∙◌, Ok, Some, List, tr
 use Rattle.disk_model.specs.Event.{Event}
 use Rattle.disk_model.proofs.Moments.{at_each}
 use Rattle.disk_model.proofs.Layers.{does_err, so_far_none, so_far_more, so_far_then, so_far_done}
-use Rattle.places.proofs.Batches.{at_end}
 use Rattle.places.specs.Batches.{From}
-use Rattle.doublewrite.specs.Restore.{PagesFilled}
+use Rattle.doublewrite.specs.Restore.{PagesFilled, PagesStay}
 use Rattle.doublewrite.specs.Events.{page_writes, is_any}
-use Rattle.doublewrite.proofs.EventSteps.{at_error, pages_none, next_page, next_part, next_told}
-use Rattle.doublewrite.proofs.RestoreSteps.{pages_begin, pages_now}
+use Rattle.doublewrite.proofs.EventSteps.{at_error, at_behind, pages_none, next_page, next_part, next_told}
+use Rattle.doublewrite.proofs.RestoreSteps.{pages_begin, pages_now, stays_begin}
 use Rattle.doublewrite.proofs.restoring.restore_pages.Goals as goal
 use Rattle.doublewrite.proofs.restoring.restore_pages.Goals.{then-branch, else-branch}
 
@@ -17,7 +16,9 @@ loop-number-init g c =
     let info = c.args.info.now in
     let first = g.D.Disk.past c.args.disk.now in
     record {
-      so_far = so_far_none (pages_now copies info 0 (omega arith) first) (pages_begin copies info first c.requires.places);
+      so_far = λ has. so_far_none (pages_now copies info 0 (omega arith) first) (pages_begin copies info first has);
+      stays = stays_begin info first c.requires.places;
+      untold = λ none. none;
       exact = record { here = λ s is. is ∙ ap (λ (l : List Event). Some (l ++ s)) (sym (pages_none copies info.space s)) };
       told = record { here = λ s is. sym (ap is_any (pages_none copies info.space s)) };
       calls = omega arith;
@@ -29,20 +30,20 @@ loop-number-init g c =
     }
 
 pub restore_page-requires-clause-places : goal.restore_page-requires-clause-places
-restore_page-requires-clause-places g c =
-    at_end (λ s m u w. w.filling.places) c.loop-number.invariant.so_far.moments.later c.requires.places c.loop-number.invariant.so_far.at
+restore_page-requires-clause-places g c = at_behind (λ s m (w : PagesStay c.args.info.now c.loop-number.number s m). w.file) c.loop-number.invariant.untold c.loop-number.invariant.stays
 
 pub returns-in_err-restore_page-clause-does : goal.returns-in_err-restore_page-clause-does
-returns-in_err-restore_page-clause-does g c =
+returns-in_err-restore_page-clause-does g c = λ has.
     let first = g.D.Disk.past c.args.disk.now in
-    does_err _ _ c.from_residual.ensures.1 (so_far_then c.loop-number.invariant.so_far (c.in_err-restore_page.ensures.does first c.loop-number.invariant.so_far.at))
+    let so_far = c.loop-number.invariant.so_far has in
+    does_err _ _ c.from_residual.ensures.1 (so_far_then so_far (c.in_err-restore_page.ensures.does first so_far.at))
 
 pub returns-in_err-restore_page-clause-part : goal.returns-in_err-restore_page-clause-part
 returns-in_err-restore_page-clause-part g c =
     let first = g.D.Disk.past c.args.disk.now in
     let info = c.args.info.now in
     at_error c.from_residual.result
-    (next_part c.args.copies.now info c.loop-number.number first (g.D.Disk.past c.loop-number.disk) c.loop-number.invariant.exact c.loop-number.invariant.so_far.at (g.D.Disk.past c.restore_page.new.disk) info.pages
+    (next_part c.args.copies.now info c.loop-number.number first (g.D.Disk.past c.loop-number.disk) c.loop-number.invariant.exact c.loop-number.invariant.stays (g.D.Disk.past c.restore_page.new.disk) info.pages
     (omega (arith, c.loop-number-test.true)) c.in_err-restore_page.ensures.part)
 
 pub loop-number-preserved : goal.loop-number-preserved
@@ -53,15 +54,17 @@ loop-number-preserved g c =
     let k = c.loop-number.number in
     let mid = g.D.Disk.past c.loop-number.disk in
     let before = c.loop-number.is_written in
-    let told = next_told copies info k first mid c.loop-number.invariant.exact c.loop-number.invariant.so_far.at in
+    let told = next_told copies info k first mid c.loop-number.invariant.exact c.loop-number.invariant.stays in
     record {
-      exact = next_page copies info k first mid c.loop-number.invariant.exact c.loop-number.invariant.so_far.at (g.D.Disk.past c.restore_page.new.disk) c.in_ok-restore_page.ensures.exact;
+      exact = next_page copies info k first mid c.loop-number.invariant.exact c.loop-number.invariant.stays (g.D.Disk.past c.restore_page.new.disk) c.in_ok-restore_page.ensures.exact;
       told = elim c.if-branch.branch [
         | then-branch w ↦ told _ before _ (w.is_written-is ∙ ap (λ b. if b then true else before) (sym w.if-branch.true)) c.loop-number.invariant.told c.in_ok-restore_page.ensures.told
         | else-branch w ↦ told _ before _ (w.is_written-is ∙ ap (λ b. if b then true else before) (sym w.if-branch.false)) c.loop-number.invariant.told c.in_ok-restore_page.ensures.told
       ];
       calls = omega (arith, c.loop-number.invariant.calls, c.in_ok-restore_page.ensures.calls);
-      so_far = so_far_more c.loop-number.invariant.so_far (c.in_ok-restore_page.ensures.does first c.loop-number.invariant.so_far.at);
+      so_far = λ has. let so_far = c.loop-number.invariant.so_far has in so_far_more so_far (c.in_ok-restore_page.ensures.does first so_far.at);
+      stays = c.in_ok-restore_page.ensures.stays first c.loop-number.invariant.stays;
+      untold = λ none. c.in_ok-restore_page.ensures.untold (c.loop-number.invariant.untold none);
       clean = λ is. elim c.if-branch.branch [
         | then-branch w ↦ absurd (true≢false (sym w.is_written-is ∙ is))
         | else-branch w ↦ c.in_ok-restore_page.ensures.same (ap Ok w.if-branch.false) ∙ c.loop-number.invariant.clean (sym w.is_written-is ∙ is)
@@ -73,11 +76,11 @@ loop-number-preserved g c =
     }
 
 pub returns-clause-does : goal.returns-clause-does
-returns-clause-does g c =
+returns-clause-does g c = λ has.
     let copies = c.args.copies.now in
     let info = c.args.info.now in
     let all : c.loop-number.number ≡ info.pages = omega (arith, c.loop-number.auto.number-end, c.loop-number-test.false) in
-    so_far_done (λ es r. subst (λ n. From (PagesFilled copies info n) (g.D.Disk.past c.args.disk.now) es) all r) c.loop-number.invariant.so_far
+    so_far_done (λ es r. subst (λ n. From (PagesFilled copies info n) (g.D.Disk.past c.args.disk.now) es) all r) (c.loop-number.invariant.so_far has)
 
 pub returns-clause-exact : goal.returns-clause-exact
 returns-clause-exact g c =

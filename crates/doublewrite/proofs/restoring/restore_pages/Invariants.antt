@@ -1,14 +1,16 @@
-use Rattle.std.proofs.Common.{◌≡◌, ◌+◌, ◌*◌, ◌≤◌, ◌++◌, Some, length, false}
+use Rattle.std.proofs.Common.{◌≡◌, ◌+◌, ◌*◌, ◌≤◌, ◌++◌, Some, None, length, false}
 use Rattle.disk_model.specs.Past.{At}
 use Rattle.disk_model.specs.Does.{SoFar}
 use Rattle.places.specs.Batches.{From}
 use Rattle.doublewrite.specs.Events.{page_writes, is_any}
-use Rattle.doublewrite.specs.Restore.{IsSpaceEvent, PagesFilling, PagesFilled}
+use Rattle.doublewrite.specs.Restore.{HasPages, IsSpaceEvent, PagesFilling, PagesFilled, PagesStay}
 use Rattle.doublewrite.proofs.restoring.restore_pages.Given as goal
 
 abbrev pub invariant-loop-number : goal.invariant-loop-number
 invariant-loop-number g l = record {
-  so_far : SoFar (From (PagesFilling l.copies l.info) (g.D.Disk.past l.fn.disk)) (IsSpaceEvent l.info) (From (PagesFilled l.copies l.info l.number) (g.D.Disk.past l.fn.disk)) (g.D.Disk.past l.fn.disk) (g.D.Disk.past l.disk);
+  so_far : At (HasPages l.info) (g.D.Disk.past l.fn.disk) → SoFar (From (PagesFilling l.copies l.info) (g.D.Disk.past l.fn.disk)) (IsSpaceEvent l.info) (From (PagesFilled l.copies l.info l.number) (g.D.Disk.past l.fn.disk)) (g.D.Disk.past l.fn.disk) (g.D.Disk.past l.disk);
+  stays : At (From (PagesStay l.info l.number) (g.D.Disk.past l.fn.disk)) (g.D.Disk.past l.disk);
+  untold : g.D.Disk.past l.fn.disk ≡ None → g.D.Disk.past l.disk ≡ None;
   exact : At (λ s. g.D.Disk.past l.disk ≡ Some (page_writes l.copies s l.info.space l.number ++ s)) (g.D.Disk.past l.fn.disk);
   told : At (λ s. l.is_written ≡ is_any (page_writes l.copies s l.info.space l.number)) (g.D.Disk.past l.fn.disk);
   calls : g.D.Disk.clock l.disk ≤ g.D.Disk.clock l.fn.disk + l.number * 2;

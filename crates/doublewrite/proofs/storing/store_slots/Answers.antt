@@ -8,7 +8,9 @@ use Rattle.doublewrite.specs.Batch.{slot_batch}
 use Rattle.doublewrite.proofs.storing.store_slots.Goals as goal
 
 pub returns-clause-does : goal.returns-clause-does
-returns-clause-does g c = does_then c.in_ok-write_slots.ensures.does (c.sync_slots.ensures.does (g.D.Disk.past c.args.disk.now) c.in_ok-write_slots.ensures.does.next)
+returns-clause-does g c = λ has.
+    let written = c.in_ok-write_slots.ensures.does has in
+    does_then written (c.sync_slots.ensures.does (g.D.Disk.past c.args.disk.now) written.next)
 
 pub returns-in_err-write_slots-clause-part : goal.returns-in_err-write_slots-clause-part
 returns-in_err-write_slots-clause-part g c =

@@ -1,7 +1,6 @@
 use Rattle.std.proofs.Common.{◌≡◌, length, subst, arith, refl, ◌∙◌, sym, ap}
 use Rattle.disk_model.proofs.Layers.{does_err, so_far_none, so_far_more, so_far_then, so_far_done}
 use Rattle.disk_model.specs.declared.names.FileName.TheVariants.{Double}
-use Rattle.places.proofs.Batches.{at_end}
 use Rattle.places.proofs.WriteLemmas.{grows_none, write_more, write_failed}
 use Rattle.places.specs.Batches.{From}
 use Rattle.places.specs.Writes.{writes_of, grows}
@@ -15,7 +14,8 @@ loop-i-init g c =
     let batch = c.args.batch.now in
     let first = g.D.Disk.past c.args.disk.now in
     record {
-      so_far = so_far_none (slots_now batch 0 (omega arith) first) (slots_begin batch first c.requires.places);
+      so_far = λ has. so_far_none (slots_now batch 0 (omega arith) first) (slots_begin batch first has);
+      places = c.requires.places;
       size = c.requires.size;
       exact = sym (grows_none first);
       calls = omega arith;
@@ -24,13 +24,11 @@ loop-i-init g c =
       later = g.met.D.Disk.is_later_reflexive c.args.disk.now;
     }
 
-pub write_slot-requires-clause-places : goal.write_slot-requires-clause-places
-write_slot-requires-clause-places g c = at_end (λ s m u w. w.writing.places) c.loop-i.invariant.so_far.moments.later c.requires.places c.loop-i.invariant.so_far.at
-
 pub returns-in_err-write_slot-clause-does : goal.returns-in_err-write_slot-clause-does
-returns-in_err-write_slot-clause-does g c =
+returns-in_err-write_slot-clause-does g c = λ has.
     let first = g.D.Disk.past c.args.disk.now in
-    does_err _ _ c.from_residual.ensures.1 (so_far_then c.loop-i.invariant.so_far (c.in_err-write_slot.ensures.does first c.loop-i.invariant.so_far.at))
+    let so_far = c.loop-i.invariant.so_far has in
+    does_err _ _ c.from_residual.ensures.1 (so_far_then so_far (c.in_err-write_slot.ensures.does first so_far.at))
 
 pub returns-in_err-write_slot-clause-part : goal.returns-in_err-write_slot-clause-part
 returns-in_err-write_slot-clause-part g c =
@@ -43,7 +41,8 @@ loop-i-preserved g c =
     let first = g.D.Disk.past c.args.disk.now in
     let batch = c.args.batch.now in
     record {
-      so_far = so_far_more c.loop-i.invariant.so_far (c.in_ok-write_slot.ensures.does first c.loop-i.invariant.so_far.at);
+      so_far = λ has. let so_far = c.loop-i.invariant.so_far has in so_far_more so_far (c.in_ok-write_slot.ensures.does first so_far.at);
+      places = c.in_ok-write_slot.ensures.places;
       size = c.in_ok-write_slot.ensures.size;
       exact = write_more Double 16896 (slot_batch batch) c.loop-i.i first (g.D.Disk.past c.loop-i.disk) (g.D.Disk.past c.write_slot.new.disk) c.loop-i.invariant.exact c.in_ok-write_slot.ensures.ok;
       calls = omega (arith, c.loop-i.invariant.calls, c.in_ok-write_slot.ensures.calls);
@@ -53,10 +52,10 @@ loop-i-preserved g c =
     }
 
 pub returns-clause-does : goal.returns-clause-does
-returns-clause-does g c =
+returns-clause-does g c = λ has.
     let batch = c.args.batch.now in
     let all : c.loop-i.i ≡ length batch.pages = omega (arith, c.loop-i.auto.i-end, c.loop-i-test.false, c.len-i-end.ensures) in
-    so_far_done (λ es r. subst (λ n. From (SlotsWrote batch n) (g.D.Disk.past c.args.disk.now) es) all r) c.loop-i.invariant.so_far
+    so_far_done (λ es r. subst (λ n. From (SlotsWrote batch n) (g.D.Disk.past c.args.disk.now) es) all r) (c.loop-i.invariant.so_far has)
 
 pub returns-clause-exact : goal.returns-clause-exact
 returns-clause-exact g c =
