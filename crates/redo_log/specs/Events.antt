@@ -51,6 +51,10 @@ CheckSettled blocks sequence from s m = BatchSettled LogFile (file_layout blocks
 abbrev pub IsCheckEvent : ℕ → ℕ → Event → Type 0
 IsCheckEvent sequence from e = IsOf LogFile block_bytes (side_batch sequence from) 1 e
 
+-- a moment of which nothing is said
+abbrev pub IsAny : List Event → Type 0
+IsAny m = Unit {0}
+
 -- the write itself
 abbrev pub check_event : ℕ → ℕ → Event
 check_event sequence from = Write LogFile ((1 + sequence % 2) * block_bytes) (check_bytes sequence from) (check_bytes sequence from)

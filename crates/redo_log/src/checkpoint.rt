@@ -6,7 +6,7 @@ ghost use Rattle.disk_model.specs.Past.{Past, At, Throughout, MayGrow, IsWrite, 
 ghost use Rattle.disk_model.specs.declared.names.FileName.TheVariants.{Log as LogFile};
 ghost use Rattle.key_ring.specs.Ring.{RingEntry};
 ghost use Rattle.places.specs.Batches.{From};
-ghost use Rattle.places.specs.Places.{HasPlaces};
+ghost use Rattle.places.specs.Places.{HasFile, HasPlaces};
 ghost use Rattle.ring_log.specs.Batches.{checking};
 ghost use Rattle.ring_log.specs.Ring.{RingState, Ringed, RingReady, IsBound, IsRingJournal, AllRingStand};
 ghost use Rattle.ring_log.specs.Opening.{IsFound};
@@ -17,7 +17,7 @@ ghost use Rattle.redo_text.specs.declared.change.Change.{Change};
 ghost use Rattle.redo_log.specs.Blocks.{Keys, redo_form, file_layout};
 ghost use Rattle.redo_log.specs.Check.{check_bytes};
 ghost use Rattle.places.specs.Writes.{IsPart};
-ghost use Rattle.redo_log.specs.Events.{side_batch, CheckWriting, CheckWrote, CheckSettled, IsCheckEvent, check_event};
+ghost use Rattle.redo_log.specs.Events.{side_batch, IsAny, CheckWriting, CheckWrote, CheckSettled, IsCheckEvent, check_event};
 ghost use Rattle.redo_log.specs.Fresh.{fresh_ring, IsFresh};
 ghost use Rattle.redo_log.specs.Opening.{HasHeaderBlock, IsOpening, IsOpenedLog};
 ghost use Rattle.redo_log.specs.Log.{IsOpen, durable, checked, with_checkpoint, FitsRing};
@@ -38,8 +38,9 @@ fn write_check<D: Disk>(
     requires some { 1 ≤ sequence }
     requires order { sequence < from }
     requires most { from ≤ 2 ^ 50 }
-    requires places { At (HasPlaces LogFile (file_layout blocks)) (D.past disk.old) }
-    ensures does { Does (From (CheckWriting blocks sequence from) (D.past disk.old)) (IsCheckEvent sequence from) (From (CheckWrote blocks sequence from 1) (D.past disk.old)) (D.past disk.old) (D.past disk.new) result }
+    requires places { At (HasFile LogFile (file_layout blocks)) (D.past disk.old) }
+    ensures does { At (HasPlaces LogFile (file_layout blocks)) (D.past disk.old) → Does (From (CheckWriting blocks sequence from) (D.past disk.old)) (IsCheckEvent sequence from) (From (CheckWrote blocks sequence from 1) (D.past disk.old)) (D.past disk.old) (D.past disk.new) result }
+    ensures adds { Does IsAny (IsCheckEvent sequence from) IsAny (D.past disk.old) (D.past disk.new) result }
     ensures ok { OnOk result (D.past disk.new ≡ grow (check_event sequence from) (D.past disk.old)) }
     ensures err { OnErr result (MayGrow (IsWrite LogFile ((1 + sequence % 2) * block_bytes) (check_bytes sequence from)) (D.past disk.old) (D.past disk.new)) }
     ensures later { D.is_later disk.old disk.new }
@@ -66,8 +67,8 @@ fn settle_check<D: Disk>(
     requires some { 1 ≤ sequence }
     requires order { sequence < from }
     requires most { from ≤ 2 ^ 50 }
-    requires places { At (HasPlaces LogFile (file_layout blocks)) (D.past disk.old) }
-    ensures does { Does (From (CheckWriting blocks sequence from) (D.past disk.old)) (IsCheckEvent sequence from) (From (CheckSettled blocks sequence from) (D.past disk.old)) (D.past disk.old) (D.past disk.new) result }
+    requires places { At (HasFile LogFile (file_layout blocks)) (D.past disk.old) }
+    ensures does { At (HasPlaces LogFile (file_layout blocks)) (D.past disk.old) → Does (From (CheckWriting blocks sequence from) (D.past disk.old)) (IsCheckEvent sequence from) (From (CheckSettled blocks sequence from) (D.past disk.old)) (D.past disk.old) (D.past disk.new) result }
     ensures exact { OnOk result (D.past disk.new ≡ grow (Sync LogFile) (grow (check_event sequence from) (D.past disk.old))) }
     ensures part { OnErr result (IsPart LogFile block_bytes (side_batch sequence from) 1 (D.past disk.old) (D.past disk.new)) }
     ensures items { Throughout (From KeepsItems (D.past disk.old)) (D.past disk.old) (D.past disk.new) }
@@ -125,14 +126,14 @@ pub fn write_opening_checkpoint<D: Disk>(
     requires most { blocks ≤ 4096 }
     requires order { sequence < end }
     requires high { end + blocks ≤ 2 ^ 50 }
-    requires places { At (HasPlaces LogFile (file_layout blocks)) (D.past disk.old) }
+    requires places { At (HasFile LogFile (file_layout blocks)) (D.past disk.old) }
     // Each lucky image of each moment has its length, its header, and the log that was found or the one behind it, and at Ok a session may begin there.
     ensures opens { (keys : Keys) (found : LogView (List Change)) (header : List ℕ) → found.end ≡ end → At (IsFound blocks (redo_form keys) sequence found) (D.past disk.old) → At (HasHeaderBlock header) (D.past disk.old) → Does (IsOpening blocks (redo_form keys) header found) (IsCheckEvent (sequence + 1) (end + blocks)) (IsOpenedLog blocks (redo_form keys) sequence header found) (D.past disk.old) (D.past disk.new) result }
     ensures exact { OnOk result (D.past disk.new ≡ grow (Sync LogFile) (grow (check_event (sequence + 1) (end + blocks)) (D.past disk.old))) }
     ensures part { OnErr result (IsPart LogFile block_bytes (side_batch (sequence + 1) (end + blocks)) 1 (D.past disk.old) (D.past disk.new)) }
     // Nothing of the record's page texts and ring blocks is changed by it.
     ensures items { Throughout (From KeepsItems (D.past disk.old)) (D.past disk.old) (D.past disk.new) }
-    ensures places { At (HasPlaces LogFile (file_layout blocks)) (D.past disk.new) }
+    ensures places { At (HasPlaces LogFile (file_layout blocks)) (D.past disk.old) → At (HasPlaces LogFile (file_layout blocks)) (D.past disk.new) }
     ensures later { D.is_later disk.old disk.new }
     ensures calls { D.clock disk.new ≤ D.clock disk.old + 2 }
     ensures cause { HasDiskCause (D.faults disk.old) (D.faults disk.new) result }
