@@ -20,7 +20,7 @@ use Rattle.store_model.specs.declared.contents.SpaceContents.{SpaceContents}
 use Rattle.crash_image.specs.Rest.{IsAtRest}
 use Rattle.store_form.specs.Contents.{IsReadOfPage}
 use Rattle.store_form.specs.PageRead.{IsHomeOpened, TakesTexts}
-use Rattle.store_form.specs.Rest.{HaveHomes, ReadsAtRest, place_in, salt_in}
+use Rattle.store_form.specs.Rest.{HaveHomes, ReadsAtRest, head_in_mode, place_in, salt_in}
 use Rattle.store_form.specs.declared.fault.RestFault.{RestFault}
 use Rattle.store_form.proofs.RestLaws.{space_found, space_reads, page_inside}
 use Rattle.store_form.proofs.RestPages.{HomeTells, rest_by, home_tells, salt_told, gives}
@@ -39,8 +39,8 @@ module _ (header : HeldHeader) (keys : List RingEntry) (ss : List SpaceInfo) (os
       let x : SpaceInfo = slice_index_or ss (place_in ss s) d in
       let read = space_reads ss os es (place_in ss s) d rest.spaces_read found.there found.listed in
       let long = long_place s 0 es (page_inside x _ es s 0 read (found.space d) (found.pages d)) in
-      let head : head_of (shown (Space s) page_bytes 0 es) ≡ Ok (head_of_space x) = ap (λ (n : ℕ). head_of (shown (Space n) page_bytes 0 es)) (sym (found.space d)) ∙ read.head in
-      salt_told header keys c s x (shown (Space s) page_bytes 0 es) long (home_tells es keys c header by s 0 first) head ∙ found.salt d
+      let head : head_of (shown (Space s) page_bytes 0 es) ≡ Ok (head_in_mode read.head.0 x) = ap (λ (n : ℕ). head_of (shown (Space n) page_bytes 0 es)) (sym (found.space d)) ∙ read.head.1 in
+      salt_told header keys c s x read.head.0 (shown (Space s) page_bytes 0 es) long (home_tells es keys c header by s 0 first) head ∙ found.salt d
 
   pub page_given : (c : List SpaceContents) (n : ℕ) → IsAtRest es keys c n → (bytes left : List ℕ) (result : Result Home RestFault) → length bytes ≡ 16384 → bytes ≡ shown (Space s) page_bytes p es
       → IsHomeOpened s p (key_id_of header.spaces s) (key_at header keys (salt_in ss) s (be32_at bytes 0)) bytes left result → TakesTexts s p (key_at header keys (salt_in ss) s (be32_at bytes 0)) bytes left result

@@ -31,6 +31,7 @@ use Rattle.crash_image.specs.Rest.{IsAtRest, read_image}
 use Rattle.crash_image.specs.StoreTheory.{store_theory}
 use Rattle.store_form.specs.Contents.{IsReadOfPage}
 use Rattle.store_form.specs.PageRead.{IsHomeOpened, IsTextOpened, TakesTexts}
+use Rattle.store_form.specs.Rest.{head_in_mode}
 use Rattle.store_form.specs.declared.fault.RestFault.{RestFault}
 use Rattle.store_form.proofs.FirstPages.{head_read}
 use Rattle.page_places.proofs.Texts.{bytes_zero}
@@ -112,9 +113,9 @@ head_salt (x ∷ xs) s info is = by (nat_eq x.info.space s) refl (head_salt xs s
 one_read : (h g : SpaceHead) → ◌≡◌ {A = Result SpaceHead HeadFault} (Ok h) (Ok g) → h ≡ g
 one_read h g e = cc
 
-same_salt : (a b : SpaceInfo) → ◌≡◌ {A = Result SpaceHead HeadFault} (Ok (head_of_space a)) (Ok (head_of_space b)) → a.salt ≡ b.salt
-same_salt a b e =
-    let crypts : record { ciphered = a.ciphered; salt = a.salt; minimum = a.floor; key_id = a.key_id; mode = if a.ciphered then 1 else 2 } ≡ record { ciphered = b.ciphered; salt = b.salt; minimum = b.floor; key_id = b.key_id; mode = if b.ciphered then 1 else 2 } =
+same_salt : (a b : SpaceInfo) (mode : ℕ) → ◌≡◌ {A = Result SpaceHead HeadFault} (Ok (head_of_space a)) (Ok (head_in_mode mode b)) → a.salt ≡ b.salt
+same_salt a b mode e =
+    let crypts : record { ciphered = a.ciphered; salt = a.salt; minimum = a.floor; key_id = a.key_id; mode = if a.ciphered then 1 else 2 } ≡ record { ciphered = b.ciphered; salt = b.salt; minimum = b.floor; key_id = b.key_id; mode = mode } =
     same_Some _ _ (ap (λ (h : SpaceHead). h.crypt) (one_read _ _ e)) in
     ap (λ (r : CryptRecord). r.salt) crypts
 
@@ -136,11 +137,11 @@ head_told header keys salts c s bytes Unused long means = elim means [ ]
 head_told header keys salts c s bytes (Used page) long means = absurd (means.0 refl)
 
 -- the salt that a store tells of a space is that of its contents
-pub salt_told : (header : HeldHeader) (keys : List RingEntry) (c : List SpaceContents) (s : ℕ) (told : SpaceInfo) (bytes : List ℕ) → length bytes ≡ 16384 → HomeTells header keys (salts_of c) (pages_of c) s 0 bytes → head_of bytes ≡ Ok (head_of_space told) → salts_of c s ≡ told.salt
-salt_told header keys c s told bytes long (Blank unused isnt is) read = absurd (isnt refl)
-salt_told header keys c s told bytes long (Means means) read =
+pub salt_told : (header : HeldHeader) (keys : List RingEntry) (c : List SpaceContents) (s : ℕ) (told : SpaceInfo) (mode : ℕ) (bytes : List ℕ) → length bytes ≡ 16384 → HomeTells header keys (salts_of c) (pages_of c) s 0 bytes → head_of bytes ≡ Ok (head_in_mode mode told) → salts_of c s ≡ told.salt
+salt_told header keys c s told mode bytes long (Blank unused isnt is) read = absurd (isnt refl)
+salt_told header keys c s told mode bytes long (Means means) read =
     let head = head_told header keys (salts_of c) (pages_of c) s bytes (pages_of c s 0) long means in
-    head_salt c s head.0 head.1 ∙ same_salt head.0 told (sym head.2 ∙ read)
+    head_salt c s head.0 head.1 ∙ same_salt head.0 told mode (sym head.2 ∙ read)
 
 -- ---- what reading gives
 

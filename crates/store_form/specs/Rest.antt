@@ -10,12 +10,12 @@ use Rattle.disk_model.specs.declared.names.FileName.TheVariants.{Log, Double, Sp
 use Rattle.places.specs.Places.{place}
 use Rattle.page_places.specs.Texts.{page_bytes, are_zero}
 use Rattle.space_head.specs.Head.{head_of}
+use Rattle.space_head.specs.declared.head.SpaceHead.{SpaceHead}
 use Rattle.space_head.specs.declared.space.SpaceInfo.{SpaceInfo}
 use Rattle.space_head.specs.declared.space.Home.{Home}
 use Rattle.space_head.specs.declared.space.Home.TheVariants.{Unused, Clean, Dirty}
 use Rattle.store_files.specs.Header.{HeldHeader, HeldSpace, header_in, are_allowed}
 use Rattle.store_files.specs.Checkpoint.{IsNewestCheckpoint}
-use Rattle.store_files.specs.Pages.{head_of_space}
 
 -- no page that was changed since it was written
 abbrev pub AreNoneDirty : List Home → Type 0
@@ -43,11 +43,20 @@ pub record IsRestForm (header : HeldHeader) (spaces : List SpaceInfo) (homes : L
 abbrev pub home_told : List ℕ → Home
 home_told bytes = if are_zero bytes then Unused else Clean (be32_at bytes 0)
 
+-- what page 0 says of a space, where its record has this mode
+abbrev pub head_in_mode : ℕ → SpaceInfo → SpaceHead
+head_in_mode mode info = record {
+  space = info.space;
+  pages = info.pages;
+  flags = 21;
+  crypt = Some (record { ciphered = info.ciphered; salt = info.salt; minimum = info.floor; key_id = info.key_id; mode = mode });
+}
+
 -- the file of a space is there and has its pages, page 0 says what is told of it, and each home tells what is told
 pub record SpaceReads (info : SpaceInfo) (homes : List Home) (es : List Event) : Type 0 where
   pub there : is_there (Space info.space) es ≡ true
   pub long : length (reads (Space info.space) es) ≡ info.pages * page_bytes
-  pub head : head_of (place page_bytes 0 (reads (Space info.space) es)) ≡ Ok (head_of_space info)
+  pub head : (mode : ℕ) × (head_of (place page_bytes 0 (reads (Space info.space) es)) ≡ Ok (head_in_mode mode info))
   pub told : (p : ℕ) → p < info.pages → slice_index_or homes p Unused ≡ home_told (place page_bytes p (reads (Space info.space) es))
 
 abbrev pub SpacesRead : List SpaceInfo → List (List Home) → List Event → Type 0
