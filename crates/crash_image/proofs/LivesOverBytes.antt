@@ -31,7 +31,7 @@ use Rattle.crash_image.specs.LogForm.{log_places}
 use Rattle.crash_image.specs.Rest.{read_image, HasNonePending, IsAtRest}
 use Rattle.crash_image.specs.Stands.{Lucky, place_test}
 use Rattle.crash_image.specs.Writes.{written_items, Once, Settled}
-use Rattle.crash_image.proofs.StandsBy.{Reading}
+use Rattle.crash_image.specs.Reading.{Reading}
 
 module _ (header : HeldHeader) (keys : List RingEntry) (salts : ℕ → List ℕ) (may_log : LogView (List Change) → Type 0) (es : List Event) where
   abbrev theory : Theory

@@ -1,5 +1,5 @@
 -- A crash of a disk in memory is lucky, where each file was written in whole places.
-use Rattle.std.proofs.Common.{ℕ, ◌+◌, List, length, refl}
+use Rattle.std.proofs.Common.{ℕ, List, length, refl}
 use Rattle.disk_model.specs.Event.{Event}
 use Rattle.disk_model.specs.Crash.{crash_image, unsynced_writes, synced_bytes}
 use Rattle.disk_model.specs.Lucky.{AreRefusable}
@@ -7,7 +7,7 @@ use Rattle.disk_model.specs.declared.calls.Choice.{Choice}
 use Rattle.disk_model.specs.declared.names.FileName.{FileName}
 use Rattle.disk_model.specs.declared.names.FileName.TheVariants.{Log, Double, Space}
 use Rattle.disk_model.proofs.Lucky.{crash_is_lucky}
-use Rattle.places.specs.Places.{Layout, AreWhole}
+use Rattle.places.specs.Places.{AreWhole}
 use Rattle.places.proofs.Refusable.{refusable}
 use Rattle.page_places.specs.Texts.{ends_in_sum, slots, pages}
 use Rattle.crash_image.specs.LogForm.{log_places}

@@ -3,10 +3,7 @@ use Rattle.std.proofs.Common.{◌≡◌, ℕ, ◌+◌, ◌*◌, ◌≤◌, true,
 use Rattle.std.specs.Prelude.{Contains}
 use Rattle.disk_model.specs.Image.{Image}
 use Rattle.disk_model.specs.Marks.{acked, minimum_of}
-use Rattle.disk_model.specs.declared.names.FileName.TheVariants.{Log, Space}
 use Rattle.key_ring.specs.Ring.{RingEntry}
-use Rattle.places.specs.Places.{place}
-use Rattle.page_places.specs.Placed.{IsPlaced}
 use Rattle.page_places.specs.Views.{view}
 use Rattle.store_image.specs.Places.{LogView}
 use Rattle.store_image.specs.Recovers as pages
@@ -16,10 +13,9 @@ use Rattle.redo_text.specs.declared.change.Change.{Change}
 use Rattle.store_model.specs.declared.contents.SpaceContents.{SpaceContents}
 use Rattle.store_files.specs.Header.{HeldHeader}
 use Rattle.store_files.specs.Pages.{Page, has_page, pages_of, salts_of, HaveSpaces}
-use Rattle.store_files.specs.Run.{IsLogOf, IsClear}
 use Rattle.store_files.proofs.Folds.{pages_after, spaces_after, spaces_folded, salts_folded}
 use Rattle.crash_image.specs.StoreTheory.{store_theory}
-use Rattle.crash_image.specs.Recovers.{HasHeader, AreLong, RunIsOfStore}
+use Rattle.crash_image.specs.Reading.{Reading}
 use Rattle.crash_image.specs.Stands.{Named, Stands, entries_to, mtrs_of}
 
 -- ---- contents that are equal on the store's pages
@@ -63,18 +59,8 @@ module _ (header : HeldHeader) (keys : List RingEntry) (salts : ℕ → List ℕ
       ∙ folded es (fold (e.mtr ∷ []) base) (spaces_after e.mtr header.spaces base have) (pages_of (fold (e.mtr ∷ []) base)) (λ r q is. refl) s p there
 
 module _ (image : Image) (keys : List RingEntry) (header : HeldHeader) (log : LogView (List Change)) where
-  -- what the files say beside the pages
-  pub record Reading (spaces_of : List SpaceContents) : Type 0 where
-    pub is_header : HasHeader image header
-    pub long : AreLong image header
-    pub run : IsLogOf header keys (image.bytes Log) log
-    pub of_store : RunIsOfStore header.spaces log.run
-    pub placed : (s p : ℕ) → has_page header.spaces s p ≡ true → IsPlaced p (place 16384 p (image.bytes (Space s)))
-    pub spaces : HaveSpaces header.spaces spaces_of
-    pub clear : IsClear header.blocks (image.bytes Log) (log.end + header.blocks)
-
   -- An image whose view stands for a beginning of a journal, as the theory says it, stands for it.
-  pub stands_by : (base : List SpaceContents) (journal : List (Logged (List Change))) (named : List (ℕ × ℕ)) (active last : ℕ) → last + 1 ≡ log.end → Reading base
+  pub stands_by : (base : List SpaceContents) (journal : List (Logged (List Change))) (named : List (ℕ × ℕ)) (active last : ℕ) → last + 1 ≡ log.end → Reading image keys header log base
       → pages.ViewStands (store_theory header keys (salts_of base)) (pages_of base) journal (view log image)
       → ((id version : ℕ) → Named image header log active id version → Contains named (id, version)) → Stands base journal image keys named active
   stands_by base journal named active last ends reading stands keyed =

@@ -4,7 +4,7 @@ use Rattle.std.proofs.lemmas.Bool.Decides.{nat_tests}
 use Rattle.disk_model.specs.declared.names.FileName.TheVariants.{Log, Double, Space}
 use Rattle.page_places.specs.Texts.{is_page_text, text_in, slot_held}
 use Rattle.redo_text.specs.Reading.{number_of, block_version}
-use Rattle.store_image.specs.Record.{Item, PageText, RingBlock}
+use Rattle.store_image.specs.Record.{PageText, RingBlock}
 use Rattle.store_image.specs.View.{Slot}
 use Rattle.store_files.specs.RingBlock.{is_ring_block}
 use Rattle.crash_image.specs.Writes.{written_item, slot_item}

@@ -4,3 +4,5 @@ pub mod Stands
 pub mod Writes
 pub mod Rest
 pub mod LogForm
+pub mod Reading
+pub mod Opened

@@ -46,6 +46,11 @@ mtrs_of journal = map (λ e. e.mtr) journal
 abbrev pub Rotated : Image → List RingEntry → HeldHeader → LogView (List Change) → List SpaceContents → Type 0
 Rotated image keys header log c = ViewRotated (store_theory header keys (salts_of c)) (view log image) (pages_of c)
 
+-- the image recovers to these contents, and is rotated
+pub record RecoversRotated (image : Image) (keys : List RingEntry) (c : List SpaceContents) (last : ℕ) : Type 0 where
+  pub recovers : Recovers image keys c last
+  pub rotated : Rotated image keys recovers.header recovers.log c
+
 -- how many entries of the journal have an LSN of at most this
 abbrev pub entries_to : ℕ → List (Logged (List Change)) → ℕ
 entries_to lsn [] = 0
