@@ -4,5 +4,5 @@ pub mod LuckyCrashes
 pub mod LogForms
 pub mod LivesOverBytes
 pub mod WrittenItems
-pub mod PendingWrites
 pub mod OpeningsOverBytes
+pub mod OpeningFiles

@@ -7,9 +7,9 @@ use Rattle.disk_model.specs.declared.names.FileName.{FileName}
 use Rattle.disk_model.specs.declared.names.FileName.TheVariants.{Log, Double, Space}
 use Rattle.key_ring.specs.Ring.{RingEntry}
 use Rattle.disk_model.proofs.FilesLemmas.{same_file-≡, same_file-itself}
-use Rattle.places.specs.Places.{AreWhole, HasPlaces, Layout}
+use Rattle.places.specs.Places.{AreWhole, HasPlaces, HaveBytes, IsUnwritten, Layout}
 use Rattle.places.specs.Batches.{IsFileSettled}
-use Rattle.places.proofs.NonePending.{image_as_read, lost_all, settled_by_images}
+use Rattle.places.proofs.NonePending.{image_as_read, lost_all, settled_by_images, unwritten_by_images}
 use Rattle.page_places.specs.Texts.{slots, pages}
 use Rattle.page_places.specs.Views.{view, places_by}
 use Rattle.page_places.proofs.Views.{is_view}
@@ -89,6 +89,10 @@ module _ (es : List Event) (none : HasNonePending es) (f : FileName) where
 
   pub none_pending_places : (layout : Layout) → HasPlaces f layout es → IsFileSettled f layout.size es
   none_pending_places layout places = settled_by_images f layout es places as_read
+
+  -- and none of a file of which no empty write is pending was written since its last sync
+  pub none_written : HaveBytes f es → IsUnwritten f es
+  none_written some = unwritten_by_images f (reads f es) es some as_read
 
 -- A disk with nothing pending, whose view rests with these contents, is at rest with them.
 pub rests_by : (es : List Event) (keys : List RingEntry) (header : HeldHeader) (log : LogView (List Change)) (c : List SpaceContents) (last : ℕ) → last + 1 ≡ log.end → HasNonePending es → Reading (read_image es) keys header log c

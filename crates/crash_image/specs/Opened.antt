@@ -8,12 +8,12 @@ use Rattle.places.specs.Beside.{LeavesFile}
 use Rattle.places.specs.Places.{AreWhole}
 use Rattle.places.specs.Batches.{IsFileSettled}
 use Rattle.page_places.specs.Placed.{MayBePlaced}
-use Rattle.page_places.specs.Texts.{slots, pages}
+use Rattle.page_places.specs.Texts.{page_bytes, slot_size, slots, pages}
 use Rattle.page_places.specs.Views.{IsReadAs}
 use Rattle.store_image.specs.Opening.{IsVersionAllowed}
 use Rattle.store_image.specs.Places.{LogView, log_of}
 use Rattle.store_image.specs.Recovers.{Theory, ViewRecovers, ViewRotated}
-use Rattle.store_image.specs.View.{View}
+use Rattle.store_image.specs.View.{block_bytes, View}
 use Rattle.redo_text.specs.declared.change.Change.{Change}
 use Rattle.store_model.specs.declared.contents.SpaceContents.{SpaceContents}
 use Rattle.store_files.specs.Header.{HeldHeader}
@@ -44,7 +44,7 @@ log_after o = record { from = o.view.end + o.header.blocks; end = o.view.end + o
 pub record IsOpenedAt (o : StoreOpened) (last : ℕ) (es : List Event) : Type 0 where
   pub is_last : last + 1 ≡ o.view.end
   pub reads_as : IsReadAs (λ l. l ≡ log_of o.view) o.view es
-  pub log_settled : IsFileSettled Log 4096 es
+  pub log_settled : IsFileSettled Log block_bytes es
   pub log_whole : AreWhole Log (log_places o.header.blocks) es
   pub double_whole : AreWhole Double slots es
   pub spaces_whole : (z count : ℕ) → AreWhole (Space z) (pages count) es
@@ -66,11 +66,22 @@ pub record FilesOpened (o : StoreOpened) (s m : List Event) : Type 0 where
   pub files : FilesStand o s m
   pub log : Since (LeavesFile Log) s m
 
+-- nothing of the doublewrite file and of the spaces is pending
+pub record FilesSettled (m : List Event) : Type 0 where
+  pub double : IsFileSettled Double slot_size m
+  pub spaces : (z : ℕ) → IsFileSettled (Space z) page_bytes m
+
+-- what one space's file has behind some events
+pub record SpaceStands (o : StoreOpened) (z : ℕ) (t m : List Event) : Type 0 where
+  pub whole : (count : ℕ) → AreWhole (Space z) (pages count) m
+  pub long : length (reads (Space z) m) ≡ length (reads (Space z) t)
+  pub placed : (p : ℕ) → has_page o.header.spaces z p ≡ true → MayBePlaced z p m
+
 -- The log's file, as the opening leaves it: nothing of it is pending, and no block of its ring has a number from the next one on.
 pub record LogEnded (o : StoreOpened) (m : List Event) : Type 0 where
   pub is_header : HasHeader (read_image m) o.header
-  pub long : length (reads Log m) ≡ (3 + o.header.blocks) * 4096
+  pub long : length (reads Log m) ≡ (3 + o.header.blocks) * block_bytes
   pub run : IsLogOf o.header o.keys (reads Log m) (log_after o)
   pub clear : IsClear o.header.blocks (reads Log m) (o.view.end + o.header.blocks)
   pub whole : AreWhole Log (log_places o.header.blocks) m
-  pub settled : IsFileSettled Log 4096 m
+  pub settled : IsFileSettled Log block_bytes m

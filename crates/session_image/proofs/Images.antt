@@ -51,7 +51,8 @@ use Rattle.crash_image.specs.Writes.{Once, Settled, written_items}
 use Rattle.crash_image.proofs.LivesOverBytes.{written_once}
 use Rattle.crash_image.proofs.LogForms.{is_form, log_is, clear_is, valid_in}
 use Rattle.crash_image.proofs.RecoversOnce.{recovers_one}
-use Rattle.crash_image.proofs.StandsBy.{Reading, stands_by, recovers_same, folded}
+use Rattle.crash_image.specs.Reading.{Reading}
+use Rattle.crash_image.proofs.StandsBy.{stands_by, recovers_same, folded}
 use Rattle.session_image.specs.Kept.{SessionStore, page_count, named_keys, IsActiveNamed, session_theory, session_form, session_places, SessionMoment, SessionRecord, AllImagesStand, AllImagesSettled}
 use Rattle.session_image.proofs.KeyLaws.{key_named}
 use Rattle.session_image.proofs.StoreRuns.{run_front, run_behind, spaces_long}
