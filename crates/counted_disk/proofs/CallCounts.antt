@@ -5,7 +5,7 @@ use Rattle.disk_model.specs.Event.{Event}
 use Rattle.disk_model.specs.Past.{Past, grow, MayGrow, HasDiskCause, HasDiskMemoryCause}
 use Rattle.disk_model.specs.declared.names.DiskError.{DiskError}
 use Rattle.disk_model.specs.declared.names.DiskError.TheVariants.{NoMemory}
-use Rattle.counted_disk.specs.Counting.{capped, turns_of_event, CountState, GoesOn, Untold, Told, AddsTurns, Counts, Runs, Stops}
+use Rattle.counted_disk.specs.Counting.{capped, turns_of_event, CountState, GoesOn, Untold, Told, AddsTurns, IsCounted, Runs, Stops}
 
 -- nothing more was done
 pub went_none : (a b : Past) → b ≡ a → GoesOn 0 a b
@@ -60,7 +60,7 @@ pub called : {T : Type 0} (in_turn : Bool) (n : ℕ) (old new : CountState) (res
     → AddsTurns n old.turns new.turns
     → HasDiskCause old.faults new.faults result → HasDiskMemoryCause old.refusals new.refusals result
     → OnOk result (new.faults ≡ old.faults) → (IsErrOf result NoMemory → new.faults ≡ old.faults) → OnOk result (new.refusals ≡ old.refusals)
-    → Counts old new
+    → IsCounted old new
 called in_turn n old new (Ok v) turns running stays stop goes may adds cause memory no_fault no_fault_at_want no_refusal =
     Runs n goes adds running (stays ∙ running) no_fault no_refusal
 called in_turn n old new (Err e) turns running stays stop goes may adds cause memory no_fault no_fault_at_want no_refusal =

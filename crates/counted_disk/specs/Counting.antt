@@ -56,10 +56,10 @@ pub record IsStopCause (s : Stop) (old new : CountState) : Type 0 where
   pub no_fault : s.error ≡ NoMemory → new.faults ≡ old.faults
 
 -- What calls leave. Either nothing was changed, as by calls of a disk that was stopped; or all calls were answered Ok; or those up to one were, which was answered an error, and whose own event may be there.
-pub data Counts (old new : CountState) : Type 0 where
-  Stays : new ≡ old → Counts old new
-  Runs : (n : ℕ) → GoesOn n old.past new.past → AddsTurns n old.turns new.turns → old.stop ≡ None → new.stop ≡ None → new.faults ≡ old.faults → new.refusals ≡ old.refusals → Counts old new
-  Stops : (n : ℕ) (mid : Past) (s : Stop) → GoesOn n old.past mid → MayGrow (λ e. turns_of_event e ≡ turns_of_stop s) mid new.past → AddsTurns (n + turns_of_stop s) old.turns new.turns → old.stop ≡ None → new.stop ≡ Some s → IsStopCause s old new → Counts old new
+pub data IsCounted (old new : CountState) : Type 0 where
+  Stays : new ≡ old → IsCounted old new
+  Runs : (n : ℕ) → GoesOn n old.past new.past → AddsTurns n old.turns new.turns → old.stop ≡ None → new.stop ≡ None → new.faults ≡ old.faults → new.refusals ≡ old.refusals → IsCounted old new
+  Stops : (n : ℕ) (mid : Past) (s : Stop) → GoesOn n old.past mid → MayGrow (λ e. turns_of_event e ≡ turns_of_stop s) mid new.past → AddsTurns (n + turns_of_stop s) old.turns new.turns → old.stop ≡ None → new.stop ≡ Some s → IsStopCause s old new → IsCounted old new
 
 -- the calls that a stopped disk has answered by this error are one more, up to the end of a u64
 abbrev pub faults_after : DiskError → ℕ → ℕ
@@ -91,12 +91,12 @@ goes_on_then n m a b c (Told es news x y k) (Told mid more z w j) =
 adds_then : (n m a b c : ℕ) → AddsTurns n a b → AddsTurns m b c → AddsTurns (n + m) a c
 adds_then n m a b c p q k is = q (k + n) (p k is) ∙ ap capped (add_assoc k n m)
 
-pub counts_none : (s : CountState) → Counts s s
+pub counts_none : (s : CountState) → IsCounted s s
 counts_none s = Stays refl
 
-pub counts_then : (a b c : CountState) → Counts a b → Counts b c → Counts a c
-counts_then a b c p (Stays is) = subst (λ x. Counts a x) (sym is) p
-counts_then a b c (Stays is) q = subst (λ x. Counts x c) is q
+pub counts_then : (a b c : CountState) → IsCounted a b → IsCounted b c → IsCounted a c
+counts_then a b c p (Stays is) = subst (λ x. IsCounted a x) (sym is) p
+counts_then a b c (Stays is) q = subst (λ x. IsCounted x c) is q
 counts_then a b c (Runs n g t o w f r) (Runs m h u v x i j) = Runs (n + m) (goes_on_then n m _ _ _ g h) (adds_then n m _ _ _ t u) o x (i ∙ f) (j ∙ r)
 counts_then a b c (Runs n g t o w f r) (Stops m mid s h e u v x k) =
     Stops (n + m) mid s (goes_on_then n m _ _ _ g h) e

@@ -3,7 +3,7 @@ ghost use Rattle.std.specs.Prelude.{◌≡◌, ℕ, ◌+◌, ◌⊎◌, None, So
 ghost use Rattle.disk_model.specs.Past.{HasDiskCause, HasDiskMemoryCause};
 ghost use Rattle.disk_model.specs.declared.names.DiskError.TheVariants.{Failed};
 ghost use Rattle.counted_disk.specs.declared.counted.Stop.{Stop};
-ghost use Rattle.counted_disk.specs.Counting.{Counts, IsStoppedBy, counts_none, counts_then, faults_after, refusals_after};
+ghost use Rattle.counted_disk.specs.Counting.{IsCounted, IsStoppedBy, counts_none, counts_then, faults_after, refusals_after};
 
 use disk_model::{Disk, DiskError, FileName, Mark};
 
@@ -110,7 +110,7 @@ impl<D: Disk + Drop> Disk for Counted<D> {
 
     ghost memory_refusals = { λ c. D.memory_refusals c.disk + c.refusals_since };
 
-    ghost is_later = { λ old new. D.is_later old.disk new.disk × Counts (record { past = D.past old.disk; faults = D.faults old.disk; refusals = D.memory_refusals old.disk; turns = old.turns; stop = old.stop }) (record { past = D.past new.disk; faults = D.faults new.disk; refusals = D.memory_refusals new.disk; turns = new.turns; stop = new.stop }) };
+    ghost is_later = { λ old new. D.is_later old.disk new.disk × IsCounted (record { past = D.past old.disk; faults = D.faults old.disk; refusals = D.memory_refusals old.disk; turns = old.turns; stop = old.stop }) (record { past = D.past new.disk; faults = D.faults new.disk; refusals = D.memory_refusals new.disk; turns = new.turns; stop = new.stop }) };
 
     ghost may_fail_to_tell = { λ c. D.may_fail_to_tell c.disk ⊎ IsStoppedBy Failed c.stop };
 

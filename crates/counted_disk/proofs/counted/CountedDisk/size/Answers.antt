@@ -1,5 +1,5 @@
 use Rattle.std.proofs.Common.{rules, ◌≡◌, inl, false, None, refl, ◌∙◌, subst}
-use Rattle.counted_disk.specs.Counting.{Counts}
+use Rattle.counted_disk.specs.Counting.{IsCounted}
 use Rattle.counted_disk.proofs.CallCounts.{went_none, adds_same, on_ok, always_ok, always_err, called, cause_as}
 use Rattle.counted_disk.proofs.counted.CountedDisk.size.Goals as goal
 
@@ -15,7 +15,7 @@ returns-clause-later g c =
     let disk_same : c.check_running.new.self.disk ≡ c.args.self.now.disk = search rules in
     let turns_same : c.check_running.new.self.turns ≡ c.args.self.now.turns = search rules in
     let stop_same : c.check_running.new.self.stop ≡ c.args.self.now.stop = search rules in
-    subst (λ d. g.D.Disk.is_later d c.size-done.new.self × Counts (record { past = g.D.Disk.past d; faults = g.D.Disk.faults d; refusals = g.D.Disk.memory_refusals d; turns = c.args.self.now.turns; stop = c.args.self.now.stop }) (record { past = g.D.Disk.past c.size-done.new.self; faults = g.D.Disk.faults c.size-done.new.self; refusals = g.D.Disk.memory_refusals c.size-done.new.self; turns = c.check_running.new.self.turns; stop = c.keep_stop.new.stop })) disk_same (
+    subst (λ d. g.D.Disk.is_later d c.size-done.new.self × IsCounted (record { past = g.D.Disk.past d; faults = g.D.Disk.faults d; refusals = g.D.Disk.memory_refusals d; turns = c.args.self.now.turns; stop = c.args.self.now.stop }) (record { past = g.D.Disk.past c.size-done.new.self; faults = g.D.Disk.faults c.size-done.new.self; refusals = g.D.Disk.memory_refusals c.size-done.new.self; turns = c.check_running.new.self.turns; stop = c.keep_stop.new.stop })) disk_same (
       c.size-done.ensures.later,
       called false 0 _ _ c.size-done.result refl running
           (on_ok c.size-done.result (λ same. same ∙ stop_same) c.keep_stop.ensures.ok) c.keep_stop.ensures.err

@@ -1,6 +1,6 @@
 use Rattle.std.proofs.Common.{rules, ◌≡◌, ◌+◌, ◌-◌, ◌^◌, min, inl, true, None, refl, ap, ◌∙◌, subst}
 use Rattle.disk_model.specs.Event.{Sync}
-use Rattle.counted_disk.specs.Counting.{Counts}
+use Rattle.counted_disk.specs.Counting.{IsCounted}
 use Rattle.counted_disk.proofs.CallCounts.{went_one, adds_one, on_ok, on_err, called, cause_as}
 use Rattle.counted_disk.proofs.counted.CountedDisk.sync.Goals as goal
 
@@ -16,7 +16,7 @@ returns-clause-later g c =
     let disk_same : c.check_running.new.self.disk ≡ c.args.self.now.disk = search rules in
     let turns_same : c.check_running.new.self.turns ≡ c.args.self.now.turns = search rules in
     let stop_same : c.check_running.new.self.stop ≡ c.args.self.now.stop = search rules in
-    subst (λ d. g.D.Disk.is_later d c.sync-done.new.self × Counts (record { past = g.D.Disk.past d; faults = g.D.Disk.faults d; refusals = g.D.Disk.memory_refusals d; turns = c.args.self.now.turns; stop = c.args.self.now.stop }) (record { past = g.D.Disk.past c.sync-done.new.self; faults = g.D.Disk.faults c.sync-done.new.self; refusals = g.D.Disk.memory_refusals c.sync-done.new.self; turns = c.saturating_add-self.result; stop = c.keep_stop.new.stop })) disk_same (
+    subst (λ d. g.D.Disk.is_later d c.sync-done.new.self × IsCounted (record { past = g.D.Disk.past d; faults = g.D.Disk.faults d; refusals = g.D.Disk.memory_refusals d; turns = c.args.self.now.turns; stop = c.args.self.now.stop }) (record { past = g.D.Disk.past c.sync-done.new.self; faults = g.D.Disk.faults c.sync-done.new.self; refusals = g.D.Disk.memory_refusals c.sync-done.new.self; turns = c.saturating_add-self.result; stop = c.keep_stop.new.stop })) disk_same (
       c.sync-done.ensures.later,
       called true 1 _ _ c.sync-done.result refl running
           (on_ok c.sync-done.result (λ same. same ∙ stop_same) c.keep_stop.ensures.ok) c.keep_stop.ensures.err
