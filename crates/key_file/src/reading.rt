@@ -1,6 +1,6 @@
 // Key files read from a library.
 
-ghost use Rattle.std.specs.Prelude.{◌≡◌, ◌≢◌, ◌⊎◌, ℕ, List, Ok, Err, true, nat_eq, codes, drop, length, IfOk, IsErrOf, MatchResult, ◌≤◌};
+ghost use Rattle.std.specs.Prelude.{◌≡◌, ◌≢◌, ◌⊎◌, ℕ, List, Ok, Err, true, nat_eq, codes, drop, length, IfOk, OnOk, IsErrOf, MatchResult, ◌≤◌};
 ghost use Rattle.std.specs.List.{starts_with, suffix_len};
 ghost use Rattle.std.specs.Option.{option_copied};
 ghost use Rattle.io_core.specs.Told.{Told};
@@ -53,6 +53,7 @@ fn read_named<L: Library>(
     ensures contents { Told (λ fs. MatchResult result (λ v. contents index too_large name.now (fs name.now) ≡ Ok v.items) (λ fault. IsOutside fault ⊎ (contents index too_large name.now (fs name.now) ≡ Err fault))) (L.files files.old) }
     ensures same { L.files files.new ≡ L.files files.old }
     ensures causes { HasCauses (L.faults files.old) (L.faults files.new) (L.absences files.old) (L.absences files.new) result }
+    ensures no_fault { OnOk result (L.faults files.new ≡ L.faults files.old) }
     ensures failed { IsErrOf result LoadFault.FileFault → L.failed_last files.new name.now }
 {
     match read_file(alloc, files, name, LIMIT) {
@@ -106,6 +107,7 @@ fn read_secret<L: Library>(
     ensures secret { Told (λ fs. MatchResult result (λ v. secret_of fs index filekey.now ≡ Ok v.items) (λ fault. IsOutside fault ⊎ (secret_of fs index filekey.now ≡ Err fault))) (L.files files.old) }
     ensures same { L.files files.new ≡ L.files files.old }
     ensures causes { HasCauses (L.faults files.old) (L.faults files.new) (L.absences files.old) (L.absences files.new) result }
+    ensures no_fault { OnOk result (L.faults files.new ≡ L.faults files.old) }
     ensures failed { IsErrOf result LoadFault.FileFault → (starts_with nat_eq filekey.now (codes "FILE:") ≡ true) × L.failed_last files.new (drop 5 filekey.now) }
 {
     let Some(name) = filekey.strip_prefix("FILE:") else {
@@ -128,6 +130,7 @@ fn read_text<L: Library>(
     ensures text { Told (λ fs. MatchResult result (λ v. TextOf fs index (option_copied filekey.entry) digest bytes.items (Ok v.items)) (λ fault. IsOutside fault ⊎ TextOf fs index (option_copied filekey.entry) digest bytes.items (Err fault))) (L.files files.old) }
     ensures same { L.files files.new ≡ L.files files.old }
     ensures causes { HasCauses (L.faults files.old) (L.faults files.new) (L.absences files.old) (L.absences files.new) result }
+    ensures no_fault { OnOk result (L.faults files.new ≡ L.faults files.old) }
     ensures failed { IsErrOf result LoadFault.FileFault → (is_salted bytes.items ≡ true) × ((due : List ℕ) × NamesSecret (option_copied filekey.entry) due × L.failed_last files.new due) }
 {
     if !bytes.starts_with(b"Salted__") {
@@ -155,6 +158,7 @@ pub(crate) fn read_keys<L: Library>(
     ensures keys { Told (λ fs. MatchResult result (λ keys. KeysOf fs index (option_copied filekey.entry) digest name.now (Ok keys)) (λ fault. IsOutside fault ⊎ KeysOf fs index (option_copied filekey.entry) digest name.now (Err fault))) (L.files files.old) }
     ensures same { L.files files.new ≡ L.files files.old }
     ensures causes { HasCauses (L.faults files.old) (L.faults files.new) (L.absences files.old) (L.absences files.new) result }
+    ensures no_fault { OnOk result (L.faults files.new ≡ L.faults files.old) }
     ensures failed { IsErrOf result LoadFault.FileFault → Told (λ fs. (due : List ℕ) × CallsFor fs index (option_copied filekey.entry) name.now due × L.failed_last files.new due) (L.files files.old) }
 {
     let bytes = read_named(alloc, files, name, index, KeyFault::TooLarge)?;

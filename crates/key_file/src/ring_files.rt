@@ -58,6 +58,7 @@ fn load_in_order<L: Library>(
     ensures versions { IfOk result (λ ring. (id version : ℕ) → length names.now < version → IsNone (ring_key ring id version)) }
     ensures same { L.files files.new ≡ L.files files.old }
     ensures causes { HasCauses (L.faults files.old) (L.faults files.new) (L.absences files.old) (L.absences files.new) result }
+    ensures no_fault { OnOk result (L.faults files.new ≡ L.faults files.old) }
     ensures failed { IsErrOf result LoadFault.FileFault → Told (λ fs. (due : List ℕ) × IsDue fs (option_copied filekey.entry) digest 0 (map string_bytes names.now) due × L.failed_last files.new due) (L.files files.old) }
 {
     let mut ring = Ring::new(alloc);
@@ -95,6 +96,7 @@ pub fn load<L: Library>(
     ensures versions { IfOk result (λ ring. (id version : ℕ) → length names.now < version → IsNone (ring_key ring id version)) }
     ensures same { L.files files.new ≡ L.files files.old }
     ensures causes { HasCauses (L.faults files.old) (L.faults files.new) (L.absences files.old) (L.absences files.new) result }
+    ensures no_fault { OnOk result (L.faults files.new ≡ L.faults files.old) }
 
     // A fault of the library is that of a file that was due: the key files before it gave keys, and it is
     // the next, or that one is enciphered and this is the file of the password.

@@ -53,7 +53,7 @@ loop-index-preserved g c =
     let causes = c.in_ok-keys.ensures.causes in (
       c.read_keys.ensures.same ∙ c.loop-index.invariant.0,
       λ id v h. later_version c.loop-index.ring c.add_keys.new.ring c.in_ok-keys.keys _ added id v h (c.loop-index.invariant.1 id v (omega arith)),
-      omega (arith, c.loop-index.invariant.2, causes.later_faults),
+      c.in_ok-keys.ensures.no_fault ∙ c.loop-index.invariant.2,
       omega (arith, c.loop-index.invariant.3, causes.later_absences),
       record {
         here = λ fs told r h. c.loop-index.invariant.4.here fs told r

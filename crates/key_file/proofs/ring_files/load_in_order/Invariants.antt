@@ -11,7 +11,7 @@ abbrev pub invariant-loop-index : goal.invariant-loop-index
 invariant-loop-index g l =
     (g.L.Library.files l.files ≡ g.L.Library.files l.initial.files)
     × ((id v : ℕ) → l.index < v → IsNone (ring_key l.ring id v))
-    × (g.L.Library.faults l.initial.files ≤ g.L.Library.faults l.files)
+    × (g.L.Library.faults l.files ≡ g.L.Library.faults l.initial.files)
     × (g.L.Library.absences l.initial.files ≤ g.L.Library.absences l.files)
     × Told
     (λ fs. (r : Result (List RingEntry) LoadFault) → LoadsFrom fs (option_copied l.filekey) l.digest l.index (drop l.index (map string_bytes l.names)) l.ring r
