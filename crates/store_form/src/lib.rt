@@ -11,6 +11,8 @@
 //! 4. [`AtRest::read_page`] answers a page by the bytes of its home alone: that it is unused, its plain
 //!    page, the version that the ring lacks, or the first fault of its text; and what it answers is
 //!    what is known of the page. Of a disk that is at rest with contents it gives the page of these.
+//! 5. [`AtRest::into_parts`] takes a store apart, and [`read_home`] and [`open_home_with`] read a page of
+//!    it with a key that the caller has.
 #![tactic(auto)]
 
 mod fault;
@@ -18,6 +20,7 @@ mod first_page;
 mod header;
 mod header_block;
 mod lists;
+mod parts;
 mod plan;
 mod reading;
 mod rest;
@@ -26,7 +29,9 @@ mod space_list;
 pub use fault::RestFault;
 pub use header::{Header, HeaderSpace, read_header};
 pub use lists::{HomeList, Homes, Spaces};
+pub use parts::RestParts;
 pub use plan::{SpacePlan, SpacePlans, StorePlan};
+pub use reading::{open_home_with, read_home};
 pub use rest::AtRest;
 
 #[cfg(test)]

@@ -18,7 +18,7 @@ impl Model for Spaces {
 }
 
 impl Spaces {
-    ghost use Rattle.std.specs.Prelude.{◌≡◌, ◌<◌, length, slice_index_or};
+    ghost use Rattle.std.specs.Prelude.{◌≡◌, ◌<◌, length, slice_index_or, slice_set};
 
     /// The list of these.
     pub fn of(items: Vec<SpaceInfo>) -> Spaces
@@ -40,6 +40,14 @@ impl Spaces {
         ensures { result.now ≡ slice_index_or self.now i result.now }
     {
         &self.items[i]
+    }
+
+    /// Puts another one at this place.
+    pub fn set(&mut self, i: usize, info: SpaceInfo)
+        requires { i < length self.old }
+        ensures { self.new ≡ slice_set self.old i info }
+    {
+        self.items[i] = info;
     }
 
     /// All of them.
@@ -66,7 +74,7 @@ impl Model for HomeList {
 }
 
 impl HomeList {
-    ghost use Rattle.std.specs.Prelude.{◌≡◌, ◌<◌, length, slice_index_or};
+    ghost use Rattle.std.specs.Prelude.{◌≡◌, ◌<◌, length, slice_index_or, slice_set};
 
     /// The list of these.
     pub fn of(items: Vec<Home>) -> HomeList
@@ -88,6 +96,14 @@ impl HomeList {
         ensures { result.now ≡ slice_index_or self.now i result.now }
     {
         &self.items[i]
+    }
+
+    /// Puts another one at this place.
+    pub fn set(&mut self, i: usize, home: Home)
+        requires { i < length self.old }
+        ensures { self.new ≡ slice_set self.old i home }
+    {
+        self.items[i] = home;
     }
 
     /// All of them.
@@ -115,7 +131,7 @@ impl Model for Homes {
 }
 
 impl Homes {
-    ghost use Rattle.std.specs.Prelude.{◌≡◌, ◌<◌, length, slice_index_or, []};
+    ghost use Rattle.std.specs.Prelude.{◌≡◌, ◌<◌, length, slice_index_or, slice_set, []};
 
     /// The list of these.
     pub fn of(items: Vec<HomeList>) -> Homes
@@ -137,5 +153,14 @@ impl Homes {
         ensures { result.now ≡ slice_index_or self.now i [] }
     {
         &self.items[i]
+    }
+
+    /// Puts another one at a place of the list at this place.
+    pub fn set(&mut self, i: usize, page: usize, home: Home)
+        requires list { i < length self.old }
+        requires place { page < length (slice_index_or self.old i []) }
+        ensures { self.new ≡ slice_set self.old i (slice_set (slice_index_or self.old i []) page home) }
+    {
+        self.items[i].set(page, home);
     }
 }

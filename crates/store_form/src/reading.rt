@@ -33,8 +33,12 @@ pub(crate) fn place_of(spaces: &[SpaceInfo], space: u32) -> usize
     spaces.iter().take_while(|s| s.space != space).count()
 }
 
-// The bytes of a page's home.
-pub(crate) fn read_home<D: Disk>(
+/// Reads the bytes of a page's home. It takes no memory.
+///
+/// # Errors
+/// [`RestFault::DiskFault`] only where the disk's count of faults rose, [`RestFault::OutOfMemory`] only
+/// where its count of refused memory rose.
+pub fn read_home<D: Disk>(
     disk: &mut D,
     space: u32,
     page: u32,
@@ -122,6 +126,30 @@ fn open_text(
     }
 }
 
+/// Takes a page apart in place, by the bytes of its home and the key of the version that stands there,
+/// `None` where there is none. Ok leaves the plain page, and of an unused page its zero bytes. It takes
+/// no memory.
+///
+/// # Errors
+/// [`RestFault::NoVersion`] exactly where the home isn't zero bytes, its version isn't 0 and there is no
+/// key; then [`RestFault::Damaged`] with the first fault of the home's text.
+pub fn open_home_with(
+    info: &SpaceInfo,
+    page: u32,
+    key: Option<PageKey>,
+    into: &mut [u8],
+) -> Result<Home, RestFault>
+    requires { length into.old ≡ page_bytes }
+    ensures opened { IsHomeOpened info.now.space page info.now.key_id key into.old into.new result }
+    ensures taken { TakesTexts info.now.space page key into.old into.new result }
+{
+    if are_zero(into) {
+        return Ok(Home::Unused);
+    }
+    let version = be32_at(into, 0);
+    open_text(info, page, version, key, into)
+}
+
 // Takes a page apart in place, by the bytes of its home.
 pub(crate) fn open_home(
     ring: &Ring,
@@ -134,10 +162,7 @@ pub(crate) fn open_home(
     ensures opened { IsHomeOpened info.now.space page info.now.key_id (option_map (λ local. record { local = local; algorithm = algorithm }) (local_key ring.now info.now.key_id (be32_at into.old 0) info.now.salt)) into.old into.new result }
     ensures taken { TakesTexts info.now.space page (option_map (λ local. record { local = local; algorithm = algorithm }) (local_key ring.now info.now.key_id (be32_at into.old 0) info.now.salt)) into.old into.new result }
 {
-    if are_zero(into) {
-        return Ok(Home::Unused);
-    }
     let version = be32_at(into, 0);
     let key = page_key(ring, algorithm, info, version);
-    open_text(info, page, version, key, into)
+    open_home_with(info, page, key, into)
 }

@@ -11,12 +11,12 @@ use std::marker::Model;
 /// empty and its homes hold the contents.
 #[derive(Drop)]
 pub struct AtRest<D: Disk + Drop> {
-    disk: D,
-    header: Header,
-    spaces: Spaces,
-    homes: Homes,
-    next: u64,
-    sequence: u64,
+    pub(crate) disk: D,
+    pub(crate) header: Header,
+    pub(crate) spaces: Spaces,
+    pub(crate) homes: Homes,
+    pub(crate) next: u64,
+    pub(crate) sequence: u64,
 }
 
 impl<D: Disk + Drop> Model for AtRest<D> {
