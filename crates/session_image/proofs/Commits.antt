@@ -1,9 +1,9 @@
 -- A mini-transaction is committed: its blocks are pending, and the journal has an entry more. No event happens on the disk.
 use Rattle.std.proofs.Common.{◌≡◌, ℕ, suc, zero, ◌+◌, ◌-◌, ◌<◌, ◌≤◌, ⊎_elim, Bool, true, false, nat_eq, ◌&&◌, if◌then◌else◌, List, [], ◌∷◌, ◌++◌, Option, Some, None, refl, sym, ap, subst, ◌∙◌, arith}
 use Rattle.std.specs.Prelude.{Contains, option_map}
-use Rattle.std.proofs.lemmas.Bool.{cases_lt}
+use Rattle.std.proofs.lemmas.Bool.{cases_lt, cases_Bool}
 use Rattle.std.proofs.lemmas.Bool.Decides.{nat_tests}
-use Rattle.std.proofs.lemmas.Option.{none-some}
+use Rattle.std.proofs.lemmas.Option.{none-some, same_Some}
 use Rattle.aes_core.specs.Cipher.{encrypted}
 use Rattle.disk_model.specs.Event.{Event, record_of}
 use Rattle.key_ring.specs.Local.{local_key}
@@ -20,11 +20,14 @@ use Rattle.redo_text.specs.Reading.{block_version}
 use Rattle.redo_text.specs.Text.{text_of}
 use Rattle.redo_text.specs.declared.change.Change.{Change}
 use Rattle.redo_text.specs.declared.key.RedoKey.{RedoKey}
-use Rattle.ring_log.specs.Ring.{Form, RingState, RingReady, IsRingJournal, IsRingState, AreWholeEntries, listed_blocks}
+use Rattle.ring_log.specs.Ring.{Form, RingState, RingReady, IsRingJournal, IsBound, IsRingState, AreWholeEntries, listed_blocks}
+use Rattle.ring_log.proofs.Entries.{behind_bound, number_up}
+use Rattle.ring_log.proofs.Journals.{bound_end, bound_more}
+use Rattle.store_files.specs.Pages.{has_page}
 use Rattle.store_image.specs.LifeStages.{InSession}
 use Rattle.store_image.specs.Recovers.{Theory}
 use Rattle.store_image.specs.Session.{Session, Dirty, IsLogOfSession, committed}
-use Rattle.store_image.specs.SessionPhases.{Ready, IsCommit}
+use Rattle.store_image.specs.SessionPhases.{Ready, IsCommit, first_of}
 use Rattle.store_image.specs.View.{Logged}
 use Rattle.store_image.proofs.LifeMoments.{moment_commits, moment_may_log}
 use Rattle.store_image.proofs.SessionCalls.{ready_log}
@@ -133,23 +136,46 @@ module _ (store : SessionStore) where
     pending : HasPending (with_pending r new).block new
     pending j below = ap (λ (n : ℕ). (with_pending r new).block (n + j)) (sym fits_new.written) ∙ fits_new.blocks j below
 
-    versions : (n : ℕ) → r.from ≤ n → n < w.next + count → Contains store.named (1, block_version ((with_pending r new).block n))
-    versions n from below = ⊎_elim
-        (λ (written : n < r.written).
-        let within = ready.moment.journal.written in
-        subst (λ (b : List ℕ). Contains store.named (1, block_version b)) (sym (pending_front r new n written)) (ready.moment.versions n from (omega (arith, written, within))))
-        (λ (not_written : r.written ≤ n). ⊎_elim
-        (λ (before : n < w.next).
+    -- each block before the next number is as it was
+    same_block : (n : ℕ) → n < w.next → r.block n ≡ (with_pending r new).block n
+    same_block n before = ⊎_elim
+        (λ (written : n < r.written). sym (pending_front r new n written))
+        (λ (not_written : r.written ≤ n).
         let at : r.written + (n - r.written) ≡ n = omega (arith, not_written) in
         let few : n - r.written < pending_count old = let written = fits.written in omega (arith, before, next, written, not_written) in
-        let same : r.block n ≡ (with_pending r new).block n =
-        ap r.block (sym at) ∙ fits.blocks (n - r.written) few ∙ sym (front_at (n - r.written) few) ∙ sym (pending_back r new (n - r.written)) ∙ ap (with_pending r new).block at in
-        subst (λ (b : List ℕ). Contains store.named (1, block_version b)) same (ready.moment.versions n from before))
+        ap r.block (sym at) ∙ fits.blocks (n - r.written) few ∙ sym (front_at (n - r.written) few) ∙ sym (pending_back r new (n - r.written)) ∙ ap (with_pending r new).block at)
+        (cases_lt n r.written)
+
+    versions : (n : ℕ) → r.from ≤ n → n < w.next + count → Contains store.named (1, block_version ((with_pending r new).block n))
+    versions n from below = ⊎_elim
+        (λ (before : n < w.next). subst (λ (b : List ℕ). Contains store.named (1, block_version b)) (same_block n before) (ready.moment.versions n from before))
         (λ (behind : w.next ≤ n).
         let version : block_version ((with_pending r new).block n) ≡ key.version = appended_version old new mtr keys key is_key entry (with_pending r new).block pending n (omega (arith, behind, next)) (omega (arith, below, new_next)) in
         subst (λ (v : ℕ). Contains store.named (1, v)) (sym version) named)
-        (cases_lt n w.next))
-        (cases_lt n r.written)
+        (cases_lt n w.next)
+
+    -- a bound of the journal stays one
+    bound_stays : (n : ℕ) → IsBound N F r.block w.start w.journal n → IsBound N F (with_pending r new).block w.start (w.journal ++ e ∷ []) n
+    bound_stays n bound =
+        let behind = behind_bound N F r.block w.start n w.next w.journal bound.before bound.behind ready.moment.journal.entries bound.parts bound.left in
+        bound_more N F r.block (with_pending r new).block w.start w.next n w.journal (e ∷ []) (λ m low high. same_block m high) (number_up N F r.block n w.next bound.behind behind) bound
+
+    firsts : (s p : ℕ) (d : Dirty) → has_page store.header.spaces s p ≡ true → dirty s p ≡ Some d → IsBound N F (with_pending r new).block w.start (w.journal ++ e ∷ []) d.first
+    firsts s p d there is = ⊎_elim
+        (λ (names : T.names mtr s p ≡ true). named_first names (w.dirty s p) refl)
+        (λ (aside : T.names mtr s p ≡ false). bound_stays d.first (ready.firsts s p d there (sym (commit.others s p aside) ∙ is)))
+        (cases_Bool (T.names mtr s p))
+      where
+        first_is : T.names mtr s p ≡ true → d.first ≡ first_of T (w.dirty s p) old.next
+        first_is names = ap (λ (x : Dirty). x.first) (same_Some _ _ (sym is ∙ commit.named s p names))
+
+        named_first : T.names mtr s p ≡ true → (x : Option Dirty) → w.dirty s p ≡ x → IsBound N F (with_pending r new).block w.start (w.journal ++ e ∷ []) d.first
+        named_first names None clean =
+            let first : d.first ≡ w.next = first_is names ∙ ap (λ (y : Option Dirty). first_of T y old.next) clean ∙ sym next in
+            subst (IsBound N F (with_pending r new).block w.start (w.journal ++ e ∷ [])) (sym first) (bound_stays w.next (bound_end N F r w.start w.next w.journal ready.moment.journal))
+        named_first names (Some x) dirt =
+            let first : d.first ≡ x.first = first_is names ∙ ap (λ (y : Option Dirty). first_of T y old.next) dirt in
+            subst (IsBound N F (with_pending r new).block w.start (w.journal ++ e ∷ [])) (sym first) (bound_stays x.first (ready.firsts s p x there dirt))
 
     committed_places : Ready T after (session_places store after es)
     committed_places = ready_log T after (session_places store w es) (ready_commit T w (session_places store w es) ready.ready e count dirty commit) (IsLogOfSession T after) (λ l says. says)
@@ -179,6 +205,7 @@ module _ (store : SessionStore) where
       from = ready.from;
       newest = ready.newest;
       written = ready.written;
+      firsts = firsts;
     }
 
   -- The ring has room for it.

@@ -10,3 +10,4 @@ pub mod Commits
 pub mod HomesRead
 pub mod Puts
 pub mod PutRecords
+pub mod Checks

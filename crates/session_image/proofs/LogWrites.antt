@@ -113,6 +113,7 @@ module _ (store : SessionStore) where
           from = ready.from;
           newest = ready.newest;
           written = sym all;
+          firsts = ready.firsts;
         }
 
     -- ---- the record

@@ -1,7 +1,8 @@
 -- A put writes a batch of page texts: to the slots of the doublewrite file, and then to the homes.
-use Rattle.std.proofs.Common.{◌≡◌, ◌≢◌, ℕ, ◌^◌, ◌<◌, ◌≤◌, ⊎_elim, Bool, true, false, true≢false, nat_eq, nat_lt, if◌then◌else◌, List, [], ◌∷◌, length, Option, Some, refl, sym, subst, arith}
+use Rattle.std.proofs.Common.{◌∙◌, ◌≡◌, ◌≢◌, ℕ, ◌^◌, ◌<◌, ◌≤◌, ⊎_elim, Bool, true, false, true≢false, nat_eq, nat_lt, if◌then◌else◌, List, [], ◌∷◌, length, Option, Some, None, refl, sym, subst, arith}
 use Rattle.std.proofs.lemmas.Bool.{cases_eq, ne_eqb}
 use Rattle.std.proofs.lemmas.Bool.Decides.{nat_tests}
+use Rattle.std.proofs.lemmas.Option.{none-some}
 use Rattle.disk_model.specs.Event.{Event, same_file, marks}
 use Rattle.disk_model.specs.Does.{Since, IsOn}
 use Rattle.disk_model.specs.declared.names.FileName.{FileName}
@@ -20,6 +21,8 @@ use Rattle.page_places.proofs.Texts.{held-text}
 use Rattle.redo_text.specs.declared.change.Change.{Change}
 use Rattle.ring_log.specs.Ring.{Form, RingState, RingReady}
 use Rattle.ring_log.proofs.Events.{ringed_since, ready_since}
+use Rattle.store_image.specs.Doublewrite.{IsSlotOf}
+use Rattle.store_image.proofs.DoublewritePlaces.{at_page, in_batch}
 use Rattle.store_image.specs.Groups.{item_of, slot_of}
 use Rattle.store_image.specs.Recovers.{Theory}
 use Rattle.store_image.specs.Session.{Session, Dirty, IsLogOfSession}
@@ -53,6 +56,13 @@ page_below (h ∷ hs) s p there = by (nat_eq h.space s) there (λ rest. page_bel
     by : (b : Bool) → (if b then nat_lt p h.pages else has_page hs s p) ≡ true → (has_page hs s p ≡ true → p < page_count hs s) → p < (if b then h.pages else page_count hs s)
     by true below rest = grind (arith, nat_tests)
     by false there rest = rest there
+
+-- a page that is dirty behind a batch was dirty as it is
+cleaned_old : (item : ℕ → Slot) (count : ℕ) (old new : ℕ → ℕ → Option Dirty) → IsCleaned item count old new → (s p : ℕ) (d : Dirty) → new s p ≡ Some d → old s p ≡ Some d
+cleaned_old item count old new cleans s p d is = ⊎_elim
+    (λ (inside : (i : ℕ) × (i < count) × IsSlotOf (item i) s p). absurd (none-some d (sym (at_page (λ a b. new a b ≡ None) (item inside.0) s p inside.2 (cleans.clean inside.0 inside.1)) ∙ is)))
+    (λ (outside : (i : ℕ) → i < count → IsSlotOf (item i) s p → ⊥). sym (cleans.others s p outside) ∙ is)
+    (in_batch item count s p)
 
 module _ (store : SessionStore) where
   abbrev T : Theory
@@ -110,6 +120,7 @@ module _ (store : SessionStore) where
             from = ready.from;
             newest = ready.newest;
             written = ready.written;
+            firsts = ready.firsts;
           }
 
     -- ---- the homes
@@ -205,4 +216,5 @@ module _ (store : SessionStore) where
               from = ready.from;
               newest = ready.newest;
               written = ready.written;
+              firsts = λ y p d there is. ready.firsts y p d there (cleaned_old (item_of z group) (length group) w.dirty new cleans y p d is);
             }

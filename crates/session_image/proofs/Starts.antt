@@ -196,6 +196,7 @@ module _ (store : SessionStore) where
       from = refl;
       newest = refl;
       written = refl;
+      firsts = λ s p d there is. absurd (none-some d is);
     }
 
     -- ---- the record

@@ -42,6 +42,7 @@ module _ (store : SessionStore) where
           from = ready.from;
           newest = ready.newest;
           written = ready.written;
+          firsts = ready.firsts;
         }
 
     -- Once all blocks are synced, all entries are told as acknowledged.

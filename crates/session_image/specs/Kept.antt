@@ -10,13 +10,13 @@ use Rattle.places.specs.Batches.{IsFileSettled}
 use Rattle.page_places.specs.Texts.{page_bytes, slot_size, slots, pages}
 use Rattle.page_places.specs.Placed.{MayBePlaced}
 use Rattle.page_places.specs.Views.{places_by}
-use Rattle.ring_log.specs.Ring.{Form, RingState, Ringed, RingReady, IsRingJournal}
+use Rattle.ring_log.specs.Ring.{Form, RingState, Ringed, RingReady, IsBound, IsRingJournal}
 use Rattle.store_image.specs.LifeStages.{InSession, Failed}
 use Rattle.store_image.specs.Places.{Places}
 use Rattle.store_image.specs.Record.{IsAmongTexts, IsAmongBlocks}
 use Rattle.store_image.specs.RecordKept.{IsLifeMoment}
 use Rattle.store_image.specs.Recovers.{Theory}
-use Rattle.store_image.specs.Session.{Session, KeepsSession, IsLogOfSession, fresh}
+use Rattle.store_image.specs.Session.{Session, Dirty, KeepsSession, IsLogOfSession, fresh}
 use Rattle.store_image.specs.SessionPhases.{IsPutStored, Ready}
 use Rattle.store_image.specs.View.{Logged, Text, Held, Holds, Zero, Bad}
 use Rattle.redo_text.specs.declared.change.Change.{Change}
@@ -110,6 +110,8 @@ module _ (store : SessionStore) where
     pub from : w.from ≡ r.from
     pub newest : w.newest ≡ r.from
     pub written : w.written ≡ r.written
+    -- a mini-transaction of the journal begins at the first block that a dirty page needs, or the last one ends there
+    pub firsts : (s p : ℕ) (d : Dirty) → has_page store.header.spaces s p ≡ true → w.dirty s p ≡ Some d → IsBound store.header.blocks session_form r.block w.start w.journal d.first
 
   -- What holds of a put between its slots and its homes: the texts are in their slots, synced, and the homes are as they were.
   pub record PutReady (w : Session session_theory) (r : RingState) (space : ℕ) (pages : List (ℕ × Text)) (es : List Event) : Type 0 where
@@ -121,6 +123,7 @@ module _ (store : SessionStore) where
     pub from : w.from ≡ r.from
     pub newest : w.newest ≡ r.from
     pub written : w.written ≡ r.written
+    pub firsts : (s p : ℕ) (d : Dirty) → has_page store.header.spaces s p ≡ true → w.dirty s p ≡ Some d → IsBound store.header.blocks session_form r.block w.start w.journal d.first
 
   -- The record of writes at each moment: of the session's journal, and of what the places may hold.
   abbrev pub SessionRecord : Session session_theory → List Event → Type 0
