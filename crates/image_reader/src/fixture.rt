@@ -229,6 +229,15 @@ fn write_head(
     Ok(())
 }
 
+// Writes a page 0 of space 1 that says four pages, where the header says three.
+pub(crate) fn write_other_head(
+    rt: &impl Abort,
+    alloc: Global,
+    file: &mut [u8],
+) -> Result<(), OutOfMemory> {
+    write_head(rt, alloc, file, 1, 4, true, &SPACE_SALT)
+}
+
 // Writes a valid slot with this text.
 pub(crate) fn write_slot(
     rt: &impl Abort,

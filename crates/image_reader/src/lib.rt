@@ -5,8 +5,8 @@
 //! writes nothing.
 //!
 //! [`recover`] answers the contents, the header, the log's text and the number of the run's last
-//! block exactly where `Recovers` of crash_image holds with them, and else a condition of it that
-//! fails, and where. [`named`] answers the keys that such files need, the pairs of `Named`.
+//! block exactly where `Recovers` of crash_image holds with them, and else the first condition of it
+//! that fails, and where. [`named`] answers the keys that such files need, the pairs of `Named`.
 #![tactic(auto)]
 
 mod checks;

@@ -2,7 +2,7 @@
 use crate::Refusal;
 use crate::fixture::{
     Fixture, PageHead, empty_store, needed, page_text, put_text, recovered, write_at, write_block,
-    write_block_of, write_slot,
+    write_block_of, write_other_head, write_slot,
 };
 use aes_core::Algorithm;
 use cause_core::OutOfMemory;
@@ -161,6 +161,56 @@ fn a_missing_key_is_named(rt: HostRuntime) -> Result<(), Fail> {
         let other = text(&rt, rt.alloc(), algorithm, 12288, 8)?;
         write_at(&rt, &mut store.one, HOME, &other);
         assert!(rt; refusal(&rt, rt.alloc(), store)? == Some(page));
+    }
+    Ok(())
+}
+
+#[test]
+fn the_first_home_of_another_page_comes_before_any_page(rt: HostRuntime) -> Result<(), Fail> {
+    for algorithm in MODES {
+        // A torn page 1, and the text of page 1 in page 2.
+        let mut store = one_put(&rt, rt.alloc(), algorithm)?;
+        let page = text(&rt, rt.alloc(), algorithm, 12288, 1)?;
+        write_at(&rt, &mut store.one, HOME, &[1]);
+        write_at(&rt, &mut store.one, 2 * HOME, &page);
+        let wanted = Refusal::Mixed { space: 1, page: 2 };
+        assert!(rt; refusal(&rt, rt.alloc(), store)? == Some(wanted));
+    }
+    Ok(())
+}
+
+#[test]
+fn of_several_pages_with_a_fault_the_first_is_named(rt: HostRuntime) -> Result<(), Fail> {
+    let late = Refusal::NoText {
+        space: 1,
+        page: 1,
+        fault: TextFault::BehindTheRun,
+    };
+    for algorithm in MODES {
+        // A text behind the run in page 1, and a torn page 2.
+        let mut store = one_put(&rt, rt.alloc(), algorithm)?;
+        let page = text(&rt, rt.alloc(), algorithm, 12289, 1)?;
+        write_at(&rt, &mut store.one, HOME, &page);
+        write_at(&rt, &mut store.one, 2 * HOME, &[1]);
+        assert!(rt; refusal(&rt, rt.alloc(), store)? == Some(late));
+        // A torn page 1 of space 2, and a torn page 2 of space 1.
+        let mut store = one_put(&rt, rt.alloc(), algorithm)?;
+        write_at(&rt, &mut store.two, HOME, &[1]);
+        write_at(&rt, &mut store.one, 2 * HOME, &[1]);
+        let wanted = Refusal::NotChosen { space: 1, page: 2 };
+        assert!(rt; refusal(&rt, rt.alloc(), store)? == Some(wanted));
+    }
+    Ok(())
+}
+
+#[test]
+fn another_head_comes_before_the_pages_of_its_space(rt: HostRuntime) -> Result<(), Fail> {
+    for algorithm in MODES {
+        let mut store = one_put(&rt, rt.alloc(), algorithm)?;
+        write_other_head(&rt, rt.alloc(), &mut store.one)?;
+        write_at(&rt, &mut store.one, HOME, &[1]);
+        let wanted = Refusal::Head { space: 1 };
+        assert!(rt; refusal(&rt, rt.alloc(), store)? == Some(wanted));
     }
     Ok(())
 }
