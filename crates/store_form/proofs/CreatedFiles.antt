@@ -18,7 +18,8 @@ use Rattle.store_files.specs.RingBlock.{is_ring_block}
 use Rattle.store_files.specs.Run.{IsClear, IsRun, MakeWholeMtr, block_at}
 use Rattle.store_files.proofs.HeadersWritten.{header_back}
 use Rattle.store_form.specs.Creation.{first_text}
-use Rattle.store_form.proofs.FirstTexts.{IsMadeInfo, length-first}
+use Rattle.store_form.specs.Made.{IsMadeInfo}
+use Rattle.store_form.proofs.FirstTexts.{length-first}
 use Rattle.store_form.proofs.HeaderWrites.{header_front-long}
 use Rattle.store_form.proofs.ZeroPlaces.{zero_checkpoint, zero_ring_block}
 

@@ -16,18 +16,11 @@ use Rattle.store_files.proofs.SpacesInOrder.{Ordered, ordered}
 use Rattle.store_form.specs.Creation.{check_written, creation, events_after, files_begun, first_pages_written, first_text, header_written, spaces_begun}
 use Rattle.store_form.proofs.CreatedFiles.{log_begun, log_made, space_made}
 use Rattle.store_form.proofs.CreationSteps.{events_after-append}
-use Rattle.store_form.proofs.EmptyStore.{AreMadeSpaces, AreSpaceFiles}
+use Rattle.store_form.specs.Made.{AreMadeSpaces, DifferInId, HasNotId}
+use Rattle.store_form.proofs.EmptyStore.{AreSpaceFiles}
 use Rattle.store_form.proofs.SettledFiles.{IsSettledAs, settled_after, settled_beside, settled_make, settled_sync}
 
 -- ---- spaces whose ids differ
-
-abbrev pub HasNotId : ℕ → List SpaceInfo → Type 0
-HasNotId id [] = Unit {0}
-HasNotId id (s ∷ ss) = (nat_eq id s.space ≡ false) × (nat_eq s.space id ≡ false) × HasNotId id ss
-
-abbrev pub DifferInId : List SpaceInfo → Type 0
-DifferInId [] = Unit {0}
-DifferInId (s ∷ ss) = HasNotId s.space ss × DifferInId ss
 
 not_id : (id low : ℕ) (hs : List HeldSpace) (ss : List SpaceInfo) → id ≤ low → are_in_order low hs ≡ true → AreMadeSpaces hs ss → HasNotId id ss
 not_id id low [] [] le order are = tt
@@ -66,11 +59,11 @@ double_pages : (ss : List SpaceInfo) → AllAre (LeavesFile Double) (first_pages
 double_pages [] = tt
 double_pages (s ∷ ss) = (refl, (refl, double_pages ss))
 
-space_spaces : (id : ℕ) (ss : List SpaceInfo) → HasNotId id ss → AllAre (LeavesFile (Space id)) (spaces_begun ss)
+pub space_spaces : (id : ℕ) (ss : List SpaceInfo) → HasNotId id ss → AllAre (LeavesFile (Space id)) (spaces_begun ss)
 space_spaces id [] apart = tt
 space_spaces id (s ∷ ss) apart = (apart.0, space_spaces id ss apart.2)
 
-space_pages : (id : ℕ) (ss : List SpaceInfo) → HasNotId id ss → AllAre (LeavesFile (Space id)) (first_pages_written ss)
+pub space_pages : (id : ℕ) (ss : List SpaceInfo) → HasNotId id ss → AllAre (LeavesFile (Space id)) (first_pages_written ss)
 space_pages id [] apart = tt
 space_pages id (s ∷ ss) apart = (apart.0, (apart.0, space_pages id ss apart.2))
 

@@ -33,10 +33,11 @@ use Rattle.crash_image.specs.Writes.{written_item, written_items}
 use Rattle.store_form.specs.Created.{HasNoFile, IsFirstPage, IsNotFormatted, LeaveNoneOrEmpty, WritesFirstPages}
 use Rattle.store_form.specs.Creation.{check_written, creation, events_after, files_begun, first_pages_written, first_text, header_written, spaces_begun}
 use Rattle.store_form.proofs.CreatedFiles.{begun_first, length-header, log_begun, log_made, space_made}
-use Rattle.store_form.proofs.CreationFiles.{AreSettled, DifferInId, double_at_check, double_at_header, image_spaces, log_at_check, log_at_header, log_at_pages, log_files, log_first, log_in_files, log_in_pages, log_zeros, m_check, m_files, m_header, m_pages, spaces_at_check, spaces_at_header}
+use Rattle.store_form.proofs.CreationFiles.{AreSettled, double_at_check, double_at_header, image_spaces, log_at_check, log_at_header, log_at_pages, log_files, log_first, log_in_files, log_in_pages, log_zeros, m_check, m_files, m_header, m_pages, spaces_at_check, spaces_at_header}
 use Rattle.store_form.proofs.CreationSteps.{AtAttempt, AtEach, each_append}
-use Rattle.store_form.proofs.EmptyStore.{AreMadeSpaces, AreSpaceFiles, empty_recovers}
-use Rattle.store_form.proofs.FirstTexts.{IsMadeInfo, first_in, first_is}
+use Rattle.store_form.proofs.EmptyStore.{AreSpaceFiles, empty_recovers}
+use Rattle.store_form.specs.Made.{AreMadeInfos, AreMadeSpaces, DifferInId, IsMadeInfo}
+use Rattle.store_form.proofs.FirstTexts.{first_in, first_is}
 use Rattle.store_form.proofs.SettledFiles.{IsSettledAs, each_beside}
 use Rattle.store_form.proofs.ZeroPlaces.{zero_header}
 
@@ -200,10 +201,6 @@ module _ (s : List Event) where
 spaces_creating : (ss : List SpaceInfo) (rest : List Event) → AllAre IsCreating rest → AllAre IsCreating (spaces_begun ss ++ rest)
 spaces_creating [] rest all = all
 spaces_creating (s ∷ ss) rest all = (tt, spaces_creating ss rest all)
-
-abbrev pub AreMadeInfos : List SpaceInfo → Type 0
-AreMadeInfos [] = Unit {0}
-AreMadeInfos (s ∷ ss) = IsMadeInfo s × AreMadeInfos ss
 
 pages_creating : (ss : List SpaceInfo) (rest : List Event) → AreMadeInfos ss → AllAre IsCreating rest → AllAre IsCreating (first_pages_written ss ++ rest)
 pages_creating [] rest made all = all

@@ -94,3 +94,15 @@ module _ (P : List Event → Type 0) where
 pub at_after : {P Q : List Event → Type 0} (steps : List Event) (old : Past) → ((es : List Event) → P es → Q (events_after steps es)) → At P old → At Q (past_after steps old)
 at_after [] old goes at = at_each goes at
 at_after (e ∷ steps) old goes at = at_after steps (grow e old) (λ es same. same) (at_grow e goes at)
+
+-- a weaker fact at each moment
+pub each_weaker : {P Q : List Event → Type 0} (steps m : List Event) → ((now : List Event) → P now → Q now) → AtEach P steps m → AtEach Q steps m
+each_weaker [] m goes each = goes m each
+each_weaker {P = P} {Q = Q} (e ∷ steps) m goes each = (goes m each.0, attempt e each.1, each_weaker steps (e ∷ m) goes each.2)
+  where
+    attempt : (d : Event) → AtAttempt P d m → AtAttempt Q d m
+    attempt (Open files ms ws) is = tt
+    attempt (Make f n) is = tt
+    attempt (Write f at bytes shows) is = λ other long. goes (Write f at bytes other ∷ m) (is other long)
+    attempt (Sync f) is = tt
+    attempt (Tell told) is = tt

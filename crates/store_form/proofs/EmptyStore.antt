@@ -33,15 +33,9 @@ use Rattle.crash_image.specs.Recovers.{AreLong, Recovers, RecoversBy, SpacesLong
 use Rattle.crash_image.specs.StoreTheory.{store_theory}
 use Rattle.store_form.specs.Creation.{first_text}
 use Rattle.store_form.proofs.CreatedFiles.{log_made, space_made, length-made, length-space, made_clear, made_header, made_run, space_first, space_other}
-use Rattle.store_form.proofs.FirstTexts.{IsMadeInfo, first_held, first_is_text}
+use Rattle.store_form.specs.Made.{AreMadeSpaces, IsMadeInfo}
+use Rattle.store_form.proofs.FirstTexts.{first_held, first_is_text}
 use Rattle.store_form.proofs.ZeroPlaces.{zero_home, zero_slot}
-
--- the spaces of a header, with the numbers and salts that they are made with
-abbrev pub AreMadeSpaces : List HeldSpace → List SpaceInfo → Type 0
-AreMadeSpaces [] [] = Unit {0}
-AreMadeSpaces [] (s ∷ ss) = ⊥
-AreMadeSpaces (h ∷ hs) [] = ⊥
-AreMadeSpaces (h ∷ hs) (s ∷ ss) = (s.space ≡ h.space) × (s.pages ≡ h.pages) × (s.key_id ≡ h.key_id) × (2 ≤ s.pages) × IsMadeInfo s × AreMadeSpaces hs ss
 
 -- each of their files is as it is made
 abbrev pub AreSpaceFiles : (FileName → List ℕ) → List SpaceInfo → Type 0
@@ -166,7 +160,7 @@ module _ (header : HeldHeader) (spaces : List SpaceInfo) (w : IsWritableHeader h
           gives = (ne, f.page (suc p) ∙ ap page_held (none_at (f.info.pages - 1) p None));
         }
 
-    recovers_by : RecoversBy image keys header empty_log (empty spaces)
+    pub recovers_by : RecoversBy image keys header empty_log (empty spaces)
     recovers_by = record {
       long = record {
         log = ap length log ∙ length-made header w;
@@ -187,7 +181,7 @@ module _ (header : HeldHeader) (spaces : List SpaceInfo) (w : IsWritableHeader h
       clear = subst (λ (file : List ℕ). IsClear header.blocks file (2 + header.blocks)) (sym log) (made_clear header w (2 + header.blocks) (omega arith));
     }
 
-    pub empty_recovers : Recovers image keys (empty spaces) 1
+    unfoldable pub empty_recovers : Recovers image keys (empty spaces) 1
     empty_recovers = record {
       header = header;
       is_header = ap (λ (file : List ℕ). header_in (place 4096 0 file)) log ∙ made_header header w;

@@ -23,14 +23,10 @@ use Rattle.store_files.specs.Pages.{IsTypedInfo, head_of_space, head_page}
 use Rattle.store_files.proofs.HeadsOnce.{long}
 use Rattle.store_files.proofs.TextsHeld.{sealed_held, sealed_is, sealed_text, text_at}
 use Rattle.store_form.specs.Creation.{first_text}
+use Rattle.store_form.specs.Made.{IsMadeInfo}
 use Rattle.store_form.specs.Rest.{home_told}
 use Rattle.store_form.proofs.FirstPages.{head_read, typed}
 use Rattle.store_form.proofs.RestPages.{text_not_zero}
-
--- a space with numbers of their widths and a salt of bytes
-pub record IsMadeInfo (info : SpaceInfo) : Type 0 where
-  pub typed : IsTypedInfo info
-  pub salt : AreBytes info.salt
 
 four_bytes : (n : ℕ) → AreBytes (to_be_bytes w32 n)
 four_bytes n = bytes_four _ _ _ _ (omega arith) (omega arith) (omega arith) (omega arith)

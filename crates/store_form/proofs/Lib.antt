@@ -15,3 +15,8 @@ pub mod CreatedFiles
 pub mod EmptyStore
 pub mod CreationFiles
 pub mod CreationMoments
+pub mod CreationRest
+pub mod PlanLaws
+pub mod KeyChecks
+pub mod CreationLoops
+pub mod CreationAnswers

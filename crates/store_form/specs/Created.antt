@@ -1,9 +1,10 @@
 -- What a disk may hold while a store is created on it.
 use Rattle.std.specs.Prelude.{◌≡◌, ◌⊎◌, ℕ, false, List, [], ◌∷◌, ◌++◌, None, All}
 use Rattle.disk_model.specs.Event.{Event, is_there, marks, record_of}
-use Rattle.disk_model.specs.Image.{Image, IsImage}
+use Rattle.disk_model.specs.Image.{Image, InFile, IsImage}
 use Rattle.disk_model.specs.declared.names.FileName.TheVariants.{Log, Double, Space}
 use Rattle.key_ring.specs.Ring.{RingEntry}
+use Rattle.page_places.specs.Texts.{page_bytes}
 use Rattle.places.specs.Places.{place}
 use Rattle.space_head.specs.declared.space.SpaceInfo.{SpaceInfo}
 use Rattle.store_files.specs.Header.{header_in}
@@ -12,13 +13,22 @@ use Rattle.store_model.specs.Fold.{empty}
 use Rattle.crash_image.specs.Recovers.{Recovers}
 use Rattle.crash_image.specs.Stands.{Lucky}
 use Rattle.crash_image.specs.Writes.{written_items}
-use Rattle.store_form.specs.declared.plan.SpacePlan.{SpacePlan}
+
+-- no file of these spaces is there
+abbrev pub AreAbsent : List SpaceInfo → List Event → Type 0
+AreAbsent [] es = Unit {0}
+AreAbsent (s ∷ ss) es = (is_there (Space s.space) es ≡ false) × AreAbsent ss es
 
 -- no file of a store with these spaces is there
-pub record HasNoFile (ids : List ℕ) (es : List Event) : Type 0 where
+pub record HasNoFile (spaces : List SpaceInfo) (es : List Event) : Type 0 where
   pub log : is_there Log es ≡ false
   pub double : is_there Double es ≡ false
-  pub spaces : All (λ id. is_there (Space id) es ≡ false) ids
+  pub absent : AreAbsent spaces es
+
+-- each of these spaces has a file with room for page 0
+abbrev pub HaveFirstPlaces : List SpaceInfo → List Event → Type 0
+HaveFirstPlaces [] es = Unit {0}
+HaveFirstPlaces (s ∷ ss) es = InFile (Space s.space) 0 page_bytes es × HaveFirstPlaces ss es
 
 -- there is no valid header
 abbrev pub IsNotFormatted : Image → Type 0

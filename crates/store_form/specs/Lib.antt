@@ -6,3 +6,5 @@ pub mod HeaderParts
 pub mod Plan
 pub mod Creation
 pub mod Created
+pub mod Made
+pub mod CreateAnswer

@@ -34,7 +34,7 @@ fn head_of_space(info: &SpaceInfo) -> SpaceHead
 }
 
 // The fields of a space are of their types.
-fn known_info(info: &SpaceInfo)
+pub(crate) fn known_info(info: &SpaceInfo)
     ensures { IsTypedInfo info.now }
 {
     let _space = info.space;
