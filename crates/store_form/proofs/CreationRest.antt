@@ -76,7 +76,7 @@ space_reads_made : (s : SpaceInfo) (m : List Event) → 2 ≤ s.pages → IsMade
 space_reads_made s m some made was = record {
   there = was.there;
   long = ap length was.reads_as ∙ length-space s made some;
-  head = ap (λ (x : List ℕ). head_of (place 16384 0 x)) was.reads_as ∙ ap head_of (space_first s made some) ∙ first_head s made;
+  head = (if s.ciphered then 1 else 2, ap (λ (x : List ℕ). head_of (place 16384 0 x)) was.reads_as ∙ ap head_of (space_first s made some) ∙ first_head s made);
   told = told;
 }
   where
