@@ -11,3 +11,5 @@ pub mod HomesRead
 pub mod Puts
 pub mod PutRecords
 pub mod Checks
+pub mod Clears
+pub mod Ends

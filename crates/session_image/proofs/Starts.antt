@@ -101,7 +101,8 @@ module _ (store : SessionStore) where
         absurd (two_sides sequence (ap side_of (sym same) ∙ sym side)))
         (cases_lt c.sequence sequence)
 
-    clear : IsClear N file next
+    -- no place reads as a ring block of the next number or a later one
+    pub clear : IsClear N file next
     clear = subst (λ (h : HeldHeader). IsClear h.blocks file next) b.header_is b.rests.clear
 
     none_from : (n : ℕ) → next ≤ n → n < next + N → HasNoBlockFrom N F n (shown Log 4096 (place_in_ring N F n) es)
