@@ -5,9 +5,9 @@ use Rattle.disk_model.specs.Event.{Make}
 use Rattle.disk_model.specs.Past.{Past, At, grow}
 use Rattle.disk_model.specs.declared.names.FileName.TheVariants.{Log as LogFile}
 use Rattle.places.specs.Places.{HasPlaces}
-use Rattle.redo_log.specs.Blocks.{file_layout}
 use Rattle.redo_log.proofs.FreshLog.{fresh_make}
+use Rattle.crash_image.specs.LogForm.{log_places}
 
-pub places_made : (old new : Past) → new ≡ grow (Make LogFile 16789504) old → At (HasPlaces LogFile (file_layout 4096)) new
+pub places_made : (old new : Past) → new ≡ grow (Make LogFile 16789504) old → At (HasPlaces LogFile (log_places 4096)) new
 places_made None new is = record { here = λ es e. absurd (none-some es (sym is ∙ e)) }
-places_made (Some os) new is = record { here = λ es e. subst (HasPlaces LogFile (file_layout 4096)) (same_Some (Make LogFile 16789504 ∷ os) es (sym is ∙ e)) (fresh_make 4096 os).places }
+places_made (Some os) new is = record { here = λ es e. subst (HasPlaces LogFile (log_places 4096)) (same_Some (Make LogFile 16789504 ∷ os) es (sym is ∙ e)) (fresh_make 4096 os).places }

@@ -11,9 +11,10 @@ use Rattle.disk_model.specs.declared.names.FileName.TheVariants.{Log as LogFile}
 use Rattle.places.specs.Places.{Layout, AreWhole, HasPlaces, May, place, shown}
 use Rattle.places.proofs.Left.{image_size, in_image}
 use Rattle.ring_log.specs.Ring.{RingState, RingReady}
-use Rattle.redo_log.specs.Blocks.{Keys, redo_form, file_layout}
+use Rattle.redo_log.specs.Blocks.{Keys, redo_form}
 use Rattle.redo_log.specs.Fresh.{IsFresh}
 use Rattle.redo_log.proofs.FreshLog.{fresh_make}
+use Rattle.crash_image.specs.LogForm.{log_places}
 
 -- a file that was made is fresh
 pub fresh_made : (old new : Past) → new ≡ grow (Make LogFile 143360) old → At (IsFresh 32) new
@@ -45,14 +46,14 @@ module _ (N : ℕ) (keys : Keys) (r : RingState) (choices : List Choice) (es aft
       let is : x ≡ Some (place 4096 i (image.bytes LogFile)) = now i x may ∙ ap (λ (l : List ℕ). Some (place 4096 i l)) (crash.reads_as LogFile) in
       ⊎_elim (λ (m : May LogFile 4096 i es (Some (place 4096 i (image.bytes LogFile)))). subst (λ (y : Option (List ℕ)). May LogFile 4096 i es y) (sym is) m)
       (λ (t : May LogFile 4096 i es None × IsListed (image.torn LogFile) (i * 4096) 4096). absurd (none-some _ (ready.settled i None t.0)))
-      (in_image LogFile (file_layout N) es places.some places.whole (image.bytes LogFile) (image.torn LogFile) (crash.is.left LogFile) i)
+      (in_image LogFile (log_places N) es places.some places.whole (image.bytes LogFile) (image.torn LogFile) (crash.is.left LogFile) i)
 
   pub ready_crashed : RingReady N (redo_form keys) r after
   ready_crashed =
       let a = ready.ringed.at in
       record {
         ringed = record {
-          places = places_crashed LogFile (file_layout N) choices es after ready.ringed.places crash;
+          places = places_crashed LogFile (log_places N) choices es after ready.ringed.places crash;
           at = record {
             is = a.is;
             header = λ x may. a.header x (before 0 x may);

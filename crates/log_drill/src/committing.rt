@@ -9,9 +9,10 @@ ghost use Rattle.redo_text.specs.declared.change.Change.{Change};
 ghost use Rattle.ring_log.specs.Ring.{RingState, RingReady, IsRingState, IsRingJournal};
 ghost use Rattle.store_image.specs.View.{Logged};
 ghost use Rattle.redo_log.specs.Append.{logged_entry};
-ghost use Rattle.redo_log.specs.Blocks.{Keys, IsStoreKey, redo_form, file_layout};
+ghost use Rattle.redo_log.specs.Blocks.{Keys, IsStoreKey, redo_form};
 ghost use Rattle.redo_log.specs.Log.{FitsRing};
 ghost use Rattle.log_drill.specs.Kept.{HasJournal};
+ghost use Rattle.crash_image.specs.LogForm.{log_places};
 
 use crate::session::{DrillHalt, halt_of};
 use disk_model::Disk;
@@ -36,7 +37,7 @@ pub fn commit<D: Disk>(
     requires allowed { AreAllowed mtr.now }
     requires few { block_count (text_of mtr.now) ≤ 16 }
     requires version { 1 ≤ key.now.version }
-    requires places { At (HasPlaces LogFile (file_layout log.old.blocks)) (D.past disk.old) }
+    requires places { At (HasPlaces LogFile (log_places log.old.blocks)) (D.past disk.old) }
     ensures journal { OnOk result ((keys : Keys) (r : RingState) (start : ℕ) (journal : List (Logged (List Change))) → IsStoreKey keys key.now → FitsRing r log.old → IsRingState log.old.blocks (redo_form keys) r → r.written ≡ r.settled → At (RingReady log.old.blocks (redo_form keys) r) (D.past disk.old)
         → IsRingJournal log.old.blocks (redo_form keys) r start journal log.old.next → HasJournal keys start (journal ++ logged_entry log.old mtr.now ∷ []) log.new (D.past disk.new)) }
 {

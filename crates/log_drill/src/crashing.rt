@@ -4,9 +4,10 @@ ghost use Rattle.disk_model.specs.Contents.{events};
 ghost use Rattle.disk_model.specs.Past.{At};
 ghost use Rattle.disk_model.specs.declared.names.FileName.TheVariants.{Log as LogFile};
 ghost use Rattle.places.specs.Places.{HasPlaces};
-ghost use Rattle.redo_log.specs.Blocks.{Keys, IsStoreKey, file_layout};
+ghost use Rattle.redo_log.specs.Blocks.{Keys, IsStoreKey};
 ghost use Rattle.redo_log.specs.Log.{durable, handed_over};
 ghost use Rattle.log_drill.specs.Kept.{drill_key, KeepsJournal, MayBegin, IsBetween};
+ghost use Rattle.crash_image.specs.LogForm.{log_places};
 
 use crate::rows::{CrashTally, Expected, crash_rows, crashed, settled};
 use crate::session::{
@@ -40,7 +41,7 @@ fn stop_out(
     tally: &mut CrashTally,
 ) -> Result<(), DrillHalt>
     requires ring { log.old.blocks ≡ 32 }
-    requires places { HasPlaces LogFile (file_layout 32) (events disk.now.contents) }
+    requires places { HasPlaces LogFile (log_places 32) (events disk.now.contents) }
     ensures ring { log.new.blocks ≡ 32 }
     ensures same { OnOk result (log.new ≡ handed_over log.old) }
 {
@@ -66,7 +67,7 @@ fn stop_checkpoint(
     tally: &mut CrashTally,
 ) -> Result<(), DrillHalt>
     requires ring { log.old.blocks ≡ 32 }
-    requires places { HasPlaces LogFile (file_layout 32) (events disk.now.contents) }
+    requires places { HasPlaces LogFile (log_places 32) (events disk.now.contents) }
     ensures ring { log.new.blocks ≡ 32 }
     ensures same { OnOk result (log.new ≡ log.old) }
 {
@@ -93,9 +94,9 @@ fn drill_out(
     tally: &mut CrashTally,
 ) -> Result<(), DrillHalt>
     requires ring { log.old.blocks ≡ 32 }
-    requires places { HasPlaces LogFile (file_layout 32) (events disk.old.contents) }
+    requires places { HasPlaces LogFile (log_places 32) (events disk.old.contents) }
     ensures ring { log.new.blocks ≡ 32 }
-    ensures places { HasPlaces LogFile (file_layout 32) (events disk.new.contents) }
+    ensures places { HasPlaces LogFile (log_places 32) (events disk.new.contents) }
     ensures journal { (keys : Keys) (count : ℕ) → KeepsJournal keys count log.old (events disk.old.contents) → OnOk result (MayBegin keys count (durable log.old) log.new (events disk.new.contents) × (durable log.new ≡ log.new.next)) }
 {
     for turn in 1..10u64 {
@@ -115,9 +116,9 @@ fn drill_checkpoint(
     tally: &mut CrashTally,
 ) -> Result<(), DrillHalt>
     requires ring { log.old.blocks ≡ 32 }
-    requires places { HasPlaces LogFile (file_layout 32) (events disk.old.contents) }
+    requires places { HasPlaces LogFile (log_places 32) (events disk.old.contents) }
     ensures ring { log.new.blocks ≡ 32 }
-    ensures places { HasPlaces LogFile (file_layout 32) (events disk.new.contents) }
+    ensures places { HasPlaces LogFile (log_places 32) (events disk.new.contents) }
     ensures journal { (keys : Keys) (count : ℕ) → MayBegin keys count from log.old (events disk.old.contents) → durable log.old ≡ log.old.next → OnOk result (IsBetween keys count log.new (events disk.new.contents)) }
 {
     for turn in 1..3u64 {
@@ -137,9 +138,9 @@ fn drill_round(
     tally: &mut CrashTally,
 ) -> Result<(), DrillHalt>
     requires ring { log.old.blocks ≡ 32 }
-    requires places { HasPlaces LogFile (file_layout 32) (events disk.old.contents) }
+    requires places { HasPlaces LogFile (log_places 32) (events disk.old.contents) }
     ensures ring { log.new.blocks ≡ 32 }
-    ensures places { OnOk result (HasPlaces LogFile (file_layout 32) (events disk.new.contents)) }
+    ensures places { OnOk result (HasPlaces LogFile (log_places 32) (events disk.new.contents)) }
     ensures journal { (keys : Keys) (count : ℕ) → IsStoreKey keys drill_key → IsBetween keys count log.old (events disk.old.contents) → OnOk result (IsBetween keys (count + 3) log.new (events disk.new.contents)) }
 {
     let from = log.next();
@@ -161,9 +162,9 @@ pub(crate) fn plain_round(
     moves: bool,
 ) -> Result<(), DrillHalt>
     requires ring { log.old.blocks ≡ 32 }
-    requires places { HasPlaces LogFile (file_layout 32) (events disk.old.contents) }
+    requires places { HasPlaces LogFile (log_places 32) (events disk.old.contents) }
     ensures ring { log.new.blocks ≡ 32 }
-    ensures places { OnOk result (HasPlaces LogFile (file_layout 32) (events disk.new.contents)) }
+    ensures places { OnOk result (HasPlaces LogFile (log_places 32) (events disk.new.contents)) }
     ensures journal { (keys : Keys) (count : ℕ) → IsStoreKey keys drill_key → IsBetween keys count log.old (events disk.old.contents) → OnOk result (IsBetween keys (count + 3) log.new (events disk.new.contents)) }
 {
     let from = log.next();

@@ -1,10 +1,10 @@
 // What a log's file says once the disk has crashed.
 ghost use Rattle.std.specs.Prelude.{◌≡◌, ℕ, ◌+◌, ◌*◌, ◌<◌, ◌≤◌, length, IfSome, IfOk};
 ghost use Rattle.places.specs.Places.{HasPlaces};
-ghost use Rattle.redo_log.specs.Blocks.{file_layout};
 ghost use Rattle.disk_model.specs.Past.{At};
 ghost use Rattle.disk_model.specs.declared.names.FileName.TheVariants.{Log as LogFile};
 ghost use Rattle.store_image.specs.View.{block_bytes};
+ghost use Rattle.crash_image.specs.LogForm.{log_places};
 
 use crate::RING_BLOCKS;
 use disk_model::{Disk, DiskError, FileName};
@@ -22,7 +22,7 @@ pub struct RunHeld {
 fn read_place<D: Disk>(disk: &mut D, place: u64, buffer: &mut [u8]) -> Result<(), DiskError>
     requires place { place < 35 }
     requires size { length buffer.old ≡ block_bytes }
-    requires inside { At (HasPlaces LogFile (file_layout 32)) (D.past disk.old) }
+    requires inside { At (HasPlaces LogFile (log_places 32)) (D.past disk.old) }
     ensures same { D.past disk.new ≡ D.past disk.old }
     ensures size { length buffer.new ≡ block_bytes }
 {
@@ -48,7 +48,7 @@ fn newer(even: Option<Checkpoint>, odd: Option<Checkpoint>) -> Option<Checkpoint
 /// # Errors
 /// As the disk gives them.
 pub fn newest_checkpoint<D: Disk>(disk: &mut D) -> Result<Option<Checkpoint>, DiskError>
-    requires { At (HasPlaces LogFile (file_layout 32)) (D.past disk.old) }
+    requires { At (HasPlaces LogFile (log_places 32)) (D.past disk.old) }
     ensures { D.past disk.new ≡ D.past disk.old }
 {
     let mut block = [0; BLOCK];
@@ -63,7 +63,7 @@ pub fn newest_checkpoint<D: Disk>(disk: &mut D) -> Result<Option<Checkpoint>, Di
 /// # Errors
 /// As the disk gives them, and `NoMemory` also where the versions find no room.
 pub fn read_run<D: Disk>(alloc: Global, disk: &mut D) -> Result<Option<RunHeld>, DiskError>
-    requires { At (HasPlaces LogFile (file_layout 32)) (D.past disk.old) }
+    requires { At (HasPlaces LogFile (log_places 32)) (D.past disk.old) }
     ensures { D.past disk.new ≡ D.past disk.old }
 {
     let Some(checkpoint) = newest_checkpoint(disk)? else {
@@ -85,7 +85,7 @@ pub(crate) fn has_blocks<D: Disk>(
 ) -> Result<bool, DiskError>
     requires from { 2 ≤ from }
     requires end { end ≤ 1000 }
-    requires inside { At (HasPlaces LogFile (file_layout 32)) (D.past disk.old) }
+    requires inside { At (HasPlaces LogFile (log_places 32)) (D.past disk.old) }
     ensures { D.past disk.new ≡ D.past disk.old }
 {
     let mut buffer = [0; BLOCK];

@@ -5,7 +5,7 @@ ghost use Rattle.disk_model.specs.Crash.{IsCrash};
 ghost use Rattle.disk_model.specs.Past.{At};
 ghost use Rattle.disk_model.specs.declared.names.FileName.TheVariants.{Log as LogFile};
 ghost use Rattle.places.specs.Places.{HasPlaces};
-ghost use Rattle.redo_log.specs.Blocks.{file_layout};
+ghost use Rattle.crash_image.specs.LogForm.{log_places};
 
 use crate::reading::{has_blocks, read_run};
 use crate::session::{DrillHalt, halt_of};
@@ -40,8 +40,8 @@ pub(crate) fn settled(log: &Log) -> Expected {
 
 // The disk after a crash in which each unsynced write has this choice.
 pub(crate) fn crashed(disk: &MemDisk, choice: Choice) -> Result<MemDisk, DrillHalt>
-    requires { HasPlaces LogFile (file_layout 32) (events disk.now.contents) }
-    ensures places { IfOk result (λ after. HasPlaces LogFile (file_layout 32) (events after.contents)) }
+    requires { HasPlaces LogFile (log_places 32) (events disk.now.contents) }
+    ensures places { IfOk result (λ after. HasPlaces LogFile (log_places 32) (events after.contents)) }
     ensures crash { IfOk result (λ after. IsCrash (choice ∷ []) (events disk.now.contents) (events after.contents)) }
 {
     let Ok(after) = disk.crash(&[choice]) else {
@@ -57,7 +57,7 @@ fn is_sound<D: Disk>(
     blocks: &[u8],
     expected: Expected,
 ) -> Result<bool, DrillHalt>
-    requires { At (HasPlaces LogFile (file_layout 32)) (D.past disk.old) }
+    requires { At (HasPlaces LogFile (log_places 32)) (D.past disk.old) }
 {
     let held = match read_run(alloc, disk) {
         Ok(Some(held)) => held,
@@ -87,7 +87,7 @@ pub(crate) fn crash_rows(
     kept: Expected,
     tally: &mut CrashTally,
 ) -> Result<(), DrillHalt>
-    requires { HasPlaces LogFile (file_layout 32) (events disk.now.contents) }
+    requires { HasPlaces LogFile (log_places 32) (events disk.now.contents) }
 {
     for choice in [Choice::Lost, Choice::Kept, Choice::Torn] {
         let expected = match choice {

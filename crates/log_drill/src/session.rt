@@ -9,11 +9,12 @@ ghost use Rattle.redo_text.specs.Block.{block_count};
 ghost use Rattle.redo_text.specs.Text.{text_of, AreAllowed};
 ghost use Rattle.places.specs.Batches.{From};
 ghost use Rattle.ring_log.specs.Ring.{RingReady};
-ghost use Rattle.redo_log.specs.Blocks.{Keys, IsStoreKey, redo_form, file_layout};
+ghost use Rattle.redo_log.specs.Blocks.{Keys, IsStoreKey, redo_form};
 ghost use Rattle.redo_log.specs.Fresh.{IsFresh, fresh_ring};
 ghost use Rattle.redo_log.specs.Log.{durable, handed_over};
 ghost use Rattle.redo_log.specs.Recorded.{KeepsItems};
 ghost use Rattle.log_drill.specs.Kept.{drill_key, KeepsJournal, MayBegin, IsBetween};
+ghost use Rattle.crash_image.specs.LogForm.{log_places};
 
 use aes_core::Algorithm;
 use cause_core::OutOfMemory;
@@ -101,7 +102,7 @@ pub(crate) fn put_of(alloc: Global, n: usize) -> Result<Mtr, OutOfMemory>
 /// Makes the log's file, with its first checkpoint.
 pub fn make_log<D: Disk>(disk: &mut D) -> Result<(), DrillHalt>
     requires { At (λ es. is_there LogFile es ≡ false) (D.past disk.old) }
-    ensures places { OnOk result (At (HasPlaces LogFile (file_layout 32)) (D.past disk.new)) }
+    ensures places { OnOk result (At (HasPlaces LogFile (log_places 32)) (D.past disk.new)) }
     ensures ready { (keys : Keys) → OnOk result (At (RingReady 32 (redo_form keys) (fresh_ring 32)) (D.past disk.new)) }
     ensures items { OnOk result (At (From KeepsItems (D.past disk.old)) (D.past disk.new)) }
 {
@@ -113,7 +114,7 @@ pub fn make_log<D: Disk>(disk: &mut D) -> Result<(), DrillHalt>
 
 fn write_first<D: Disk>(disk: &mut D) -> Result<(), DrillHalt>
     requires { At (IsFresh 32) (D.past disk.old) }
-    ensures places { OnOk result (At (HasPlaces LogFile (file_layout 32)) (D.past disk.new)) }
+    ensures places { OnOk result (At (HasPlaces LogFile (log_places 32)) (D.past disk.new)) }
     ensures ready { (keys : Keys) → OnOk result (At (RingReady 32 (redo_form keys) (fresh_ring 32)) (D.past disk.new)) }
     ensures items { Throughout (From KeepsItems (D.past disk.old)) (D.past disk.old) (D.past disk.new) }
 {
@@ -187,9 +188,9 @@ pub(crate) fn whole_of(written: u64) -> u64 {
 // Writes the pending blocks out. At an error the log has handed them over, and else is as it was.
 pub(crate) fn write_all(disk: &mut MemDisk, log: &mut Log) -> Result<(), DrillHalt>
     requires ring { log.old.blocks ≡ 32 }
-    requires places { HasPlaces LogFile (file_layout 32) (events disk.old.contents) }
+    requires places { HasPlaces LogFile (log_places 32) (events disk.old.contents) }
     ensures ring { log.new.blocks ≡ 32 }
-    ensures places { HasPlaces LogFile (file_layout 32) (events disk.new.contents) }
+    ensures places { HasPlaces LogFile (log_places 32) (events disk.new.contents) }
     ensures kept { OnErr result (log.new ≡ handed_over log.old) }
     ensures journal { (keys : Keys) (count : ℕ) → KeepsJournal keys count log.old (events disk.old.contents) → OnOk result (MayBegin keys count (durable log.old) log.new (events disk.new.contents) × (durable log.new ≡ log.new.next)) }
 {
@@ -202,9 +203,9 @@ pub(crate) fn write_all(disk: &mut MemDisk, log: &mut Log) -> Result<(), DrillHa
 // Lets the run begin at this block.
 pub(crate) fn move_from(disk: &mut MemDisk, log: &mut Log, from: u64) -> Result<(), DrillHalt>
     requires ring { log.old.blocks ≡ 32 }
-    requires places { HasPlaces LogFile (file_layout 32) (events disk.old.contents) }
+    requires places { HasPlaces LogFile (log_places 32) (events disk.old.contents) }
     ensures ring { log.new.blocks ≡ 32 }
-    ensures places { HasPlaces LogFile (file_layout 32) (events disk.new.contents) }
+    ensures places { HasPlaces LogFile (log_places 32) (events disk.new.contents) }
     ensures kept { OnErr result (log.new ≡ log.old) }
     ensures journal { (keys : Keys) (count : ℕ) → MayBegin keys count from log.old (events disk.old.contents) → durable log.old ≡ log.old.next → OnOk result (IsBetween keys count log.new (events disk.new.contents)) }
 {

@@ -19,10 +19,11 @@ use Rattle.ring_log.proofs.Events.{ready_writing, ready_settled}
 use Rattle.byte_list.proofs.RangeLaws.{length-range}
 use Rattle.redo_log.specs.State.{LogState}
 use Rattle.store_files.specs.RingBlock.{is_ring_block}
-use Rattle.redo_log.specs.Blocks.{Keys, redo_form, file_layout}
+use Rattle.redo_log.specs.Blocks.{Keys, redo_form}
 use Rattle.redo_log.specs.Log.{IsOpen, durable, pending_at, pending_count, FitsRing}
 use Rattle.redo_log.specs.Events.{block_batch, BlocksWriting, BlocksWrote, BlocksSettled, IsBlockEvent}
 use Rattle.redo_log.proofs.FormLaws.{form_laws, torn_block}
+use Rattle.crash_image.specs.LogForm.{log_places}
 
 -- batches that agree
 module _ (f : FileName) (lay : Layout) (b c : Batch) (k : ℕ) (places : (j : ℕ) → j < k → b.place j ≡ c.place j) (texts : (j : ℕ) → j < k → b.bytes j ≡ c.bytes j) (s m : List Event) where
@@ -52,7 +53,7 @@ module _ (log : LogState) where
   total = pending_count log
 
   abbrev pub lay : Layout
-  lay = file_layout log.blocks
+  lay = log_places log.blocks
 
   pub long_at : IsOpen log → (i : ℕ) → i < total → length (pending_at log i) ≡ 4096
   unfolding place
@@ -161,7 +162,7 @@ module _ (log : LogState) where
     ringed_none none s ready = subst (λ (q : RingState). Ringed log.blocks F q s) (none_more none) ready.ringed
 
 -- The file keeps its places over a call.
-pub places_after : {T X : Type 0} {b : Batch} {k : ℕ} {E : Event → Type 0} {Q : List Event → Type 0} {old new : Past} {result : Result T X} (blocks : ℕ) → At (HasPlaces LogFile (file_layout blocks)) old
-    → Does (From (λ s m. Writing LogFile (file_layout blocks) b k s m) old) E Q old new result → At (HasPlaces LogFile (file_layout blocks)) new
+pub places_after : {T X : Type 0} {b : Batch} {k : ℕ} {E : Event → Type 0} {Q : List Event → Type 0} {old new : Past} {result : Result T X} (blocks : ℕ) → At (HasPlaces LogFile (log_places blocks)) old
+    → Does (From (λ s m. Writing LogFile (log_places blocks) b k s m) old) E Q old new result → At (HasPlaces LogFile (log_places blocks)) new
 places_after {b = b} {k = k} {old = old} {new = new} blocks has does =
-    at_end (λ s m u w. w.places) does.moments.later has (at_last (From (λ s m. Writing LogFile (file_layout blocks) b k s m) old) old new does.moments)
+    at_end (λ s m u w. w.places) does.moments.later has (at_last (From (λ s m. Writing LogFile (log_places blocks) b k s m) old) old new does.moments)

@@ -17,7 +17,7 @@ use Rattle.ring_log.specs.Batches.{check_batch, checking, checkpointed}
 use Rattle.ring_log.proofs.Events.{ready_checking, ready_checked}
 use Rattle.redo_text.specs.declared.change.Change.{Change}
 use Rattle.redo_log.specs.State.{LogState}
-use Rattle.redo_log.specs.Blocks.{Keys, redo_form, file_layout}
+use Rattle.redo_log.specs.Blocks.{Keys, redo_form}
 use Rattle.store_files.specs.Checkpoint.{checkpoint_in}
 use Rattle.redo_log.specs.Check.{check_bytes}
 use Rattle.redo_log.specs.Log.{IsOpen, durable, checked, FitsRing}
@@ -25,9 +25,10 @@ use Rattle.redo_log.specs.Events.{side_batch, CheckWriting, CheckWrote, CheckSet
 use Rattle.redo_log.proofs.CheckLaws.{length-check, made_check, torn_check}
 use Rattle.redo_log.proofs.FormLaws.{form_laws}
 use Rattle.redo_log.proofs.BlockSteps.{writing_same, settled_same}
+use Rattle.crash_image.specs.LogForm.{log_places}
 
 module _ (blocks sequence from : ℕ) where
-  pub check_next : 1 ≤ sequence → sequence < from → from ≤ 2 ^ 50 → IsNext (file_layout blocks) (side_batch sequence from) 0
+  pub check_next : 1 ≤ sequence → sequence < from → from ≤ 2 ^ 50 → IsNext (log_places blocks) (side_batch sequence from) 0
   check_next some order most = record {
     within = omega arith;
     long = length-check sequence from some order most;
@@ -35,24 +36,24 @@ module _ (blocks sequence from : ℕ) where
     differ = λ j lt. absurd (omega (arith, lt));
   }
 
-  pub check_begin : (first : Past) → At (HasPlaces LogFile (file_layout blocks)) first → At (From (CheckWrote blocks sequence from 0) first) first
-  check_begin first has = at_start (λ s h. wrote_none LogFile (file_layout blocks) (side_batch sequence from) s h) has
+  pub check_begin : (first : Past) → At (HasPlaces LogFile (log_places blocks)) first → At (From (CheckWrote blocks sequence from 0) first) first
+  check_begin first has = at_start (λ s h. wrote_none LogFile (log_places blocks) (side_batch sequence from) s h) has
 
   pub check_now : (k : ℕ) → k ≤ 1 → (first : Past) (es : List Event) → From (CheckWrote blocks sequence from k) first es → From (CheckWriting blocks sequence from) first es
-  check_now k le first es r = at_each (λ s w. writing_more LogFile (file_layout blocks) (side_batch sequence from) s k 1 le es w.writing) r
+  check_now k le first es r = at_each (λ s w. writing_more LogFile (log_places blocks) (side_batch sequence from) s k 1 le es w.writing) r
 
-  module _ (next : IsNext (file_layout blocks) (side_batch sequence from) 0) (first : Past) where
+  module _ (next : IsNext (log_places blocks) (side_batch sequence from) 0) (first : Past) where
     pub check_each : (d : Event) → IsWrite LogFile ((1 + sequence % 2) * 4096) (check_bytes sequence from) d → (es : List Event) → From (CheckWrote blocks sequence from 0) first es → From (CheckWriting blocks sequence from) first (d ∷ es)
-    check_each d is es r = at_each (λ s w. next_each LogFile (file_layout blocks) (side_batch sequence from) s 0 next es 1 (omega arith) d is w) r
+    check_each d is es r = at_each (λ s w. next_each LogFile (log_places blocks) (side_batch sequence from) s 0 next es 1 (omega arith) d is w) r
 
     pub check_wrote : (es : List Event) → From (CheckWrote blocks sequence from 0) first es → From (CheckWrote blocks sequence from 1) first (check_event sequence from ∷ es)
-    check_wrote es r = at_each (λ s w. next_wrote LogFile (file_layout blocks) (side_batch sequence from) s 0 next es w) r
+    check_wrote es r = at_each (λ s w. next_wrote LogFile (log_places blocks) (side_batch sequence from) s 0 next es w) r
 
   pub check_sync : (first : Past) (es : List Event) → From (CheckWrote blocks sequence from 1) first es → From (CheckSettled blocks sequence from) first (Sync LogFile ∷ es)
-  check_sync first es r = at_each (λ s w. last_sync LogFile (file_layout blocks) (side_batch sequence from) s 1 es w) r
+  check_sync first es r = at_each (λ s w. last_sync LogFile (log_places blocks) (side_batch sequence from) s 1 es w) r
 
   pub check_then : (first : Past) (es : List Event) → From (CheckSettled blocks sequence from) first es → From (CheckWriting blocks sequence from) first es
-  check_then first es r = at_each (λ s w. fact_of_settled LogFile (file_layout blocks) (side_batch sequence from) s 1 es w) r
+  check_then first es r = at_each (λ s w. fact_of_settled LogFile (log_places blocks) (side_batch sequence from) s 1 es w) r
 
 -- ---- the ring
 
@@ -90,13 +91,13 @@ module _ (keys : Keys) (log : LogState) (r : RingState) (is : IsOpen log) (fits 
     pub to_checking : (s m : List Event) → RingReady N F r s → CheckWriting N (log.sequence + 1) f s m → Ringed N F (checking r f) m
     to_checking s m ready w =
         ready_checking N F (form_laws keys) r s m ready f (check_bytes (log.sequence + 1) f) low_is (high_is s ready) check_is
-        (writing_same LogFile (file_layout N) (side_batch (log.sequence + 1) f) (check_batch r (check_bytes (log.sequence + 1) f)) 1 place_same (λ j lt. refl) s m w)
+        (writing_same LogFile (log_places N) (side_batch (log.sequence + 1) f) (check_batch r (check_bytes (log.sequence + 1) f)) 1 place_same (λ j lt. refl) s m w)
 
     pub to_checked : (s m : List Event) → RingReady N F r s → CheckSettled N (log.sequence + 1) f s m → RingReady N F (checked r f) m
     to_checked s m ready t =
         subst (λ (q : RingState). RingReady N F q m) (checked_other r f (λ e. let from = fits.from in omega (arith, e, from, gt)))
         (ready_checked N F (form_laws keys) r s m ready f (check_bytes (log.sequence + 1) f) low_is (high_is s ready) check_is
-        (settled_same LogFile (file_layout N) (side_batch (log.sequence + 1) f) (check_batch r (check_bytes (log.sequence + 1) f)) 1 place_same (λ j lt. refl) s m t))
+        (settled_same LogFile (log_places N) (side_batch (log.sequence + 1) f) (check_batch r (check_bytes (log.sequence + 1) f)) 1 place_same (λ j lt. refl) s m t))
 
     pub ring_check : {T X : Type 0} {old new : Past} {result : Result T X} → At (RingReady N F r) old
         → Does (From (CheckWriting N (log.sequence + 1) f) old) (IsCheckEvent (log.sequence + 1) f) (From (CheckSettled N (log.sequence + 1) f) old) old new result

@@ -12,11 +12,12 @@ use Rattle.places.proofs.Apart.{before}
 use Rattle.places.proofs.Steps.{places_make}
 use Rattle.ring_log.specs.Ring.{place_in_ring, HasNoBlockFrom, IsBehind, IsSynced, IsOther, RingReady}
 use Rattle.store_files.proofs.RingBlocks.{block_number}
-use Rattle.redo_log.specs.Blocks.{Keys, redo_form, file_layout}
+use Rattle.redo_log.specs.Blocks.{Keys, redo_form}
 use Rattle.redo_log.specs.Events.{CheckSettled}
 use Rattle.redo_log.specs.Fresh.{IsFresh, fresh_ring}
 use Rattle.redo_log.proofs.CheckLaws.{check_is, checkpoint_is, made_check}
 use Rattle.byte_list.proofs.RangeLaws.{length-zeros}
+use Rattle.crash_image.specs.LogForm.{log_places}
 
 -- a place of zero bytes
 zero_at : (n size i at : ℕ) → i * size + size ≤ n → at + 8 ≤ size → range at 8 (place size i (zeros n)) ≡ replicate 8 0
@@ -32,7 +33,7 @@ unfolding be64_at
 zero_number b at is = ap (λ (l : List ℕ). from_be_bytes w64 l) is
 
 pub fresh_make : (blocks : ℕ) (es : List Event) → IsFresh blocks (Make LogFile ((3 + blocks) * 4096) ∷ es)
-fresh_make blocks es = record { shows = λ i. refl; places = places_make LogFile (file_layout blocks) ((3 + blocks) * 4096) es (omega arith) (length-zeros ((3 + blocks) * 4096)) }
+fresh_make blocks es = record { shows = λ i. refl; places = places_make LogFile (log_places blocks) ((3 + blocks) * 4096) es (omega arith) (length-zeros ((3 + blocks) * 4096)) }
 
 module _ (keys : Keys) (blocks : ℕ) (least : 32 ≤ blocks) (s m : List Event) (made : IsFresh blocks s) (t : CheckSettled blocks 1 2 s m) where
   abbrev zero_place : ℕ → List ℕ

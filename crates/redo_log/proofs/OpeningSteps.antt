@@ -12,12 +12,13 @@ use Rattle.store_image.specs.Checkpoint.{side_of}
 use Rattle.store_image.specs.Places.{LogView}
 use Rattle.store_files.specs.Checkpoint.{checkpoint_in}
 use Rattle.redo_text.specs.declared.change.Change.{Change}
-use Rattle.redo_log.specs.Blocks.{Keys, redo_form, file_layout}
+use Rattle.redo_log.specs.Blocks.{Keys, redo_form}
 use Rattle.redo_log.specs.Check.{check_bytes}
 use Rattle.redo_log.specs.Events.{CheckWriting, CheckSettled}
 use Rattle.redo_log.specs.Opening.{HasHeaderBlock, IsOpening, IsOpenedLog, opened_ring}
 use Rattle.redo_log.proofs.CheckLaws.{made_check}
 use Rattle.redo_log.proofs.FormLaws.{form_laws}
+use Rattle.crash_image.specs.LogForm.{log_places}
 
 module _ (keys : Keys) (N sequence end : ℕ) (found : LogView (List Change)) (is : found.end ≡ end) (least : 32 ≤ N) (order : sequence < end) (high : end + N ≤ 2 ^ 50) (s m : List Event) (at : IsFound N (redo_form keys) sequence found s) where
   abbrev F : Form (List Change)
@@ -36,7 +37,7 @@ module _ (keys : Keys) (N sequence end : ℕ) (found : LogView (List Change)) (i
         let here = subst (λ (e : ℕ). CheckWriting N (sequence + 1) (e + N) s m) (sym is) w in
         let log = opening_writing N F (form_laws keys) some sequence found (bytes found.end) check_is s m at here test same image lives lucky in
         record {
-          size = image_size LogFile (file_layout N) m w.places (image.bytes LogFile) (image.torn LogFile) (lives.left LogFile);
+          size = image_size LogFile (log_places N) m w.places (image.bytes LogFile) (image.torn LogFile) (lives.left LogFile);
           header_is = opening_others N F (form_laws keys) some sequence found (bytes found.end) check_is s m at here test same image lives lucky 0 (λ e. omega (arith, e)) ∙ head;
           log = log.0;
           clear = log.1;

@@ -3,8 +3,7 @@ use Rattle.std.specs.Prelude.{◌≡◌, ℕ, ◌+◌, ◌%◌, List, Some}
 use Rattle.crash_image.specs.LogForm.{log_form}
 use Rattle.key_ring.specs.Local.{local_key}
 use Rattle.key_ring.specs.Ring.{RingEntry}
-use Rattle.page_places.specs.Texts.{ends_in_sum}
-use Rattle.places.specs.Places.{Layout, place}
+use Rattle.places.specs.Places.{place}
 use Rattle.ring_log.specs.Ring.{Form}
 use Rattle.redo_text.specs.declared.change.Change.{Change}
 use Rattle.redo_text.specs.declared.key.RedoKey.{RedoKey}
@@ -24,10 +23,6 @@ redo_form keys = log_form keys.header keys.ring
 pub record IsStoreKey (keys : Keys) (key : RedoKey) : Type 0 where
   pub algorithm : key.algorithm ≡ keys.header.algorithm
   pub local : local_key keys.ring 1 key.version keys.header.salt ≡ Some key.local
-
--- the log's file with N ring blocks
-abbrev pub file_layout : ℕ → Layout
-file_layout N = record { size = block_bytes; count = 3 + N; passes = ends_in_sum }
 
 -- the bytes at the place of a ring block
 abbrev pub read_at : ℕ → List ℕ → ℕ → List ℕ

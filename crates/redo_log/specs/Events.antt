@@ -5,10 +5,10 @@ use Rattle.disk_model.specs.declared.names.FileName.TheVariants.{Log as LogFile}
 use Rattle.places.specs.Batches.{Batch, Writing, Wrote, BatchSettled, IsOf}
 use Rattle.places.specs.Writes.{writes_of}
 use Rattle.redo_log.specs.State.{LogState}
-use Rattle.redo_log.specs.Blocks.{file_layout}
 use Rattle.redo_log.specs.Check.{check_bytes}
 use Rattle.store_image.specs.View.{block_bytes}
 use Rattle.redo_log.specs.Log.{durable, pending_at, pending_count}
+use Rattle.crash_image.specs.LogForm.{log_places}
 
 -- the writes of the pending blocks
 abbrev pub block_batch : LogState → Batch
@@ -20,13 +20,13 @@ side_batch sequence from = record { place = λ j. 1 + sequence % 2; bytes = λ j
 
 -- pending blocks are being written, so many of them were, and all are durable
 abbrev pub BlocksWriting : LogState → List Event → List Event → Type 0
-BlocksWriting log s m = Writing LogFile (file_layout log.blocks) (block_batch log) (pending_count log) s m
+BlocksWriting log s m = Writing LogFile (log_places log.blocks) (block_batch log) (pending_count log) s m
 
 abbrev pub BlocksWrote : LogState → ℕ → List Event → List Event → Type 0
-BlocksWrote log k s m = Wrote LogFile (file_layout log.blocks) (block_batch log) k s m
+BlocksWrote log k s m = Wrote LogFile (log_places log.blocks) (block_batch log) k s m
 
 abbrev pub BlocksSettled : LogState → List Event → List Event → Type 0
-BlocksSettled log s m = BatchSettled LogFile (file_layout log.blocks) (block_batch log) (pending_count log) s m
+BlocksSettled log s m = BatchSettled LogFile (log_places log.blocks) (block_batch log) (pending_count log) s m
 
 -- a write of a pending block, or a sync of the log
 abbrev pub IsBlockEvent : LogState → Event → Type 0
@@ -39,13 +39,13 @@ out_events (suc k) log = Sync LogFile ∷ writes_of LogFile block_bytes (block_b
 
 -- a checkpoint is being written, was written, and is durable
 abbrev pub CheckWriting : ℕ → ℕ → ℕ → List Event → List Event → Type 0
-CheckWriting blocks sequence from s m = Writing LogFile (file_layout blocks) (side_batch sequence from) 1 s m
+CheckWriting blocks sequence from s m = Writing LogFile (log_places blocks) (side_batch sequence from) 1 s m
 
 abbrev pub CheckWrote : ℕ → ℕ → ℕ → ℕ → List Event → List Event → Type 0
-CheckWrote blocks sequence from k s m = Wrote LogFile (file_layout blocks) (side_batch sequence from) k s m
+CheckWrote blocks sequence from k s m = Wrote LogFile (log_places blocks) (side_batch sequence from) k s m
 
 abbrev pub CheckSettled : ℕ → ℕ → ℕ → List Event → List Event → Type 0
-CheckSettled blocks sequence from s m = BatchSettled LogFile (file_layout blocks) (side_batch sequence from) 1 s m
+CheckSettled blocks sequence from s m = BatchSettled LogFile (log_places blocks) (side_batch sequence from) 1 s m
 
 -- a write of the checkpoint, or a sync of the log
 abbrev pub IsCheckEvent : ℕ → ℕ → Event → Type 0

@@ -14,7 +14,7 @@ ghost use Rattle.store_files.specs.Header.{HeldHeader};
 ghost use Rattle.store_image.specs.Places.{LogView};
 ghost use Rattle.store_image.specs.View.{block_bytes, Logged};
 ghost use Rattle.redo_text.specs.declared.change.Change.{Change};
-ghost use Rattle.redo_log.specs.Blocks.{Keys, redo_form, file_layout};
+ghost use Rattle.redo_log.specs.Blocks.{Keys, redo_form};
 ghost use Rattle.redo_log.specs.Check.{check_bytes};
 ghost use Rattle.places.specs.Writes.{IsPart};
 ghost use Rattle.redo_log.specs.Events.{side_batch, IsAny, CheckWriting, CheckWrote, CheckSettled, IsCheckEvent, check_event};
@@ -22,6 +22,7 @@ ghost use Rattle.redo_log.specs.Fresh.{fresh_ring, IsFresh};
 ghost use Rattle.redo_log.specs.Opening.{HasHeaderBlock, IsOpening, IsOpenedLog};
 ghost use Rattle.redo_log.specs.Log.{IsOpen, durable, checked, with_checkpoint, FitsRing};
 ghost use Rattle.redo_log.specs.Recorded.{KeepsItems, BlocksOnce, IsRecordOnce, AreBlocksSettled};
+ghost use Rattle.crash_image.specs.LogForm.{log_places};
 
 use crate::Log;
 use crate::check_block::fill_check;
@@ -38,8 +39,8 @@ fn write_check<D: Disk>(
     requires some { 1 ≤ sequence }
     requires order { sequence < from }
     requires most { from ≤ 2 ^ 50 }
-    requires places { At (HasFile LogFile (file_layout blocks)) (D.past disk.old) }
-    ensures does { At (HasPlaces LogFile (file_layout blocks)) (D.past disk.old) → Does (From (CheckWriting blocks sequence from) (D.past disk.old)) (IsCheckEvent sequence from) (From (CheckWrote blocks sequence from 1) (D.past disk.old)) (D.past disk.old) (D.past disk.new) result }
+    requires places { At (HasFile LogFile (log_places blocks)) (D.past disk.old) }
+    ensures does { At (HasPlaces LogFile (log_places blocks)) (D.past disk.old) → Does (From (CheckWriting blocks sequence from) (D.past disk.old)) (IsCheckEvent sequence from) (From (CheckWrote blocks sequence from 1) (D.past disk.old)) (D.past disk.old) (D.past disk.new) result }
     ensures adds { Does IsAny (IsCheckEvent sequence from) IsAny (D.past disk.old) (D.past disk.new) result }
     ensures ok { OnOk result (D.past disk.new ≡ grow (check_event sequence from) (D.past disk.old)) }
     ensures err { OnErr result (MayGrow (IsWrite LogFile ((1 + sequence % 2) * block_bytes) (check_bytes sequence from)) (D.past disk.old) (D.past disk.new)) }
@@ -67,8 +68,8 @@ fn settle_check<D: Disk>(
     requires some { 1 ≤ sequence }
     requires order { sequence < from }
     requires most { from ≤ 2 ^ 50 }
-    requires places { At (HasFile LogFile (file_layout blocks)) (D.past disk.old) }
-    ensures does { At (HasPlaces LogFile (file_layout blocks)) (D.past disk.old) → Does (From (CheckWriting blocks sequence from) (D.past disk.old)) (IsCheckEvent sequence from) (From (CheckSettled blocks sequence from) (D.past disk.old)) (D.past disk.old) (D.past disk.new) result }
+    requires places { At (HasFile LogFile (log_places blocks)) (D.past disk.old) }
+    ensures does { At (HasPlaces LogFile (log_places blocks)) (D.past disk.old) → Does (From (CheckWriting blocks sequence from) (D.past disk.old)) (IsCheckEvent sequence from) (From (CheckSettled blocks sequence from) (D.past disk.old)) (D.past disk.old) (D.past disk.new) result }
     ensures exact { OnOk result (D.past disk.new ≡ grow (Sync LogFile) (grow (check_event sequence from) (D.past disk.old))) }
     ensures part { OnErr result (IsPart LogFile block_bytes (side_batch sequence from) 1 (D.past disk.old) (D.past disk.new)) }
     ensures items { Throughout (From KeepsItems (D.past disk.old)) (D.past disk.old) (D.past disk.new) }
@@ -98,7 +99,7 @@ pub fn write_first_checkpoint<D: Disk>(disk: &mut D, blocks: u64) -> Result<(), 
     ensures part { OnErr result (IsPart LogFile block_bytes (side_batch 1 2) 1 (D.past disk.old) (D.past disk.new)) }
     // Nothing of the record's page texts and ring blocks is changed by it.
     ensures items { Throughout (From KeepsItems (D.past disk.old)) (D.past disk.old) (D.past disk.new) }
-    ensures places { At (HasPlaces LogFile (file_layout blocks)) (D.past disk.new) }
+    ensures places { At (HasPlaces LogFile (log_places blocks)) (D.past disk.new) }
     ensures later { D.is_later disk.old disk.new }
     ensures calls { D.clock disk.new ≤ D.clock disk.old + 2 }
     ensures cause { HasDiskCause (D.faults disk.old) (D.faults disk.new) result }
@@ -126,14 +127,14 @@ pub fn write_opening_checkpoint<D: Disk>(
     requires most { blocks ≤ 4096 }
     requires order { sequence < end }
     requires high { end + blocks ≤ 2 ^ 50 }
-    requires places { At (HasFile LogFile (file_layout blocks)) (D.past disk.old) }
+    requires places { At (HasFile LogFile (log_places blocks)) (D.past disk.old) }
     // Each lucky image of each moment has its length, its header, and the log that was found or the one behind it, and at Ok a session may begin there.
     ensures opens { (keys : Keys) (found : LogView (List Change)) (header : List ℕ) → found.end ≡ end → At (IsFound blocks (redo_form keys) sequence found) (D.past disk.old) → At (HasHeaderBlock header) (D.past disk.old) → Does (IsOpening blocks (redo_form keys) header found) (IsCheckEvent (sequence + 1) (end + blocks)) (IsOpenedLog blocks (redo_form keys) sequence header found) (D.past disk.old) (D.past disk.new) result }
     ensures exact { OnOk result (D.past disk.new ≡ grow (Sync LogFile) (grow (check_event (sequence + 1) (end + blocks)) (D.past disk.old))) }
     ensures part { OnErr result (IsPart LogFile block_bytes (side_batch (sequence + 1) (end + blocks)) 1 (D.past disk.old) (D.past disk.new)) }
     // Nothing of the record's page texts and ring blocks is changed by it.
     ensures items { Throughout (From KeepsItems (D.past disk.old)) (D.past disk.old) (D.past disk.new) }
-    ensures places { At (HasPlaces LogFile (file_layout blocks)) (D.past disk.old) → At (HasPlaces LogFile (file_layout blocks)) (D.past disk.new) }
+    ensures places { At (HasPlaces LogFile (log_places blocks)) (D.past disk.old) → At (HasPlaces LogFile (log_places blocks)) (D.past disk.new) }
     ensures later { D.is_later disk.old disk.new }
     ensures calls { D.clock disk.new ≤ D.clock disk.old + 2 }
     ensures cause { HasDiskCause (D.faults disk.old) (D.faults disk.new) result }
@@ -150,10 +151,10 @@ impl Log {
     fn move_from<D: Disk>(&self, disk: &mut D, from: u64) -> Result<(), DiskError>
         requires low { self.now.from ≤ from }
         requires high { from ≤ durable self.now }
-        requires places { At (HasPlaces LogFile (file_layout self.now.blocks)) (D.past disk.old) }
+        requires places { At (HasPlaces LogFile (log_places self.now.blocks)) (D.past disk.old) }
         ensures does { (keys : Keys) (r : RingState) → FitsRing r self.now → At (RingReady self.now.blocks (redo_form keys) r) (D.past disk.old) → Does (Ringed self.now.blocks (redo_form keys) (checking r from)) (IsCheckEvent (self.now.sequence + 1) from) (RingReady self.now.blocks (redo_form keys) (checked r from)) (D.past disk.old) (D.past disk.new) result }
         ensures open { IsOpen self.now }
-        ensures places { At (HasPlaces LogFile (file_layout self.now.blocks)) (D.past disk.new) }
+        ensures places { At (HasPlaces LogFile (log_places self.now.blocks)) (D.past disk.new) }
         ensures nothing { from ≡ self.now.from → (result ≡ Ok tt) × (D.past disk.new ≡ D.past disk.old) × (disk.new ≡ disk.old) }
         ensures exact { self.now.from < from → OnOk result (D.past disk.new ≡ grow (Sync LogFile) (grow (check_event (self.now.sequence + 1) from) (D.past disk.old))) }
         ensures part { OnErr result (IsPart LogFile block_bytes (side_batch (self.now.sequence + 1) from) 1 (D.past disk.old) (D.past disk.new)) }
@@ -196,7 +197,7 @@ impl Log {
     pub fn checkpoint<D: Disk>(&mut self, disk: &mut D, from: u64) -> Result<(), DiskError>
         requires low { self.old.from ≤ from }
         requires high { from ≤ durable self.old }
-        requires places { At (HasPlaces LogFile (file_layout self.old.blocks)) (D.past disk.old) }
+        requires places { At (HasPlaces LogFile (log_places self.old.blocks)) (D.past disk.old) }
         // Each lucky image of each moment stands for a part of the journal.
         ensures stands { (keys : Keys) (r : RingState) (start : ℕ) (journal : List (Logged (List Change))) → FitsRing r self.old → At (RingReady self.old.blocks (redo_form keys) r) (D.past disk.old) → IsRingJournal self.old.blocks (redo_form keys) r start journal self.old.next → IsBound self.old.blocks (redo_form keys) r.block start journal from → Throughout (AllRingStand self.old.blocks (redo_form keys) (checking r from) start journal self.old.next) (D.past disk.old) (D.past disk.new) }
         ensures does { (keys : Keys) (r : RingState) → FitsRing r self.old → At (RingReady self.old.blocks (redo_form keys) r) (D.past disk.old) → Does (Ringed self.old.blocks (redo_form keys) (checking r from)) (IsCheckEvent (self.old.sequence + 1) from) (RingReady self.old.blocks (redo_form keys) (checked r from)) (D.past disk.old) (D.past disk.new) result }
@@ -213,7 +214,7 @@ impl Log {
         ensures record { (header : HeldHeader) (keys : List RingEntry) (salts : ℕ → List ℕ) → At (IsRecordOnce header keys salts) (D.past disk.old) → Throughout (IsRecordOnce header keys salts) (D.past disk.old) (D.past disk.new) }
         ensures settles { (keys : Keys) (r : RingState) (start : ℕ) (journal : List (Logged (List Change))) → FitsRing r self.old → r.written ≡ r.settled → At (BlocksOnce self.old) (D.past disk.old) → Throughout (AreBlocksSettled self.old.blocks keys (checking r from) start journal self.old.next) (D.past disk.old) (D.past disk.new) }
         ensures open { IsOpen self.new }
-        ensures places { At (HasPlaces LogFile (file_layout self.old.blocks)) (D.past disk.new) }
+        ensures places { At (HasPlaces LogFile (log_places self.old.blocks)) (D.past disk.new) }
         ensures later { D.is_later disk.old disk.new }
         ensures calls { D.clock disk.new ≤ D.clock disk.old + 2 }
         ensures cause { HasDiskCause (D.faults disk.old) (D.faults disk.new) result }

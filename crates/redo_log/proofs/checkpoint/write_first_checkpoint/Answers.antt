@@ -3,14 +3,14 @@ use Rattle.disk_model.specs.declared.names.FileName.TheVariants.{Log as LogFile}
 use Rattle.places.proofs.Batches.{at_end}
 use Rattle.places.proofs.FileSteps.{file_of_places}
 use Rattle.disk_model.proofs.Moments.{at_each}
-use Rattle.redo_log.specs.Blocks.{file_layout}
 use Rattle.redo_log.specs.Events.{side_batch}
 use Rattle.redo_log.proofs.BlockSteps.{places_after}
 use Rattle.redo_log.proofs.FreshLog.{fresh_ready}
 use Rattle.redo_log.proofs.checkpoint.write_first_checkpoint.Goals as goal
+use Rattle.crash_image.specs.LogForm.{log_places}
 
 pub settle_check-requires-clause-places : goal.settle_check-requires-clause-places
-settle_check-requires-clause-places g c = at_each (λ es fresh. file_of_places LogFile (file_layout c.args.blocks) es fresh.places) c.requires.made
+settle_check-requires-clause-places g c = at_each (λ es fresh. file_of_places LogFile (log_places c.args.blocks) es fresh.places) c.requires.made
 
 pub returns-clause-ready : goal.returns-clause-ready
 returns-clause-ready g c = λ keys.

@@ -8,16 +8,16 @@ use Rattle.places.specs.Batches.{From}
 use Rattle.places.specs.Places.{HasFile, HasPlaces}
 use Rattle.places.proofs.FileSteps.{file_of_places}
 use Rattle.places.proofs.Batches.{does_stay}
-use Rattle.redo_log.specs.Blocks.{file_layout}
 use Rattle.places.specs.Writes.{IsPart}
 use Rattle.redo_log.specs.Events.{side_batch, check_event, CheckWriting, CheckSettled, IsCheckEvent}
 use Rattle.redo_log.proofs.BlockSteps.{places_after}
 use Rattle.redo_log.proofs.CheckSteps.{ring_check, checked_none, checking_none}
 use Rattle.redo_log.proofs.RecordSteps.{items_same}
 use Rattle.redo_log.proofs.log.Log.move_from.Goals as goal
+use Rattle.crash_image.specs.LogForm.{log_places}
 
 pub settle_check-requires-clause-places : goal.settle_check-requires-clause-places
-settle_check-requires-clause-places g c = subst (λ (n : ℕ). At (HasFile LogFile (file_layout n)) (g.D.Disk.past c.args.disk.now)) (sym c.blocks-2.ensures) (at_each (file_of_places LogFile (file_layout c.args.self.now.blocks)) c.requires.places)
+settle_check-requires-clause-places g c = subst (λ (n : ℕ). At (HasFile LogFile (log_places n)) (g.D.Disk.past c.args.disk.now)) (sym c.blocks-2.ensures) (at_each (file_of_places LogFile (log_places c.args.self.now.blocks)) c.requires.places)
 
 pub returns-then-from-clause-does : goal.returns-then-from-clause-does
 returns-then-from-clause-does g c = λ keys r fits at.
@@ -31,7 +31,7 @@ returns-clause-does g c = λ keys r fits at.
     let first = g.D.Disk.past c.args.disk.now in
     let last = g.D.Disk.past c.settle_check.new.disk in
     let f = c.args.from in
-    let has = subst (λ (n : ℕ). At (HasPlaces LogFile (file_layout n)) (g.D.Disk.past c.args.disk.now)) (sym c.blocks-2.ensures) c.requires.places in
+    let has = subst (λ (n : ℕ). At (HasPlaces LogFile (log_places n)) (g.D.Disk.past c.args.disk.now)) (sym c.blocks-2.ensures) c.requires.places in
     let moved = subst (λ (n : ℕ). Does (From (CheckWriting n (log.sequence + 1) f) first) (IsCheckEvent (log.sequence + 1) f) (From (CheckSettled n (log.sequence + 1) f) first) first last c.settle_check.result) c.blocks-2.ensures
     (subst (λ (s : ℕ). Does (From (CheckWriting c.blocks-2.result (s + 1) f) first) (IsCheckEvent (s + 1) f) (From (CheckSettled c.blocks-2.result (s + 1) f) first) first last c.settle_check.result) c.sequence.ensures (c.settle_check.ensures.does has)) in
     ring_check keys log r c.from.ensures.open fits f (omega (arith, c.requires.low, c.if-from.false, c.from.ensures.from)) c.requires.high at moved
@@ -43,7 +43,7 @@ returns-clause-places g c =
     let last = g.D.Disk.past c.settle_check.new.disk in
     let f = c.args.from in
     let s = c.sequence.result in
-    let has = subst (λ (n : ℕ). At (HasPlaces LogFile (file_layout n)) (g.D.Disk.past c.args.disk.now)) (sym c.blocks-2.ensures) c.requires.places in
+    let has = subst (λ (n : ℕ). At (HasPlaces LogFile (log_places n)) (g.D.Disk.past c.args.disk.now)) (sym c.blocks-2.ensures) c.requires.places in
     let moved = subst (λ (n : ℕ). Does (From (CheckWriting n (s + 1) f) first) (IsCheckEvent (s + 1) f) (From (CheckSettled n (s + 1) f) first) first last c.settle_check.result) c.blocks-2.ensures (c.settle_check.ensures.does has) in
     places_after {b = side_batch (s + 1) f} {k = 1} log.blocks c.requires.places moved
 

@@ -6,12 +6,12 @@ use Rattle.disk_model.specs.Image.{InFile}
 use Rattle.disk_model.proofs.Layers.{does_write}
 use Rattle.disk_model.proofs.Moments.{at_each}
 use Rattle.places.proofs.Steps.{place_inside}
-use Rattle.redo_log.specs.Blocks.{file_layout}
 use Rattle.places.proofs.Batches.{write_is_of}
 use Rattle.redo_log.specs.Log.{durable, pending_at, pending_count}
 use Rattle.redo_log.specs.Events.{block_batch}
 use Rattle.redo_log.proofs.BlockSteps.{block_next, blocks_now, block_each, block_wrote}
 use Rattle.redo_log.proofs.log.Log.write_block.Goals as goal
+use Rattle.crash_image.specs.LogForm.{log_places}
 
 pub returns-clause-err : goal.returns-clause-err
 returns-clause-err g c =
@@ -42,5 +42,5 @@ write-requires g c =
     let place : (3 + (durable log + c.args.i) % log.blocks) ≡ 3 + (c.durable.result + c.args.i) % c.blocks-2.result =
     ap (λ (n : ℕ). 3 + (durable log + c.args.i) % n) (sym c.blocks-2.ensures) ∙ ap (λ (d : ℕ). 3 + (d + c.args.i) % c.blocks-2.result) (sym c.durable.ensures.durable) in
     at_each (λ es has. subst (λ (k : ℕ). InFile LogFile (k * 4096) (length c.pending_block.result.now) es) place
-    (place_inside LogFile (file_layout log.blocks) ((block_batch log).place c.args.i) next.within (length c.pending_block.result.now) (ap length c.pending_block.ensures ∙ next.long) es has))
+    (place_inside LogFile (log_places log.blocks) ((block_batch log).place c.args.i) next.within (length c.pending_block.result.now) (ap length c.pending_block.ensures ∙ next.long) es has))
     c.requires.places
