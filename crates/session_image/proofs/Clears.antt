@@ -11,7 +11,6 @@ use Rattle.places.specs.Writes.{writes_of}
 use Rattle.places.proofs.Batches.{next_wrote, wrote_none}
 use Rattle.places.proofs.LeftAlone.{reads_left_alone}
 use Rattle.redo_log.specs.State.{LogState}
-use Rattle.redo_log.specs.Blocks.{file_layout}
 use Rattle.redo_log.specs.Events.{block_batch, out_events, side_batch, check_event}
 use Rattle.redo_log.specs.Log.{IsOpen, durable, pending_at, pending_count}
 use Rattle.redo_log.proofs.BlockSteps.{block_next}
@@ -25,6 +24,7 @@ use Rattle.store_files.specs.Run.{IsClear}
 use Rattle.store_files.proofs.RingBlocks.{block_number}
 use Rattle.crash_image.proofs.LogForms.{is_form}
 use Rattle.session_image.specs.Kept.{SessionStore, session_form}
+use Rattle.crash_image.specs.LogForm.{log_places}
 
 -- a later number is the next
 pub clear_more : (N : ℕ) (file : List ℕ) (next n : ℕ) → next ≤ n → IsClear N file next → IsClear N file n
@@ -51,7 +51,7 @@ module _ (store : SessionStore) where
 
   module _ (r : RingState) (s : List Event) (ready : RingReady N F r s) (next : ℕ) (clear : IsClear N (reads Log s) next) where
     -- a batch of blocks before the next number, or of places before the ring
-    by_batch : (b : Batch) (k : ℕ) (m : List Event) → Wrote Log (file_layout N) b k s m → ((j i n : ℕ) → j < k → b.place j ≡ 3 + i → next ≤ n → is_ring_block n (b.bytes j) ≡ true → ⊥) → IsClear N (reads Log m) next
+    by_batch : (b : Batch) (k : ℕ) (m : List Event) → Wrote Log (log_places N) b k s m → ((j i n : ℕ) → j < k → b.place j ≡ 3 + i → next ≤ n → is_ring_block n (b.bytes j) ≡ true → ⊥) → IsClear N (reads Log m) next
     by_batch b k m wrote none i n within le is = ⊎_elim
         (λ (o : (j : ℕ) × (j < k) × (b.place j ≡ 3 + i)).
         let bytes : place block_bytes (3 + i) (reads Log m) ≡ b.bytes o.0 = ap (λ (q : ℕ). shown Log block_bytes q m) (sym o.2) ∙ wrote.new o.0 o.1 in
@@ -69,9 +69,9 @@ module _ (store : SessionStore) where
             let order = open_log.order in
             omega (arith, same, le, below, is_next, order)
 
-        wrote : (k : ℕ) → pending_count log ≡ k → Wrote Log (file_layout N) (block_batch log) k s (writes_of Log block_bytes (block_batch log) k ++ s)
-        wrote k total = wrote_events Log (file_layout N) (block_batch log) s ready.ringed.places k
-            (λ j below. subst (λ (blocks : ℕ). IsNext (file_layout blocks) (block_batch log) j) size (block_next log j (omega (arith, below, total)) open_log))
+        wrote : (k : ℕ) → pending_count log ≡ k → Wrote Log (log_places N) (block_batch log) k s (writes_of Log block_bytes (block_batch log) k ++ s)
+        wrote k total = wrote_events Log (log_places N) (block_batch log) s ready.ringed.places k
+            (λ j below. subst (λ (blocks : ℕ). IsNext (log_places blocks) (block_batch log) j) size (block_next log j (omega (arith, below, total)) open_log))
 
         by : (k : ℕ) → pending_count log ≡ k → IsClear N (reads Log (out_events k log ++ s)) next
         by zero total = clear
@@ -81,5 +81,5 @@ module _ (store : SessionStore) where
     pub clear_checked : (sequence from : ℕ) → 1 ≤ sequence → sequence < from → from ≤ 2 ^ 50 → IsClear N (reads Log (Sync Log ∷ check_event sequence from ∷ s)) next
     clear_checked sequence from some order most =
         by_batch (side_batch sequence from) 1 (check_event sequence from ∷ s)
-        (wrote_events Log (file_layout N) (side_batch sequence from) s ready.ringed.places 1 (λ j below. let none : 0 ≡ j = omega (arith, below) in subst (IsNext (file_layout N) (side_batch sequence from)) none (check_next N sequence from some order most)))
+        (wrote_events Log (log_places N) (side_batch sequence from) s ready.ringed.places 1 (λ j below. let none : 0 ≡ j = omega (arith, below) in subst (IsNext (log_places N) (side_batch sequence from)) none (check_next N sequence from some order most)))
         (λ j i n below at le is. omega (arith, at))

@@ -13,7 +13,6 @@ use Rattle.page_text.specs.Text.{IsText}
 use Rattle.places.specs.Beside.{LeavesFile}
 use Rattle.places.specs.Places.{AreWhole, HasPlaces, Layout, place}
 use Rattle.places.specs.Writes.{Done, Failed, IsPart, grows}
-use Rattle.redo_log.specs.Blocks.{file_layout}
 use Rattle.redo_log.specs.Events.{check_event, side_batch}
 use Rattle.redo_log.specs.Fresh.{IsFresh}
 use Rattle.redo_log.proofs.FreshLog.{fresh_make}
@@ -26,6 +25,7 @@ use Rattle.store_form.specs.Made.{AreMadeSpaces, CanBeMade, DifferInId, HasNotId
 use Rattle.store_form.proofs.CreationFiles.{AreSettled, log_at_pages, log_zeros, m_files, m_pages, space_zeros, spaces_at_files}
 use Rattle.store_form.proofs.CreationSteps.{at_after, past_after-append, stopped_first, stopped_here, stopped_then}
 use Rattle.store_form.proofs.SettledFiles.{IsSettledAs, left_reads, left_there}
+use Rattle.crash_image.specs.LogForm.{log_places}
 
 -- a fact at an error
 pub at_err : {T E : Type 0} {P : Type 0} (result : Result T E) → P → OnErr result P
@@ -172,14 +172,14 @@ module _ (header : HeldHeader) (spaces : List SpaceInfo) (old : Past) (can : Can
           some = omega arith;
           there = log.there;
           size = ap length log.reads_as ∙ length-zeros ((3 + header.blocks) * 4096);
-          whole = whole_pages (file_layout header.blocks) spaces (m_files header spaces es) (whole_spaces (file_layout header.blocks) spaces (Make Double (64 * 16896) ∷ Make Log ((3 + header.blocks) * 4096) ∷ es) tt);
+          whole = whole_pages (log_places header.blocks) spaces (m_files header spaces es) (whole_spaces (log_places header.blocks) spaces (Make Double (64 * 16896) ∷ Make Log ((3 + header.blocks) * 4096) ∷ es) tt);
         };
       }
 
   pub log_is_fresh : At (IsFresh header.blocks) (past_after (first_pages_written spaces) (past_after (files_begun header spaces) old))
   log_is_fresh = at_after (first_pages_written spaces) (past_after (files_begun header spaces) old) (λ es is. is) (at_after {Q = λ es. IsFresh header.blocks (events_after (first_pages_written spaces) es)} (files_begun header spaces) old (λ es none. fresh es) absent)
 
-pub header_inside : (blocks : ℕ) (h : Past) → At (HasPlaces Log (file_layout blocks)) h → At (InFile Log 0 4096) h
+pub header_inside : (blocks : ℕ) (h : Past) → At (HasPlaces Log (log_places blocks)) h → At (InFile Log 0 4096) h
 header_inside blocks h at = at_each (λ es is. record { there = is.there; within = let size = is.size in omega (arith, size) }) at
 
 -- ---- the whole
