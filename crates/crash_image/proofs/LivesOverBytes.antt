@@ -87,8 +87,11 @@ module _ (es : List Event) (none : HasNonePending es) (f : FileName) where
       let each = left_of file torn left in
       sym ((each f).3 refl) ∙ none (record { is_made = λ g. is_there g es; bytes = λ g. (each g).0; told = marks es; torn = λ g. (each g).1 }) (record { made = λ g. refl; left = λ g. (each g).2; told = refl }) f
 
+  pub none_pending_whole : (layout : Layout) → 0 < layout.size → AreWhole f layout es → IsFileSettled f layout.size es
+  none_pending_whole layout some whole = settled_by_images f layout es some whole as_read
+
   pub none_pending_places : (layout : Layout) → HasPlaces f layout es → IsFileSettled f layout.size es
-  none_pending_places layout places = settled_by_images f layout es places as_read
+  none_pending_places layout places = none_pending_whole layout places.some places.whole
 
   -- and none of a file of which no empty write is pending was written since its last sync
   pub none_written : HaveBytes f es → IsUnwritten f es

@@ -11,7 +11,7 @@ use Rattle.disk_model.specs.Event.{Event, Open, Make, Write, Sync, Tell, same_fi
 use Rattle.disk_model.specs.Image.{Leaves, Outcome, Lost, Kept, Torn, uncovered}
 use Rattle.disk_model.specs.declared.names.FileName.{FileName}
 use Rattle.disk_model.proofs.CrashImage.{to_true, to_false}
-use Rattle.places.specs.Places.{place, shown, May, IsWritten, Layout, IsPlace, AreWhole, IsUnwritten, HaveBytes, HasPlaces}
+use Rattle.places.specs.Places.{place, shown, May, IsWritten, Layout, IsPlace, AreWhole, IsUnwritten, HaveBytes}
 use Rattle.places.specs.Batches.{IsFileSettled}
 use Rattle.places.proofs.Apart.{place-put_same}
 use Rattle.places.proofs.Left.{in_image, left_size}
@@ -143,19 +143,19 @@ heads_differ (suc k) lt front x y same =
     absurd (omega (arith, heads))
 
 -- Where each image has the file as it reads, each place is what it reads as.
-pub settled_by_images : (f : FileName) (layout : Layout) (es : List Event) → HasPlaces f layout es → ((file : List ℕ) (torn : List (ℕ × ℕ)) → Leaves f es file torn → file ≡ reads f es) → IsFileSettled f layout.size es
-settled_by_images f layout es h same i x may = by x may
+pub settled_by_images : (f : FileName) (layout : Layout) (es : List Event) → 0 < layout.size → AreWhole f layout es → ((file : List ℕ) (torn : List (ℕ × ℕ)) → Leaves f es file torn → file ≡ reads f es) → IsFileSettled f layout.size es
+settled_by_images f layout es some whole same i x may = by x may
   where
     shows : (any : List ℕ) → IsLeftAt f layout.size i es any → any ≡ shown f layout.size i es
     shows any l = sym l.here ∙ ap (place layout.size i) (same l.file l.torn l.left)
 
     by : (x : Option (List ℕ)) → May f layout.size i es x → x ≡ Some (shown f layout.size i es)
-    by (Some there) may = ap (λ (l : List ℕ). Some l) (shows there (left_at f layout h.some i es h.whole (Some there) may there refl))
+    by (Some there) may = ap (λ (l : List ℕ). Some l) (shows there (left_at f layout some i es whole (Some there) may there refl))
     -- a torn place may be read alike zeros and alike ones
     by None may =
-        let zero_here = shows (replicate layout.size 0) (left_at f layout h.some i es h.whole None may (replicate layout.size 0) (length-replicate layout.size 0)) in
-        let one_here = shows (replicate layout.size 1) (left_at f layout h.some i es h.whole None may (replicate layout.size 1) (length-replicate layout.size 1)) in
-        absurd (heads_differ layout.size h.some [] [] [] (ap (λ (l : List ℕ). l ++ []) (zero_here ∙ sym one_here)))
+        let zero_here = shows (replicate layout.size 0) (left_at f layout some i es whole None may (replicate layout.size 0) (length-replicate layout.size 0)) in
+        let one_here = shows (replicate layout.size 1) (left_at f layout some i es whole None may (replicate layout.size 1) (length-replicate layout.size 1)) in
+        absurd (heads_differ layout.size some [] [] [] (ap (λ (l : List ℕ). l ++ []) (zero_here ∙ sym one_here)))
 
 -- ---- a file that no write came to since its last sync
 

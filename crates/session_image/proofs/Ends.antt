@@ -241,10 +241,7 @@ module _ (store : SessionStore) where
         ring_named = ring_named;
         newest = sequence_is;
         log = ready.moment.ringed.places;
-        log_settled = ready.ring.settled;
         files = closed_files;
-        double_settled = ready.double;
-        spaces_settled = ready.spaces;
       }
 
       -- ---- the record

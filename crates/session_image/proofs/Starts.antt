@@ -7,10 +7,14 @@ use Rattle.disk_model.specs.Event.{Event, Tell, reads, is_there, marks, record_o
 use Rattle.disk_model.specs.Image.{Image, IsImage}
 use Rattle.disk_model.specs.Marks.{acked}
 use Rattle.disk_model.specs.declared.names.FileName.{FileName}
-use Rattle.disk_model.specs.declared.names.FileName.TheVariants.{Log}
+use Rattle.disk_model.specs.declared.names.FileName.TheVariants.{Log, Double, Space}
 use Rattle.disk_model.specs.declared.names.Mark.{Mark}
 use Rattle.disk_model.specs.declared.names.Mark.TheVariants.{Started}
 use Rattle.key_ring.specs.Ring.{RingEntry}
+use Rattle.places.specs.Batches.{IsFileSettled}
+use Rattle.page_places.specs.Texts.{page_bytes, slot_size, slots, pages}
+use Rattle.crash_image.specs.LogForm.{log_places}
+use Rattle.crash_image.proofs.LivesOverBytes.{none_pending_places, none_pending_whole}
 use Rattle.places.specs.Places.{place, shown}
 use Rattle.page_places.specs.Views.{view, IsReadAs}
 use Rattle.page_places.proofs.Stages.{read_within}
@@ -28,7 +32,7 @@ use Rattle.store_image.specs.Recovers.{Theory, ViewRecovers, HasKeys}
 use Rattle.store_image.specs.Session.{Session, IsLogOfSession, fresh}
 use Rattle.store_image.specs.SessionPhases.{Ready}
 use Rattle.store_image.specs.StoreAtRest.{IsStill, IsRest}
-use Rattle.store_image.specs.View.{Text, Logged, View, IsLive}
+use Rattle.store_image.specs.View.{block_bytes, Text, Logged, View, IsLive}
 use Rattle.store_image.proofs.LifeMoments.{moment_starts}
 use Rattle.store_image.proofs.RecordCalls.{rest_of}
 use Rattle.store_image.proofs.SessionPuts.{ready_keeps}
@@ -44,7 +48,7 @@ use Rattle.crash_image.specs.Stands.{Named, OfChosen, OfSlot, Rotated}
 use Rattle.crash_image.specs.StoreTheory.{store_theory}
 use Rattle.crash_image.specs.Writes.{Once, Settled, written_items}
 use Rattle.crash_image.proofs.LogForms.{is_form}
-use Rattle.session_image.specs.Kept.{SessionStore, named_keys, session_theory, session_form, session_places, SessionReady, SessionRecordReady, BeginsSession, BeginsRecord, begun, begun_ring}
+use Rattle.session_image.specs.Kept.{SessionStore, page_count, named_keys, session_theory, session_form, session_places, SessionReady, SessionRecordReady, BeginsSession, BeginsRecord, begun, begun_ring}
 use Rattle.session_image.proofs.KeyLaws.{named_key}
 use Rattle.session_image.proofs.Told.{rotated_retold, image_recovers, named_back, rest_told, places_told, files_told}
 
@@ -70,6 +74,17 @@ module _ (store : SessionStore) where
 
     abbrev file : List ℕ
     file = reads Log es
+
+    -- ---- nothing is pending
+
+    log_settled : IsFileSettled Log block_bytes es
+    log_settled = none_pending_places es b.rests.settled Log (log_places N) b.log
+
+    double_settled : IsFileSettled Double slot_size es
+    double_settled = none_pending_places es b.rests.settled Double slots b.files.double
+
+    spaces_settled : (s : ℕ) → IsFileSettled (Space s) page_bytes es
+    spaces_settled s = none_pending_whole es b.rests.settled (Space s) (pages (page_count store.header.spaces s)) (omega arith) (b.files.whole s)
 
     -- ---- the log
 
@@ -109,7 +124,7 @@ module _ (store : SessionStore) where
     none_from n low high m le is = let pos = some in clear (n % N) m (omega (arith, pos)) (omega (arith, low, le)) is
 
     ring_ready : RingReady N F (begun_ring store next sequence es) es
-    ring_ready = ring_begins N F (place 4096 0 file) sequence next (λ n. []) es some b.log b.log_settled refl check older none_from
+    ring_ready = ring_begins N F (place 4096 0 file) sequence next (λ n. []) es some b.log log_settled refl check older none_from
 
     -- ---- the places
 
@@ -128,8 +143,8 @@ module _ (store : SessionStore) where
       home = λ z p. refl;
       slot = λ i. refl;
       told = refl;
-      spaces = b.spaces_settled;
-      double = b.double_settled;
+      spaces = spaces_settled;
+      double = double_settled;
       log = λ l is. let (from, end, run) = says l is in λ i. record { from = (from ∙ sym begins_at_end) i; end = end i; run = (run ∙ sym b.rests.empty) i };
     }
 
@@ -192,8 +207,8 @@ module _ (store : SessionStore) where
       };
       ring = ring_ready;
       ready = ready none;
-      double = b.double_settled;
-      spaces = b.spaces_settled;
+      double = double_settled;
+      spaces = spaces_settled;
       from = refl;
       newest = refl;
       written = refl;
@@ -242,10 +257,7 @@ module _ (store : SessionStore) where
       ring_named = b.ring_named;
       newest = b.newest;
       log = places_told Started es Log _ b.log;
-      log_settled = b.log_settled;
       files = files_told Started es store b.files;
-      double_settled = b.double_settled;
-      spaces_settled = b.spaces_settled;
     }
 
     pub record_begins_told : BeginsRecord store next es b.rests → BeginsRecord store next (Tell Started ∷ es) (rest_told Started es store.book store.base next b.rests)

@@ -43,9 +43,10 @@ abbrev pub page_count : List HeldSpace → ℕ → ℕ
 page_count [] s = 0
 page_count (x ∷ xs) s = if nat_eq x.space s then x.pages else page_count xs s
 
--- each key of the ring is the book's
-abbrev pub IsOfBook : List RingEntry → List RingEntry → Type 0
-IsOfBook ring book = (id version : ℕ) → IsSome (ring_key ring id version) → ring_key book id version ≡ ring_key ring id version
+-- The book has each key of the ring, and as a ring none of version 0, which is that of a page in clear.
+pub record IsOfBook (ring book : List RingEntry) : Type 0 where
+  pub keys : (id version : ℕ) → IsSome (ring_key ring id version) → ring_key book id version ≡ ring_key ring id version
+  pub clear : (id : ℕ) → ring_key book id 0 ≡ None
 
 -- each key of the ring is among the named pairs
 abbrev pub IsRingNamed : List RingEntry → List (ℕ × ℕ) → Type 0
@@ -150,12 +151,9 @@ module _ (store : SessionStore) where
     pub of_book : IsOfBook ring store.book
     pub ring_named : IsRingNamed ring store.named
     pub newest : rests.recovers.by.run.run.sequence ≡ sequence
-    -- each file was written in whole places, and nothing is pending
+    -- each file was written in whole places
     pub log : HasPlaces Log (log_places store.header.blocks) es
-    pub log_settled : IsFileSettled Log 4096 es
     pub files : SessionFiles es
-    pub double_settled : IsFileSettled Double slot_size es
-    pub spaces_settled : (s : ℕ) → IsFileSettled (Space s) page_bytes es
 
   -- What it needs of the record of writes beside that, so that no number serves two texts.
   pub record BeginsRecord (next : ℕ) (es : List Event) (rests : IsAtRest es store.book store.base next) : Type 0 where
