@@ -1,1 +1,6 @@
+pub mod Walks
+pub mod Files
+pub mod Stages
+pub mod Notes
+pub mod Heads
 pub mod Putting

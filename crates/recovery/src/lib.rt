@@ -1,6 +1,42 @@
-//! Opening a store.
+//! Opening a store: what its disk says is found stage by stage, and the first reason is answered for
+//! which it isn't to be opened.
+//!
+//! Stages that only read. Each leaves the disk's past as it was, answers the disk's
+//! fault only where its count of faults rose, and states its refusals over the disk as it reads:
+//!
+//! 1. [`find_header`] finds the header, and refuses a log that isn't that of a store.
+//! 2. [`check_lengths`] refuses the first file that has another length than the header says.
+//! 3. [`find_checkpoint`] finds the newest valid checkpoint, or that there is none.
+//! 4. [`find_pages`] finds what each page is read from, and refuses the first that can't be read.
+//! 5. [`find_heads`] reads what the spaces are from their page 0, and refuses the first that says
+//!    something else than the header.
+//! 6. [`check_floors`] refuses the first space whose least version is above the active one, and
+//!    [`check_numbers`] a log whose numbers end before the store could go on.
+//!
+//! Behind them stands [`put_group`]: a group of sealed pages is stored and written home.
 #![tactic(auto)]
 
+mod checkpoint;
+mod floors;
+mod header;
+mod heads;
+mod layout;
+mod lengths;
+mod notes;
+mod pages;
 mod putting;
+mod reading;
 
+pub use checkpoint::find_checkpoint;
+pub use floors::{check_floors, check_numbers};
+pub use header::find_header;
+pub use heads::{HeadField, Width, find_heads};
+pub use lengths::check_lengths;
+pub use notes::{NoteSource, PageNote, PageNotes, SpaceNotes};
+pub use pages::find_pages;
 pub use putting::put_group;
+
+#[cfg(test)]
+mod fixture;
+#[cfg(test)]
+mod tests;

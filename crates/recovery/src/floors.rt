@@ -1,0 +1,44 @@
+// What is refused by numbers alone: a space whose least version isn't reached, and a log without numbers.
+ghost use Rattle.std.specs.Prelude.{◌≡◌, ◌+◌, ◌≤◌, ◌<◌, ◌^◌, IfErr, OnOk};
+ghost use Rattle.recovery.specs.Stages.{AreFloorsBelow, IsFloorRefusal, IsNumberRefusal};
+
+use doublewrite::OpenRefuse;
+use redo_text::LAST_BLOCK;
+use space_head::SpaceInfo;
+
+/// Refuses the first space whose least key version is above the active one. It takes no memory.
+///
+/// # Errors
+/// [`OpenRefuse::VersionBelowFloor`] exactly where there is one.
+pub fn check_floors(spaces: &[SpaceInfo], active: u32) -> Result<(), OpenRefuse>
+    ensures ok { OnOk result (AreFloorsBelow active spaces.now) }
+    ensures refused { IfErr result (IsFloorRefusal active spaces.now) }
+{
+    for space in spaces {
+        if active < space.floor {
+            return Err(OpenRefuse::VersionBelowFloor {
+                space: space.space,
+                floor: space.floor,
+                version: active,
+            });
+        }
+    }
+    Ok(())
+}
+
+/// Refuses a log whose numbers end before a store could go on a ring behind the run that ends with
+/// block `last`. It takes no memory.
+///
+/// # Errors
+/// [`OpenRefuse::Spent`] exactly where `last + 1 + blocks` is above 2^35.
+pub fn check_numbers(last: u64, blocks: u64) -> Result<(), OpenRefuse>
+    requires last { last ≤ 2 ^ 51 }
+    requires blocks { blocks ≤ 4096 }
+    ensures ok { OnOk result (last + 1 + blocks ≤ 2 ^ 35) }
+    ensures refused { IfErr result (IsNumberRefusal blocks last) }
+{
+    if last + 1 + blocks > LAST_BLOCK {
+        return Err(OpenRefuse::Spent { last });
+    }
+    Ok(())
+}

@@ -1,0 +1,10 @@
+// Sizes of a store's files and of their places.
+
+// A block of the log's file in bytes.
+pub(crate) const BLOCK: usize = store_files::BLOCK_BYTES;
+// The same for places in the file.
+pub(crate) const BLOCK_BYTES: u64 = store_files::BLOCK_BYTES as u64;
+// A page in bytes.
+pub(crate) const PAGE: usize = page_places::PAGE_BYTES;
+// The same for places in a space's file.
+pub(crate) const PAGE_BYTES: u64 = page_places::PAGE_BYTES as u64;
