@@ -7,6 +7,19 @@ use Rattle.byte_list.specs.Bytes.{range, zeros}
 use Rattle.bytes_core.specs.Crc.{crc32c}
 use Rattle.redo_text.specs.declared.key.RedoKey.{RedoKey}
 
+-- the bytes of a ring block, those of its text or body, where the body begins, and where the checksum stands behind it
+abbrev pub ring_block_size : ℕ
+ring_block_size = 4096
+
+abbrev pub ring_body_size : ℕ
+ring_body_size = 4076
+
+abbrev pub ring_body_at : ℕ
+ring_body_at = 16
+
+abbrev pub ring_sum_at : ℕ
+ring_sum_at = 4092
+
 -- a text with its checksum behind it
 abbrev pub sealed : List ℕ → List ℕ
 sealed text = text ++ to_be_bytes w32 (crc32c text)
@@ -25,7 +38,7 @@ log_iv number = to_le_bytes w32 0xFFFFFFF0 ++ (to_le_bytes w32 0 ++ to_le_bytes 
 
 -- the body in clear: the text and zero bytes after it
 abbrev pub filled : List ℕ → List ℕ
-filled text = text ++ zeros (4076 - length text)
+filled text = text ++ zeros (ring_body_size - length text)
 
 -- the body under the key
 abbrev pub enciphered_body : RedoKey → ℕ → List ℕ → List ℕ
@@ -37,11 +50,11 @@ ring_block key number first last text = sealed (head number key.version (length 
 
 -- how many blocks a text has: its length by 4076, rounded up
 abbrev pub block_count : List ℕ → ℕ
-block_count text = div_ceil (length text) 4076
+block_count text = div_ceil (length text) ring_body_size
 
 -- the part of a text that its block k holds, k from 0
 abbrev pub text_part : List ℕ → ℕ → List ℕ
-text_part text k = range (4076 * k) 4076 text
+text_part text k = range (ring_body_size * k) ring_body_size text
 
 -- block k of a text whose block 0 has this number
 abbrev pub nth_block : RedoKey → ℕ → List ℕ → ℕ → List ℕ

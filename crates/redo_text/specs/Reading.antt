@@ -7,7 +7,7 @@ use Rattle.aes_core.specs.Algorithm.{deciphered}
 use Rattle.redo_text.specs.declared.fault.BlockFault.{BlockFault}
 use Rattle.redo_text.specs.declared.fault.BlockFault.TheVariants.{BadBlock, BadHead, WrongNumber}
 use Rattle.redo_text.specs.declared.key.RedoKey.{RedoKey}
-use Rattle.redo_text.specs.Block.{log_iv}
+use Rattle.redo_text.specs.Block.{log_iv, ring_body_at, ring_body_size, ring_sum_at}
 
 -- the fields of a block
 abbrev pub number_of : List ℕ → ℕ
@@ -23,14 +23,14 @@ abbrev pub block_flags : List ℕ → ℕ
 block_flags block = be16_at block 14
 
 abbrev pub block_body : List ℕ → List ℕ
-block_body block = range 16 4076 block
+block_body block = range ring_body_at ring_body_size block
 
 abbrev pub stored_block_sum : List ℕ → ℕ
-stored_block_sum block = be32_at block 4092
+stored_block_sum block = be32_at block ring_sum_at
 
 -- the checksum that the bytes before it have
 abbrev pub computed_block_sum : List ℕ → ℕ
-computed_block_sum block = crc32c (range 0 4092 block)
+computed_block_sum block = crc32c (range 0 ring_sum_at block)
 
 -- whether these flags say that the block is the first, or the last, of its mini-transaction
 abbrev pub is_first : ℕ → Bool
@@ -41,7 +41,7 @@ is_last flags = flags / 2 % 2 == 1
 
 -- a used length that the flags allow: 1 to 4076, and 4076 in a block that isn't the last
 unfoldable pub fits_used : ℕ → ℕ → Bool
-fits_used used flags = leb 1 used && (leb used 4076 && (is_last flags || (used == 4076)))
+fits_used used flags = leb 1 used && (leb used ring_body_size && (is_last flags || (used == ring_body_size)))
 
 -- the first fault of a block that is wanted under a number, or none
 unfoldable pub reading : ℕ → List ℕ → Result (Unit {0}) BlockFault
@@ -58,4 +58,4 @@ abbrev pub clear_body : RedoKey → List ℕ → List ℕ
 clear_body key block = deciphered key.algorithm key.local (log_iv (number_of block)) (block_body block)
 
 abbrev pub block_in_clear : RedoKey → List ℕ → List ℕ
-block_in_clear key block = put 16 (clear_body key block) block
+block_in_clear key block = put ring_body_at (clear_body key block) block

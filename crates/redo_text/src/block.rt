@@ -5,11 +5,12 @@ ghost use Rattle.aes_core.specs.Algorithm.{ciphered};
 ghost use Rattle.aes_core.specs.Modes.{joined};
 ghost use Rattle.byte_list.specs.Bytes.{AreBytes, put, range, zeros};
 ghost use Rattle.bytes_core.specs.Crc.{crc32c};
-ghost use Rattle.redo_text.specs.Block.{AreOf, block_count, blocks, filled, flags, head, log_iv, nth_block, ring_block, text_part};
+ghost use Rattle.redo_text.specs.Block.{AreOf, block_count, blocks, filled, flags, head, log_iv, nth_block, ring_block, ring_block_size, ring_body_at, ring_body_size, ring_sum_at, text_part};
 ghost use Rattle.redo_text.specs.Reading.{block_body, block_in_clear, number_of};
 
 use crate::RedoKey;
 use crate::key::log_iv;
+use crate::layout::{BODY_AT, BODY_BYTES, RING_BLOCK_BYTES, SUM_AT};
 use aes_core::BlockKey;
 use byte_list::fields::{be64_at, put, put_be32};
 use bytes_core::crc32c;
@@ -37,22 +38,22 @@ fn head(number: u64, version: u32, used: u16, flags: u16) -> [u8; 16]
 
 // Enciphers the body of a block.
 fn encipher_body(block: &mut [u8], number: u64, key: &RedoKey, block_key: &BlockKey)
-    requires size { length block.old ≡ 4096 }
+    requires size { length block.old ≡ ring_block_size }
     requires keyed { block_key.now ≡ key.now.local }
-    ensures value { block.new ≡ put 16 (ciphered key.now.algorithm key.now.local (log_iv number) (block_body block.old)) block.old }
-    ensures long { length (ciphered key.now.algorithm key.now.local (log_iv number) (block_body block.old)) ≡ 4076 }
+    ensures value { block.new ≡ put ring_body_at (ciphered key.now.algorithm key.now.local (log_iv number) (block_body block.old)) block.old }
+    ensures long { length (ciphered key.now.algorithm key.now.local (log_iv number) (block_body block.old)) ≡ ring_body_size }
 {
     key.algorithm
-        .encrypt(block_key, &log_iv(number), &mut block[16..4092]);
+        .encrypt(block_key, &log_iv(number), &mut block[BODY_AT..SUM_AT]);
 }
 
 // Writes the checksum of all bytes before the last four into these.
 pub(crate) fn write_sum(block: &mut [u8])
-    requires { length block.old ≡ 4096 }
-    ensures { block.new ≡ put 4092 (to_be_bytes w32 (crc32c (range 0 4092 block.old))) block.old }
+    requires { length block.old ≡ ring_block_size }
+    ensures { block.new ≡ put ring_sum_at (to_be_bytes w32 (crc32c (range 0 ring_sum_at block.old))) block.old }
 {
-    let sum = crc32c(&block[..4092]);
-    put_be32(block, 4092, sum);
+    let sum = crc32c(&block[..SUM_AT]);
+    put_be32(block, SUM_AT, sum);
 }
 
 // Writes a block over zero bytes.
@@ -65,8 +66,8 @@ fn write_block(
     key: &RedoKey,
     block_key: &BlockKey,
 )
-    requires clear { block.old ≡ zeros 4096 }
-    requires most { length text.now ≤ 4076 }
+    requires clear { block.old ≡ zeros ring_block_size }
+    requires most { length text.now ≤ ring_body_size }
     requires keyed { block_key.now ≡ key.now.local }
     ensures { block.new ≡ ring_block key.now number first last text.now }
 {
@@ -81,9 +82,9 @@ fn write_block(
 fn text_part(text: &[u8], k: usize) -> &[u8]
     requires { k < block_count text.now }
     ensures value { result.now ≡ text_part text.now k }
-    ensures most { length result.now ≤ 4076 }
+    ensures most { length result.now ≤ ring_body_size }
 {
-    let behind = &text[4076 * k..];
+    let behind = &text[BODY_BYTES * k..];
     &behind[..4076usize.min(behind.len())]
 }
 
@@ -96,13 +97,13 @@ fn write_nth(
     key: &RedoKey,
     block_key: &BlockKey,
 )
-    requires clear { block.old ≡ zeros 4096 }
+    requires clear { block.old ≡ zeros ring_block_size }
     requires within { k < block_count text.now }
     requires number { first + k < 2 ^ 64 }
     requires keyed { block_key.now ≡ key.now.local }
     ensures { block.new ≡ nth_block key.now first text.now k }
 {
-    let count = text.len().div_ceil(4076);
+    let count = text.len().div_ceil(BODY_BYTES);
     let part = text_part(text, k);
     write_block(
         block,
@@ -116,16 +117,16 @@ fn write_nth(
 }
 
 fn write_under(out: &mut [u8], first: u64, text: &[u8], key: &RedoKey, block_key: &BlockKey)
-    requires clear { out.old ≡ zeros (4096 * block_count text.now) }
+    requires clear { out.old ≡ zeros (ring_block_size * block_count text.now) }
     requires number { first + block_count text.now < 2 ^ 64 }
     requires keyed { block_key.now ≡ key.now.local }
     ensures value { out.new ≡ blocks key.now first text.now }
-    ensures each { AreOf 4096 (nth_block key.now first text.now) (block_count text.now) }
+    ensures each { AreOf ring_block_size (nth_block key.now first text.now) (block_count text.now) }
 {
-    let count = text.len().div_ceil(4076);
+    let count = text.len().div_ceil(BODY_BYTES);
     for k in 0..count {
         write_nth(
-            &mut out[4096 * k..4096 * k + 4096],
+            &mut out[RING_BLOCK_BYTES * k..RING_BLOCK_BYTES * k + RING_BLOCK_BYTES],
             k,
             first,
             text,
@@ -137,10 +138,10 @@ fn write_under(out: &mut [u8], first: u64, text: &[u8], key: &RedoKey, block_key
 
 // Writes the blocks of a text over zero bytes, the first block of this number.
 pub(crate) fn write_blocks(out: &mut [u8], first: u64, text: &[u8], key: &RedoKey)
-    requires clear { out.old ≡ zeros (4096 * block_count text.now) }
+    requires clear { out.old ≡ zeros (ring_block_size * block_count text.now) }
     requires number { first + block_count text.now < 2 ^ 64 }
     ensures value { out.new ≡ blocks key.now first text.now }
-    ensures each { AreOf 4096 (nth_block key.now first text.now) (block_count text.now) }
+    ensures each { AreOf ring_block_size (nth_block key.now first text.now) (block_count text.now) }
 {
     if let Some(block_key) = BlockKey::new(&key.local) {
         write_under(out, first, text, key, &block_key);
@@ -150,29 +151,29 @@ pub(crate) fn write_blocks(out: &mut [u8], first: u64, text: &[u8], key: &RedoKe
 }
 
 fn decipher_under(bytes: &mut [u8], key: &RedoKey, block_key: &BlockKey)
-    requires size { length bytes.old ≡ 4096 }
+    requires size { length bytes.old ≡ ring_block_size }
     requires keyed { block_key.now ≡ key.now.local }
     ensures value { bytes.new ≡ block_in_clear key.now bytes.old }
     ensures inverse { ciphered key.now.algorithm key.now.local (log_iv (number_of bytes.old)) (block_body bytes.new) ≡ block_body bytes.old }
     ensures undoes { (p : List ℕ) → AreBytes p → block_body bytes.old ≡ ciphered key.now.algorithm key.now.local (log_iv (number_of bytes.old)) p → block_body bytes.new ≡ p }
-    ensures text { (number : ℕ) (first last : Bool) (text : List ℕ) → number < 2 ^ 64 → AreBytes text → length text ≤ 4076 → bytes.old ≡ ring_block key.now number first last text → range 16 (length text) bytes.new ≡ text }
+    ensures text { (number : ℕ) (first last : Bool) (text : List ℕ) → number < 2 ^ 64 → AreBytes text → length text ≤ ring_body_size → bytes.old ≡ ring_block key.now number first last text → range ring_body_at (length text) bytes.new ≡ text }
 {
     let number = be64_at(bytes, 0);
     key.algorithm
-        .decrypt(block_key, &log_iv(number), &mut bytes[16..4092]);
+        .decrypt(block_key, &log_iv(number), &mut bytes[BODY_AT..SUM_AT]);
 }
 
 /// Deciphers the body of a ring block in place; its other bytes stay. The text of a block is the
 /// first bytes of its body then, as many as its used length says. What stands after them may be
 /// anything.
 pub fn decipher_block(bytes: &mut [u8], key: &RedoKey)
-    requires size { length bytes.old ≡ 4096 }
+    requires size { length bytes.old ≡ ring_block_size }
     ensures value { bytes.new ≡ block_in_clear key.now bytes.old }
     // The body that is left enciphers to the one that was there, and a body that was enciphered comes back.
     ensures inverse { ciphered key.now.algorithm key.now.local (log_iv (number_of bytes.old)) (block_body bytes.new) ≡ block_body bytes.old }
     ensures undoes { (p : List ℕ) → AreBytes p → block_body bytes.old ≡ ciphered key.now.algorithm key.now.local (log_iv (number_of bytes.old)) p → block_body bytes.new ≡ p }
     // So the text of a block comes back.
-    ensures text { (number : ℕ) (first last : Bool) (text : List ℕ) → number < 2 ^ 64 → AreBytes text → length text ≤ 4076 → bytes.old ≡ ring_block key.now number first last text → range 16 (length text) bytes.new ≡ text }
+    ensures text { (number : ℕ) (first last : Bool) (text : List ℕ) → number < 2 ^ 64 → AreBytes text → length text ≤ ring_body_size → bytes.old ≡ ring_block key.now number first last text → range ring_body_at (length text) bytes.new ≡ text }
 {
     if let Some(block_key) = BlockKey::new(&key.local) {
         decipher_under(bytes, key, &block_key);

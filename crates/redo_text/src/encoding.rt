@@ -3,11 +3,12 @@ ghost use Rattle.std.specs.Prelude.{◌≡◌, ◌+◌, ◌*◌, ◌∷◌, ◌+
 ghost use Rattle.std.specs.Int.{to_be_bytes, w32};
 ghost use Rattle.byte_list.specs.Bytes.{AreBytes};
 ghost use Rattle.redo_text.specs.declared.change.Change.{Change};
-ghost use Rattle.redo_text.specs.Block.{AreOf, block_count, blocks, nth_block};
+ghost use Rattle.redo_text.specs.Block.{AreOf, block_count, blocks, nth_block, ring_block_size};
 ghost use Rattle.redo_text.specs.Text.{change_text, text_of, IsAllowed, AreAllowed};
 
 use crate::block::write_blocks;
 use crate::changes::known_bytes;
+use crate::layout::{BODY_BYTES, RING_BLOCK_BYTES};
 use crate::{Change, Mtr, Piece, RedoKey};
 use byte_list::zero_bytes;
 use cause_core::OutOfMemory;
@@ -106,17 +107,17 @@ pub fn mtr_blocks(mtr: &Mtr) -> usize
     for change in mtr.changes() {
         len += text_len(change);
     }
-    len.div_ceil(4076)
+    len.div_ceil(BODY_BYTES)
 }
 
 // The blocks of a text, the first of them of this number.
 fn blocks_of(alloc: Global, text: &[u8], first: u64, key: &RedoKey) -> Result<Vec<u8>, AllocError>
     requires { first + block_count text.now ≤ 2 ^ 50 }
     ensures value { IfOk result (λ v. v.items ≡ blocks key.now first text.now) }
-    ensures each { IfOk result (λ v. AreOf 4096 (nth_block key.now first text.now) (block_count text.now)) }
+    ensures each { IfOk result (λ v. AreOf ring_block_size (nth_block key.now first text.now) (block_count text.now)) }
 {
-    let count = text.len().div_ceil(4076);
-    let mut out = zero_bytes(alloc, 4096 * count)?;
+    let count = text.len().div_ceil(BODY_BYTES);
+    let mut out = zero_bytes(alloc, RING_BLOCK_BYTES * count)?;
     write_blocks(&mut out, first, text, key);
     Ok(out)
 }
@@ -136,8 +137,8 @@ pub fn encode(alloc: Global, mtr: &Mtr, first: u64, key: &RedoKey) -> Result<Vec
     requires last { first + block_count (text_of mtr.now) ≤ 2 ^ 50 }
     ensures blocks { IfOk result (λ v. v.items ≡ blocks key.now first (text_of mtr.now)) }
     // Each of them has 4096 bytes.
-    ensures each { IfOk result (λ v. AreOf 4096 (nth_block key.now first (text_of mtr.now)) (block_count (text_of mtr.now))) }
-    ensures len { IfOk result (λ v. length v.items ≡ 4096 * block_count (text_of mtr.now)) }
+    ensures each { IfOk result (λ v. AreOf ring_block_size (nth_block key.now first (text_of mtr.now)) (block_count (text_of mtr.now))) }
+    ensures len { IfOk result (λ v. length v.items ≡ ring_block_size * block_count (text_of mtr.now)) }
     ensures bytes { OnOk result (AreBytes (text_of mtr.now)) }
     // The text determines the changes, so no other list of changes has these blocks' text.
     ensures only { (other : List Change) → AreAllowed other → text_of other ≡ text_of mtr.now → other ≡ mtr.now }

@@ -23,6 +23,7 @@ mod changes;
 mod encoding;
 mod fault;
 mod key;
+mod layout;
 mod view;
 
 pub use block::decipher_block;
@@ -31,6 +32,7 @@ pub use changes::{ChangeView, Changes};
 pub use encoding::{encode, mtr_blocks};
 pub use fault::{BadRecord, BlockFault};
 pub use key::{LAST_BLOCK, RedoKey};
+pub use layout::RING_BLOCK_BYTES;
 pub use view::{BlockView, read_block};
 
 #[cfg(test)]

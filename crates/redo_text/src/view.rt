@@ -2,13 +2,14 @@
 ghost use Rattle.std.specs.Prelude.{◌≡◌, ◌≢◌, ℕ, ◌+◌, ◌<◌, ◌≤◌, ◌^◌, Bool, true, false, not, List, Result, Ok, Err, length, IfOk, IfErr, IsErrAnd};
 ghost use Rattle.byte_list.specs.Bytes.{AreBytes};
 ghost use Rattle.bytes_core.specs.LastByte.{EndsInCrc32c, last_inverted};
-ghost use Rattle.redo_text.specs.Block.{ring_block};
+ghost use Rattle.redo_text.specs.Block.{ring_block, ring_block_size, ring_body_size};
 ghost use Rattle.redo_text.specs.Reading.{block_body, computed_block_sum, fits_used, block_flags, is_first, is_last, reading, stored_block_sum, used_of, block_version};
 ghost use Rattle.redo_text.specs.declared.fault.BlockFault.{BlockFault};
 ghost use Rattle.redo_text.specs.declared.key.RedoKey.{RedoKey};
 
 use crate::BlockFault;
 use crate::changes::known_bytes;
+use crate::layout::{BODY_AT, MOST_USED, SUM_AT};
 use byte_list::fields::{be16_at, be32_at, be64_at};
 use bytes_core::crc32c;
 use std::marker::Model;
@@ -24,7 +25,7 @@ impl<'a> Model for BlockView<'a> {
 
     ghost view = { λ block. block.bytes.now };
 
-    ghost invariant = { λ block. length block.bytes.now ≡ 4096 };
+    ghost invariant = { λ block. length block.bytes.now ≡ ring_block_size };
 }
 
 impl<'a> BlockView<'a> {
@@ -60,7 +61,7 @@ impl<'a> BlockView<'a> {
     pub fn body(&self) -> &'a [u8]
         ensures { result.now ≡ block_body self.now }
     {
-        &self.bytes[16..4092]
+        &self.bytes[BODY_AT..SUM_AT]
     }
 }
 
@@ -68,16 +69,16 @@ impl<'a> BlockView<'a> {
 fn fits_used(used: u16, flags: u16) -> bool
     ensures { result ≡ fits_used used flags }
 {
-    1 <= used && used <= 4076 && (flags / 2 % 2 == 1 || used == 4076)
+    1 <= used && used <= MOST_USED && (flags / 2 % 2 == 1 || used == MOST_USED)
 }
 
 #[tactic(auto, unfolding(crate::specs::Reading::reading))]
 fn check_block(bytes: &[u8], number: u64) -> Result<(), BlockFault>
-    requires { length bytes.now ≡ 4096 }
+    requires { length bytes.now ≡ ring_block_size }
     ensures { result ≡ reading number bytes.now }
 {
-    let stored = be32_at(bytes, 4092);
-    let computed = crc32c(&bytes[..4092]);
+    let stored = be32_at(bytes, SUM_AT);
+    let computed = crc32c(&bytes[..SUM_AT]);
     if stored != computed {
         return Err(BlockFault::BadBlock { stored, computed });
     }
@@ -107,12 +108,12 @@ fn check_block(bytes: &[u8], number: u64) -> Result<(), BlockFault>
 /// The first of these, in this order: [`BlockFault::BadBlock`], [`BlockFault::WrongNumber`],
 /// [`BlockFault::BadHead`].
 pub fn read_block<'a>(bytes: &'a [u8], number: u64) -> Result<BlockView<'a>, BlockFault>
-    requires { length bytes.now ≡ 4096 }
+    requires { length bytes.now ≡ ring_block_size }
     // The first fault in order, or none, and the view is of these bytes.
     ensures view { IfOk result (λ view. (view ≡ bytes.now) × (reading number bytes.now ≡ Ok tt)) }
     ensures fault { IfErr result (λ fault. reading number bytes.now ≡ Err fault) }
     // Each block of a mini-transaction is taken, under its own number, version, flags and used length.
-    ensures taken { (key : RedoKey) (first last : Bool) (text : List ℕ) → bytes.now ≡ ring_block key number first last text → 1 ≤ key.version → key.version < 2 ^ 32 → 1 ≤ length text → length text ≤ 4076 → (last ≡ false → length text ≡ 4076)
+    ensures taken { (key : RedoKey) (first last : Bool) (text : List ℕ) → bytes.now ≡ ring_block key number first last text → 1 ≤ key.version → key.version < 2 ^ 32 → 1 ≤ length text → length text ≤ ring_body_size → (last ≡ false → length text ≡ ring_body_size)
         → (reading number bytes.now ≡ Ok tt) × (block_version bytes.now ≡ key.version) × (used_of bytes.now ≡ length text) × (is_first (block_flags bytes.now) ≡ first) × (is_last (block_flags bytes.now) ≡ last) }
     // A block whose last byte was inverted isn't.
     ensures inverted { (whole : List ℕ) → AreBytes whole → reading number whole ≡ Ok tt → bytes.now ≡ last_inverted whole → IsErrAnd result (λ fault. fault ≡ BlockFault.BadBlock (stored_block_sum bytes.now) (computed_block_sum bytes.now)) }
