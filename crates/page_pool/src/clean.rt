@@ -4,6 +4,7 @@ ghost use Rattle.std.specs.Prelude.{◌≡◌, ◌+◌, ◌<◌, true, false, na
 ghost use Rattle.std.specs.Option.{option_map};
 ghost use Rattle.std.specs.Map.{lookup, remove_entry};
 ghost use Rattle.lru.specs.LruCache.{promoted};
+ghost use Rattle.page_places.specs.Texts.{page_bytes};
 ghost use Rattle.page_pool.specs.Changes.{admitted};
 ghost use Rattle.page_pool.specs.Pages.{IsCleanList, is_name, plain_page};
 ghost use Rattle.page_pool.specs.Slots.{AreSlots, emptied, empty_slots, held_in, slot_holding};
@@ -140,7 +141,7 @@ impl CleanPages {
     // The bytes of a clean page.
     pub(crate) fn page(&self, name: PageName) -> Option<&[u8]>
         ensures page { option_map (λ bytes. plain_page bytes.now) result ≡ lookup (is_name name) self.now }
-        ensures whole { IfSome result (λ bytes. length bytes.now ≡ 16384) }
+        ensures whole { IfSome result (λ bytes. length bytes.now ≡ page_bytes) }
     {
         match page_in(&self.slots, name) {
             Some(frame) => Some(frame.bytes()),

@@ -3,6 +3,7 @@
 ghost use Rattle.std.specs.Prelude.{◌≡◌, ◌<◌, ◌≤◌, true, false, length, slice_get, slice_set, slice_index_or, MatchOption, Some, IfOk, []};
 ghost use Rattle.redo_text.specs.Changes.{change_of};
 ghost use Rattle.redo_text.specs.Text.{IsAllowed};
+ghost use Rattle.page_places.specs.Texts.{page_bytes};
 ghost use Rattle.page_pool.specs.Changes.{changed_again};
 ghost use Rattle.page_pool.specs.Pages.{IsDirtyList, entered, is_dirty, name_of_dirty, place_of, plain_page, without};
 
@@ -65,7 +66,7 @@ impl DirtyPages {
     pub(crate) fn page(&self, i: usize) -> &[u8]
         requires { i < length self.now.entries }
         ensures page { slice_get self.now.pages i ≡ Some (plain_page result.now) }
-        ensures whole { length result.now ≡ 16384 }
+        ensures whole { length result.now ≡ page_bytes }
     {
         self.frames[i].bytes()
     }

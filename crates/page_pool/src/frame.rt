@@ -5,19 +5,18 @@ ghost use Rattle.std.specs.Int.{to_be_bytes, w32};
 ghost use Rattle.redo_text.specs.Changes.{change_of};
 ghost use Rattle.redo_text.specs.Text.{IsAllowed, IsRange};
 ghost use Rattle.store_model.specs.Fold.{used, written};
+ghost use Rattle.page_places.specs.Texts.{page_bytes};
 ghost use Rattle.page_pool.specs.Pages.{plain_page};
 ghost use Rattle.page_pool.specs.Changes.{body_written, kind_set, page_changed_by};
 
 use byte_list::fields::{put, put_be16};
 use byte_list::zero_bytes;
 use cause_core::OutOfMemory;
+use page_places::PAGE_BYTES;
 use redo_text::ChangeView;
 use space_head::{RECORD_MINIMUM, RECORD_MODE, RECORD_TYPE, record_place};
 use std::alloc::Global;
 use std::marker::Model;
-
-/// How many bytes a page has.
-pub const PAGE_BYTES: usize = 16384;
 
 // Where the type of a page stands in it.
 const KIND_PLACE: usize = 24;
@@ -30,6 +29,7 @@ pub(crate) struct Frame {
 
 impl Model for Frame {
     ghost use Rattle.std.specs.Prelude.{◌≡◌, length};
+    ghost use Rattle.page_places.specs.Texts.{page_bytes};
     ghost use Rattle.page_pool.specs.Pages.{plain_page};
     ghost use Rattle.store_model.specs.declared.contents.PlainPage.{PlainPage};
 
@@ -37,7 +37,7 @@ impl Model for Frame {
 
     ghost view = { λ f. plain_page f.bytes.items };
 
-    ghost invariant = { λ f. length f.bytes.items ≡ 16384 };
+    ghost invariant = { λ f. length f.bytes.items ≡ page_bytes };
 }
 
 impl Frame {
@@ -51,7 +51,7 @@ impl Frame {
 
     // A copy of a page's bytes.
     pub(crate) fn copy_of(alloc: Global, page: &[u8]) -> Result<Frame, OutOfMemory>
-        requires { length page.now ≡ 16384 }
+        requires { length page.now ≡ page_bytes }
         ensures { IfOk result (λ f. f ≡ plain_page page.now) }
     {
         let bytes = page.to_vec(alloc)?;
@@ -60,7 +60,7 @@ impl Frame {
 
     pub(crate) fn bytes(&self) -> &[u8]
         ensures page { plain_page result.now ≡ self.now }
-        ensures whole { length result.now ≡ 16384 }
+        ensures whole { length result.now ≡ page_bytes }
     {
         &self.bytes
     }

@@ -25,6 +25,5 @@ mod tests;
 pub use clean::MOST_CLEAN;
 pub use dirty::MOST_DIRTY;
 pub use fault::PoolFault;
-pub use frame::PAGE_BYTES;
 pub use names::{DirtyPage, PageName};
 pub use pool::Pool;

@@ -2,6 +2,7 @@
 
 ghost use Rattle.std.specs.Prelude.{◌≡◌, ◌<◌, ◌≤◌, ⊤, false, Some, [], is_some, length, slice_get, All, OnOk, OnErr, IfOk, IfSome};
 ghost use Rattle.std.specs.Option.{option_map};
+ghost use Rattle.page_places.specs.Texts.{page_bytes};
 ghost use Rattle.page_pool.specs.Changes.{admitted, cleaned, found_page};
 ghost use Rattle.page_pool.specs.Pages.{AreInOrder, AreNamedOnce, IsPool, held_page, is_held, place_of, plain_page, without};
 
@@ -57,7 +58,7 @@ impl Pool {
         ensures* used { sem 𝓛 (follows_so the_row the_row self.entry.ghost_name none (λ _ _. ⊤) (λ new. new ≡ found_page (record { space = space; page = page }) self.old)) }
         ensures page { option_map (λ bytes. plain_page bytes.now) result ≡ held_page (record { space = space; page = page }) self.old }
         ensures held { is_some result ≡ is_held (record { space = space; page = page }) self.old }
-        ensures whole { IfSome result (λ bytes. length bytes.now ≡ 16384) }
+        ensures whole { IfSome result (λ bytes. length bytes.now ≡ page_bytes) }
     {
         let name = PageName { space, page };
         self.clean_to_front(name);
@@ -75,7 +76,7 @@ impl Pool {
     fn held(&self, name: PageName) -> Option<&[u8]>
         ensures page { option_map (λ bytes. plain_page bytes.now) result ≡ held_page name self.now }
         ensures held { is_some result ≡ is_held name self.now }
-        ensures whole { IfSome result (λ bytes. length bytes.now ≡ 16384) }
+        ensures whole { IfSome result (λ bytes. length bytes.now ≡ page_bytes) }
     {
         match self.dirty.place(name) {
             Some(place) => Some(self.dirty.page(place)),
@@ -89,7 +90,7 @@ impl Pool {
     /// # Errors
     /// [`OutOfMemory`], after which the pool is as it was.
     pub fn admit(&mut self, space: u32, page: u32, plain: &[u8]) -> Result<(), OutOfMemory>
-        requires whole { length plain.now ≡ 16384 }
+        requires whole { length plain.now ≡ page_bytes }
         requires absent { is_held (record { space = space; page = page }) self.old ≡ false }
         ensures admitted { OnOk result (self.new ≡ record { dirty = self.old.dirty; clean = admitted (record { space = space; page = page }) (plain_page plain.now) self.old.clean }) }
         ensures unchanged { OnErr result (self.new ≡ self.old) }
