@@ -1,5 +1,5 @@
 -- A checkpoint is written, and synced: the run begins at a later block of the journal.
-use Rattle.std.proofs.Common.{◌≡◌, ℕ, ◌≤◌, Bool, true, false, nat_eq, if◌then◌else◌, List, Some, refl, sym, ap, subst, ◌∙◌, arith}
+use Rattle.std.proofs.Common.{◌<◌, ◌++◌, length, ◌≡◌, ℕ, ◌≤◌, Bool, true, false, nat_eq, if◌then◌else◌, List, Some, refl, sym, ap, subst, ◌∙◌, arith}
 use Rattle.std.specs.Prelude.{Contains}
 use Rattle.std.proofs.lemmas.Bool.Decides.{nat_tests}
 use Rattle.std.proofs.lemmas.Option.{none-some, same_Some}
@@ -17,7 +17,10 @@ use Rattle.redo_text.specs.Reading.{block_version}
 use Rattle.redo_text.specs.declared.change.Change.{Change}
 use Rattle.ring_log.specs.Batches.{checking, checkpointed}
 use Rattle.ring_log.specs.Ring.{Form, RingState, Ringed, RingReady, IsBound, IsRingJournal}
-use Rattle.ring_log.proofs.Journals.{journal_checking, journal_moved}
+use Rattle.ring_log.proofs.Journals.{journal_checking, journal_moved, numbered_parts}
+use Rattle.store_image.specs.Journal.{IsIn, IsJournal}
+use Rattle.store_image.proofs.SessionEnds.{oldest_settled}
+use Rattle.session_image.proofs.StoreRuns.{names_page, run_in}
 use Rattle.store_image.specs.LifeStages.{InSession}
 use Rattle.store_image.specs.Places.{log_may}
 use Rattle.store_image.specs.Record.{Item}
@@ -25,7 +28,7 @@ use Rattle.store_image.specs.RecordKept.{IsLifeMoment}
 use Rattle.store_image.specs.Recovers.{Theory}
 use Rattle.store_image.specs.Session.{Session, Dirty, IsLogOfSession}
 use Rattle.store_image.specs.SessionPhases.{Ready}
-use Rattle.store_image.specs.View.{block_bytes}
+use Rattle.store_image.specs.View.{Logged, block_bytes}
 use Rattle.store_image.proofs.LifeGroups.{moment_within}
 use Rattle.store_image.proofs.LifeMoments.{moment_may_log, moment_notes, moment_syncs_checkpoint}
 use Rattle.store_image.proofs.SessionCalls.{ready_checkpoint, ready_log, ready_numbers}
@@ -127,6 +130,16 @@ module _ (store : SessionStore) where
         by : (b : Bool) → nat_eq f r.from ≡ b → RingReady N F (if b then r else checkpointed r f) m → SessionReady store (moved w f) (if b then r else checkpointed r f) m
         by true same here = let e : r.from ≡ f = grind (arith, nat_tests) in ready_at r refl e refl refl refl ready.moment.journal here
         by false other here = ready_at (checkpointed r f) refl refl refl refl refl (journal_moved N F r f w.start w.next w.journal bound ready.moment.journal) here
+
+  -- The first block that a dirty page needs is settled, or the next one: so the run may begin with the least of them, or with the next block where none is dirty.
+  pub session_oldest : (w : Session T) (r : RingState) (es : List Event) → SessionReady store w r es → ((e : Logged (List Change)) → IsIn e w.journal → 0 < length e.mtr) → (f : ℕ) → f ≤ w.next
+      → ((z p : ℕ) (d : Dirty) → has_page store.header.spaces z p ≡ true → w.dirty z p ≡ Some d → f ≤ d.first) → f ≤ w.settled
+  session_oldest w r es ready some f below oldest =
+      let settled = ready.moment.journal.settled in
+      let numbered : IsJournal w.start (settled.before ++ settled.behind) w.next = subst (λ (l : List (Logged (List Change))). IsJournal w.start l w.next) settled.parts ready.ready.ground.journal in
+      let rest : IsJournal r.settled settled.behind w.next = (numbered_parts N F r.block w.start r.settled settled.before settled.behind w.next numbered settled.left).1 in
+      oldest_settled T w (session_places store w es) ready.ready settled.before settled.behind settled.parts (subst (λ (n : ℕ). IsJournal n settled.behind w.next) (sym ready.moment.settled) rest)
+      (λ e inside. names_page store.header.spaces e.mtr (some e inside) (run_in store.header.spaces w.journal e ready.moment.of_store inside)) f below oldest
 
   -- ---- the record
 
