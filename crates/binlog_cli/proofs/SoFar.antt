@@ -29,12 +29,12 @@ use Rattle.io_core.proofs.Streams.{extended-nil, front_given}
 
 -- whatever the rest lists, the whole lists behind these events
 pub record ReadTo (ring : List RingEntry) (file : Option (List ℕ)) (stage : Stage) (events : List BinlogEvent) : Type 0 where
-  pub goes_on : (rest : List BinlogEvent) (end : Result (Unit {0}) BinlogFault) → Lists ring file stage rest end → Lists ring file Start (events ++ rest) end
+  pub followed : (rest : List BinlogEvent) (end : Result (Unit {0}) BinlogFault) → Lists ring file stage rest end → Lists ring file Start (events ++ rest) end
 
 pub read_more : (ring : List RingEntry) (file : Option (List ℕ)) (stage : Stage) (events : List BinlogEvent) (event : BinlogEvent) (next : Position) → ReadTo ring file stage events
     → answered ring file stage ≡ Ok (Some (record { event = event; next = next })) → ReadTo ring file (Events next) (events ++ event ∷ [])
 read_more ring file stage events event next read answer = record {
-  goes_on = λ rest end h. subst (λ (es : List BinlogEvent). Lists ring file Start es end) (sym (append_assoc events (event ∷ []) rest)) (read.goes_on (event ∷ rest) end (next, answer, h));
+  followed = λ rest end h. subst (λ (es : List BinlogEvent). Lists ring file Start es end) (sym (append_assoc events (event ∷ []) rest)) (read.followed (event ∷ rest) end (next, answer, h));
 }
 
 pub lines_push : (is_hex : Bool) (events : List BinlogEvent) (event : BinlogEvent) → lines_of_events is_hex (events ++ event ∷ []) ≡ lines_of_events is_hex events ++ event_lines is_hex event
@@ -54,7 +54,7 @@ pub record SoFar (is_hex : Bool) (ring : List RingEntry) (file : Option (List �
   pub printed : IsPrinted (lines_of_events is_hex events) before now gathered
 
 pub so_far_none : (is_hex : Bool) (ring : List RingEntry) (file : Option (List ℕ)) (given : Option (List ℕ)) → SoFar is_hex ring file Start 4 given given []
-so_far_none is_hex ring file given = record { events = []; behind = refl; read = record { goes_on = λ rest end h. h }; printed = gathered_none [] given given (extended-nil given) }
+so_far_none is_hex ring file given = record { events = []; behind = refl; read = record { followed = λ rest end h. h }; printed = gathered_none [] given given (extended-nil given) }
 
 -- ---- how the listing ends
 
@@ -90,13 +90,13 @@ events_partly is_hex ring file stage events before now r read part stop =
     let behind = text_goes_on is_hex size events rest.events rest.end in
     record {
       listing = listing;
-      is = record { events = events ++ rest.events; end = rest.end; lists = read.goes_on rest.events rest.end rest.lists; is = refl };
+      is = record { events = events ++ rest.events; end = rest.end; lists = read.followed rest.events rest.end rest.lists; is = refl };
       agrees = result_agrees listing before now r stop (part_of_more (lines_of_events is_hex events) behind.0 listing.text before now behind.1 part);
     }
 
 whole_list : (ring : List RingEntry) (file : Option (List ℕ)) (stage : Stage) (events : List BinlogEvent) (end : Result (Unit {0}) BinlogFault) → ReadTo ring file stage events
     → Lists ring file stage [] end → Lists ring file Start events end
-whole_list ring file stage events end read is = subst (λ (es : List BinlogEvent). Lists ring file Start es end) (append-nil events) (read.goes_on [] end is)
+whole_list ring file stage events end read is = subst (λ (es : List BinlogEvent). Lists ring file Start es end) (append-nil events) (read.followed [] end is)
 
 end_agrees : (is_hex : Bool) (size : ℕ) (events : List BinlogEvent) (before now : Option (List ℕ)) (r : Result (Unit {0}) ListStatus)
     → MatchResult r (λ u. now ≡ extended (lines_of_events is_hex events ++ end_line size) before) (λ status. IsPartlyGiven (lines_of_events is_hex events ++ end_line size) before now)
@@ -177,13 +177,13 @@ pub reached_behind : (ring : List RingEntry) (file : Option (List ℕ)) (stage :
     → ((behind : List BinlogEvent) (end : Result (Unit {0}) BinlogFault) → Has events behind end) → IsReached ring file place Has
 reached_behind ring file stage events place Has read at has =
     let rest = log_events ring file stage in
-    record { before = events; behind = rest.events; end = rest.end; lists = read.goes_on rest.events rest.end rest.lists; at = at; has = has rest.events rest.end }
+    record { before = events; behind = rest.events; end = rest.end; lists = read.followed rest.events rest.end rest.lists; at = at; has = has rest.events rest.end }
 
 -- and ends there
 pub reached_end : (ring : List RingEntry) (file : Option (List ℕ)) (stage : Stage) (events : List BinlogEvent) (place : ℕ) (Has : List BinlogEvent → List BinlogEvent → Result (Unit {0}) BinlogFault → Type 0)
     → ReadTo ring file stage events → place ≡ place_behind 4 events → answered ring file stage ≡ Ok None → Has events [] (Ok tt) → IsReached ring file place Has
 reached_end ring file stage events place Has read at answer has =
-    record { before = events; behind = []; end = Ok tt; lists = read.goes_on [] (Ok tt) answer; at = at; has = has }
+    record { before = events; behind = []; end = Ok tt; lists = read.followed [] (Ok tt) answer; at = at; has = has }
 
 -- the place of a refusal behind these events
 pub refused_behind : (ring : List RingEntry) (file : Option (List ℕ)) (stage : Stage) (events : List BinlogEvent) (begins place : ℕ) (fault : BinlogFault)

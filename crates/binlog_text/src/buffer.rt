@@ -141,7 +141,7 @@ impl EventBuffer {
         requires order { length self.old.rest ≤ want }
         ensures more { OnOk result (Told (λ fs. IsReadOn self.old.rest self.new.rest (bytes_from place name.now fs) want) (L.files files.old)) }
         ensures kept { OnErr result (self.new.rest ≡ self.old.rest) }
-        ensures goes_on { take (length self.old.rest) self.new.rest ≡ self.old.rest }
+        ensures front_kept { take (length self.old.rest) self.new.rest ≡ self.old.rest }
         ensures bounded { length self.new.rest ≤ want }
         ensures room { self.new.room ≤ max self.old.room want }
         ensures same { L.files files.new ≡ L.files files.old }
@@ -188,7 +188,7 @@ impl EventBuffer {
         ensures enough { OnOk result (Told (λ fs. length (bytes_from place name.now fs) ≡ left → need ≤ length self.new.rest) (L.files files.old)) }
         ensures bounded { length self.new.rest ≤ left }
         ensures kept { OnErr result (self.new.rest ≡ self.old.rest) }
-        ensures goes_on { take (length self.old.rest) self.new.rest ≡ self.old.rest }
+        ensures front_kept { take (length self.old.rest) self.new.rest ≡ self.old.rest }
         ensures held { need ≤ length self.old.rest → self.new.rest ≡ self.old.rest }
         ensures room { self.new.room ≤ max self.old.room (max need PIECE) }
         ensures same { L.files files.new ≡ L.files files.old }

@@ -18,6 +18,6 @@ pub record AreVersions (read : ℕ → List ℕ) (from end : ℕ) (versions : Li
 -- Between these counts of calls the run was read: one call for each block that goes on with it and one for the block that doesn't, none of them past the 16 blocks behind its end.
 pub record IsReadOnce (N : ℕ) (read : ℕ → List ℕ) (from end before now : ℕ) : Type 0 where
   pub stop : ℕ
-  pub goes_on : (keys : Keys) → IsScanned N (redo_form keys) read from end stop
+  pub scanned : (keys : Keys) → IsScanned N (redo_form keys) read from end stop
   pub calls : now + from ≤ before + (stop + 1)
   pub few : now + from ≤ before + (end + 16)

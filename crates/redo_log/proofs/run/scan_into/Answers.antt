@@ -78,7 +78,7 @@ pub returns-then-number-end-ge-MOST_BLOCKS-clause-once : goal.returns-then-numbe
 returns-then-number-end-ge-MOST_BLOCKS-clause-once g c =
     let calls = c.loop-i.invariant.calls in
     let few = c.loop-i.invariant.few in
-    at_each (λ es r. record { stop = c.args.from + c.loop-i.i; goes_on = r; calls = omega (arith, calls); few = omega (arith, calls, few) }) c.loop-i.invariant.read
+    at_each (λ es r. record { stop = c.args.from + c.loop-i.i; scanned = r; calls = omega (arith, calls); few = omega (arith, calls, few) }) c.loop-i.invariant.read
 
 pub returns-in_default-clause-once : goal.returns-in_default-clause-once
 returns-in_default-clause-once g c =
@@ -86,10 +86,10 @@ returns-in_default-clause-once g c =
     let once = c.in_ok-read_number.ensures.once in
     let few = c.if-number-end-ge-MOST_BLOCKS.false in
     let high = c.loop-i.invariant.high in
-    at_each (λ es r. record { stop = c.args.from + c.loop-i.i; goes_on = r; calls = omega (arith, calls, once); few = omega (arith, calls, once, few, high) }) c.loop-i.invariant.read
+    at_each (λ es r. record { stop = c.args.from + c.loop-i.i; scanned = r; calls = omega (arith, calls, once); few = omega (arith, calls, once, few, high) }) c.loop-i.invariant.read
 
 pub returns-clause-once : goal.returns-clause-once
 returns-clause-once g c =
     let calls = c.loop-i.invariant.calls in
     let few = c.loop-i.invariant.few in
-    at_each (λ es r. record { stop = c.args.from + c.loop-i.i; goes_on = r; calls = omega (arith, calls); few = omega (arith, calls, few) }) c.loop-i.invariant.read
+    at_each (λ es r. record { stop = c.args.from + c.loop-i.i; scanned = r; calls = omega (arith, calls); few = omega (arith, calls, few) }) c.loop-i.invariant.read
