@@ -161,7 +161,7 @@ module _ {M : Type 0} (v : View M) (s : List Event) (info : SpaceInfo) (p : ℕ)
       (λ j u copy. b.most j u copy.within (sym (slots_are j) ∙ copy.is)) (λ j u copy same. b.first j u copy.within (sym (slots_are j) ∙ copy.is) same) refl
 
   -- what is written home is the chosen text, where that is a copy
-  wanted_chosen : (bytes : List ℕ) → wanted (copies_to 64 s) s z p ≡ Some bytes → (t : Text) × IsChosen v z p (Some t) × (held p bytes ≡ Holds t) × ((u : Text) → v.home z p ≢ Holds u)
+  pub wanted_chosen : (bytes : List ℕ) → wanted (copies_to 64 s) s z p ≡ Some bytes → (t : Text) × IsChosen v z p (Some t) × (held p bytes ≡ Holds t) × ((u : Text) → v.home z p ≢ Holds u)
   wanted_chosen bytes is = by (is_page_text p (shown (Space z) 16384 p s)) refl
     where
       of : is_page_text p (shown (Space z) 16384 p s) ≡ false → (o : Option Copied) → newest (copies_to 64 s) z p ≡ o → Best s z p 64 o → (t : Text) × IsChosen v z p (Some t) × (held p bytes ≡ Holds t) × ((u : Text) → v.home z p ≢ Holds u)

@@ -5,3 +5,4 @@ pub mod NoteSteps
 pub mod Answered
 pub mod HeadSteps
 pub mod PutGroups
+pub mod RestoredHomes

@@ -4,3 +4,4 @@ pub mod Stages
 pub mod Notes
 pub mod Heads
 pub mod Putting
+pub mod Restoring

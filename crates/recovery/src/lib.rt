@@ -13,7 +13,9 @@
 //! 6. [`check_floors`] refuses the first space whose least version is above the active one, and
 //!    [`check_numbers`] a log whose numbers end before the store could go on.
 //!
-//! Behind them stands [`put_group`]: a group of sealed pages is stored and written home.
+//! Behind them stand the parts that write to homes: [`restore_homes`] writes the torn ones from
+//! their copies, and [`put_group`] a group of sealed pages. Each lucky image of each moment of theirs
+//! recovers to what was opened.
 #![tactic(auto)]
 
 mod checkpoint;
@@ -26,6 +28,7 @@ mod notes;
 mod pages;
 mod putting;
 mod reading;
+mod restoring;
 
 pub use checkpoint::find_checkpoint;
 pub use floors::{check_floors, check_numbers};
@@ -35,6 +38,7 @@ pub use lengths::check_lengths;
 pub use notes::{NoteSource, PageNote, PageNotes, SpaceNotes};
 pub use pages::find_pages;
 pub use putting::put_group;
+pub use restoring::restore_homes;
 
 #[cfg(test)]
 mod fixture;

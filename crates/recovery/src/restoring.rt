@@ -1,0 +1,52 @@
+// The homes of a store that is opened are restored.
+ghost use Rattle.std.specs.Prelude.{◌≡◌, ◌+◌, ◌≤◌, ◌++◌, ℕ, Some, None, length, OnOk, OnErr, IfErr, IsErrOf};
+ghost use Rattle.cause_core.specs.Cause.{HasCauseOf};
+ghost use Rattle.disk_model.specs.Does.{Does};
+ghost use Rattle.disk_model.specs.Past.{At};
+ghost use Rattle.disk_model.specs.declared.names.FileName.TheVariants.{Double};
+ghost use Rattle.places.specs.Batches.{From};
+ghost use Rattle.places.specs.Places.{HasFile};
+ghost use Rattle.page_places.specs.Texts.{slots};
+ghost use Rattle.store_image.specs.View.{slot_count};
+ghost use Rattle.doublewrite.specs.Events.{AreFirstEvents, calls_to, restore_events};
+ghost use Rattle.doublewrite.specs.Refuse.{IsDiskRefuse};
+ghost use Rattle.doublewrite.specs.Restore.{AreSpacesApart, HaveFiles, IsRestoreEvent};
+ghost use Rattle.doublewrite.specs.declared.refuse.OpenRefuse.TheVariants.{DiskFault, OutOfMemory};
+ghost use Rattle.crash_image.specs.Opened.{StoreOpened, IsOpenedAt};
+ghost use Rattle.recovery.specs.Putting.{BetweenGroups, ImagesRecover};
+ghost use Rattle.recovery.specs.Restoring.{AreAllListed};
+
+use disk_model::Disk;
+use doublewrite::{OpenRefuse, restore};
+use space_head::SpaceInfo;
+use std::alloc::Global;
+
+/// Restores the homes of a store that is opened, as [`restore`] does. Where the disk is one that an
+/// opening begins with, each lucky image of each moment recovers to what was opened, and at Ok groups
+/// may be applied.
+///
+/// # Errors
+/// Those of [`restore`].
+pub fn restore_homes<D: Disk>(
+    alloc: Global,
+    disk: &mut D,
+    spaces: &[SpaceInfo],
+) -> Result<(), OpenRefuse>
+    requires apart { AreSpacesApart spaces.now }
+    requires double { At (HasFile Double slots) (D.past disk.old) }
+    requires places { At (HaveFiles spaces.now) (D.past disk.old) }
+    ensures restores { (o : StoreOpened) (last : ℕ) → At (IsOpenedAt o last) (D.past disk.old) → AreAllListed o.header.spaces spaces.now → Does (ImagesRecover o last) (IsRestoreEvent spaces.now) (From (BetweenGroups o) (D.past disk.old)) (D.past disk.old) (D.past disk.new) result }
+    ensures refuses { IfErr result IsDiskRefuse }
+    ensures exact { OnOk result (At (λ s. D.past disk.new ≡ Some (restore_events spaces.now s ++ s)) (D.past disk.old)) }
+    ensures part { OnErr result (At (λ s. AreFirstEvents (restore_events spaces.now s) s (D.past disk.new)) (D.past disk.old)) }
+    ensures untold { D.past disk.old ≡ None → D.past disk.new ≡ None }
+    ensures later { D.is_later disk.old disk.new }
+    ensures calls { D.clock disk.new ≤ D.clock disk.old + (slot_count + calls_to spaces.now (length spaces.now)) }
+    ensures cause { HasCauseOf DiskFault (D.faults disk.old) (D.faults disk.new) result }
+    ensures memory { D.memory_refusals disk.old ≤ D.memory_refusals disk.new }
+    ensures no_fault { OnOk result (D.faults disk.new ≡ D.faults disk.old) }
+    ensures no_fault_at_want { IsErrOf result OutOfMemory → D.faults disk.new ≡ D.faults disk.old }
+    ensures no_refusal { OnOk result (D.memory_refusals disk.new ≡ D.memory_refusals disk.old) }
+{
+    restore(alloc, disk, spaces)
+}
