@@ -13,3 +13,4 @@ pub mod PutRecords
 pub mod Checks
 pub mod Clears
 pub mod Ends
+pub mod RestFiles
