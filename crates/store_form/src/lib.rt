@@ -47,6 +47,8 @@ pub use reading::{open_home_with, read_home};
 pub use rest::AtRest;
 
 #[cfg(test)]
+mod create_tests;
+#[cfg(test)]
 mod page_tests;
 #[cfg(test)]
 mod tests;
