@@ -1,5 +1,5 @@
 // Named files that are read.
-ghost use Rattle.std.specs.Prelude.{◌≡◌, ◌≤◌, ℕ, List, length, Option, IfOk, OnOk, IsErrOf};
+ghost use Rattle.std.specs.Prelude.{◌≡◌, ◌≢◌, ◌≤◌, ℕ, List, length, Option, None, Ok, IfOk, OnOk, IsErrOf};
 ghost use Rattle.std.specs.Option.{option_map};
 ghost use Rattle.io_core.specs.Told.{Told};
 ghost use Rattle.io_core.specs.Files.{Files, bytes_from, IsFilled};
@@ -18,7 +18,7 @@ pub trait Library {
     /// How often it was refused memory. The count never falls.
     ghost memory_refusals: { Self → ℕ };
 
-    /// How often a file was asked for that wasn't there. The count never falls.
+    /// How often the length of a file was asked for that wasn't there. The count never falls.
     ghost absences: { Self → ℕ };
 
     /// Whether the call that failed last was for the file of this name. A library that doesn't keep
@@ -33,6 +33,7 @@ pub trait Library {
         ensures length { IfOk result (λ n. Told (λ fs. n ≡ option_map length (fs name.now)) (files self.old)) }
         ensures same { files self.new ≡ files self.old }
         ensures absence { HasAbsence (absences self.old) (absences self.new) result }
+        ensures present { result ≢ Ok None → absences self.new ≡ absences self.old }
         ensures cause { HasIoCause (faults self.old) (faults self.new) result }
         ensures memory { HasIoMemoryCause (memory_refusals self.old) (memory_refusals self.new) result }
         ensures no_fault { OnOk result (faults self.new ≡ faults self.old) }
@@ -52,7 +53,7 @@ pub trait Library {
         ensures within { IfOk result (λ n. n ≤ length into.old) }
         ensures bytes { IfOk result (λ n. Told (λ fs. IsFilled (bytes_from at name.now fs) into.old n into.new) (files self.old)) }
         ensures same { files self.new ≡ files self.old }
-        ensures absences { absences self.old ≤ absences self.new }
+        ensures absences { absences self.new ≡ absences self.old }
         ensures cause { HasIoCause (faults self.old) (faults self.new) result }
         ensures memory { HasIoMemoryCause (memory_refusals self.old) (memory_refusals self.new) result }
         ensures no_fault { OnOk result (faults self.new ≡ faults self.old) }

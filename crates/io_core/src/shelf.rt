@@ -74,6 +74,7 @@ impl Library for Shelf {
         ensures length { IfOk result (λ n. Told (λ fs. n ≡ option_map length (fs name.now)) (Some (files_of self.old.files))) }
         ensures same { Some (files_of self.new.files) ≡ Some (files_of self.old.files) }
         ensures absence { HasAbsence self.old.absences self.new.absences result }
+        ensures present { result ≢ Ok None → self.new.absences ≡ self.old.absences }
         ensures cause { HasIoCause self.old.calls.faults self.new.calls.faults result }
         ensures memory { HasIoMemoryCause 0 0 result }
         ensures no_fault { OnOk result (self.new.calls.faults ≡ self.old.calls.faults) }
@@ -83,7 +84,6 @@ impl Library for Shelf {
         ensures failed { IsErr result ↔ IsToFail self.old.calls }
         ensures only { result ≢ Err IoError.NoMemory }
         ensures kept { self.new.files ≡ self.old.files }
-        ensures present { result ≢ Ok None → self.new.absences ≡ self.old.absences }
         ensures one_more { IsOneMore self.old.calls self.new.calls }
     {
         self.calls.begin()?;
@@ -100,7 +100,7 @@ impl Library for Shelf {
         ensures within { IfOk result (λ n. n ≤ length into.old) }
         ensures bytes { IfOk result (λ n. Told (λ fs. IsFilled (bytes_from at name.now fs) into.old n into.new) (Some (files_of self.old.files))) }
         ensures same { Some (files_of self.new.files) ≡ Some (files_of self.old.files) }
-        ensures absences { self.old.absences ≤ self.new.absences }
+        ensures absences { self.new.absences ≡ self.old.absences }
         ensures cause { HasIoCause self.old.calls.faults self.new.calls.faults result }
         ensures memory { HasIoMemoryCause 0 0 result }
         ensures no_fault { OnOk result (self.new.calls.faults ≡ self.old.calls.faults) }
@@ -111,7 +111,6 @@ impl Library for Shelf {
         ensures only { result ≢ Err IoError.NoMemory }
         ensures unread { OnErr result (into.new ≡ into.old) }
         ensures kept { self.new.files ≡ self.old.files }
-        ensures none_absent { self.new.absences ≡ self.old.absences }
         ensures one_more { IsOneMore self.old.calls self.new.calls }
     {
         self.calls.begin()?;

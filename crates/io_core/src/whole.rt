@@ -1,5 +1,5 @@
 // Reading a whole source or file, up to a limit of bytes.
-ghost use Rattle.std.specs.Prelude.{◌≡◌, ◌≤◌, IfOk, OnOk, Ok, IsErrOf};
+ghost use Rattle.std.specs.Prelude.{◌≡◌, ◌≢◌, ◌≤◌, IfOk, OnOk, Ok, IsErrOf};
 ghost use Rattle.cause_core.specs.Counts.{Rose};
 ghost use Rattle.io_core.specs.Told.{Told};
 ghost use Rattle.io_core.specs.Cause.{HasIoCause};
@@ -47,6 +47,7 @@ pub fn read_all<S: Source>(
     ensures cause { HasIoCause (S.faults source.old) (S.faults source.new) result }
     ensures memory_refusals { S.memory_refusals source.old ≤ S.memory_refusals source.new }
     ensures no_fault { OnOk result (S.faults source.new ≡ S.faults source.old) }
+    ensures no_fault_at_want { IsErrOf result IoError.NoMemory → S.faults source.new ≡ S.faults source.old }
     ensures no_refusal { OnOk result (S.memory_refusals source.new ≡ S.memory_refusals source.old) }
 {
     let mut bytes = Vec::new(alloc);
@@ -79,9 +80,11 @@ pub fn read_file<L: Library>(
     ensures absent { result ≡ Ok FileContents.Missing → Rose (L.absences files.old) (L.absences files.new) }
     ensures same { L.files files.new ≡ L.files files.old }
     ensures absences { L.absences files.old ≤ L.absences files.new }
+    ensures present { result ≢ Ok FileContents.Missing → L.absences files.new ≡ L.absences files.old }
     ensures cause { HasIoCause (L.faults files.old) (L.faults files.new) result }
     ensures memory_refusals { L.memory_refusals files.old ≤ L.memory_refusals files.new }
     ensures no_fault { OnOk result (L.faults files.new ≡ L.faults files.old) }
+    ensures no_fault_at_want { IsErrOf result IoError.NoMemory → L.faults files.new ≡ L.faults files.old }
     ensures no_refusal { OnOk result (L.memory_refusals files.new ≡ L.memory_refusals files.old) }
     ensures failed_last { IsErrOf result IoError.Failed → L.failed_last files.new name.now }
 {

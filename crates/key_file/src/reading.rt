@@ -1,10 +1,10 @@
 // Key files read from a library.
 
-ghost use Rattle.std.specs.Prelude.{◌≡◌, ◌≢◌, ◌⊎◌, ℕ, List, Ok, Err, true, nat_eq, codes, drop, length, IfOk, OnOk, IsErrOf, MatchResult, ◌≤◌};
+ghost use Rattle.std.specs.Prelude.{◌≡◌, ◌≢◌, ◌⊎◌, ℕ, List, Ok, Err, true, nat_eq, codes, drop, length, IfOk, IfErr, OnOk, IsErrOf, MatchResult, ◌≤◌};
 ghost use Rattle.std.specs.List.{starts_with, suffix_len};
 ghost use Rattle.std.specs.Option.{option_copied};
 ghost use Rattle.io_core.specs.Told.{Told};
-ghost use Rattle.key_file.specs.Cause.{HasCauses};
+ghost use Rattle.key_file.specs.Cause.{HasCauses, IsOfPresent};
 ghost use Rattle.key_file.specs.Load.{IsOutside, KeysOf, TextOf, contents, is_line_end, is_salted, load_fault_of, password_of, secret_of};
 ghost use Rattle.key_file.specs.Loaded.{CallsFor, NamesSecret};
 
@@ -23,7 +23,8 @@ const LIMIT: usize = 1_048_576;
 
 // The answer for a file that is not there.
 fn missing(alloc: Global, name: &str) -> LoadFault
-    ensures { (result ≡ LoadFault.Missing name.now) ⊎ (result ≡ LoadFault.OutOfMemory) }
+    ensures value { (result ≡ LoadFault.Missing name.now) ⊎ (result ≡ LoadFault.OutOfMemory) }
+    ensures absent { IsOfPresent result → ⊥ }
 {
     match Name::of(alloc, name) {
         Ok(name) => LoadFault::Missing(name),
@@ -54,6 +55,9 @@ fn read_named<L: Library>(
     ensures same { L.files files.new ≡ L.files files.old }
     ensures causes { HasCauses (L.faults files.old) (L.faults files.new) (L.absences files.old) (L.absences files.new) result }
     ensures no_fault { OnOk result (L.faults files.new ≡ L.faults files.old) }
+    ensures no_fault_at_refusal { IfErr result (λ fault. fault ≢ LoadFault.FileFault → L.faults files.new ≡ L.faults files.old) }
+    ensures present { OnOk result (L.absences files.new ≡ L.absences files.old) }
+    ensures present_at_refusal { IfErr result (λ fault. IsOfPresent fault → L.absences files.new ≡ L.absences files.old) }
     ensures failed { IsErrOf result LoadFault.FileFault → L.failed_last files.new name.now }
 {
     match read_file(alloc, files, name, LIMIT) {
@@ -108,6 +112,9 @@ fn read_secret<L: Library>(
     ensures same { L.files files.new ≡ L.files files.old }
     ensures causes { HasCauses (L.faults files.old) (L.faults files.new) (L.absences files.old) (L.absences files.new) result }
     ensures no_fault { OnOk result (L.faults files.new ≡ L.faults files.old) }
+    ensures no_fault_at_refusal { IfErr result (λ fault. fault ≢ LoadFault.FileFault → L.faults files.new ≡ L.faults files.old) }
+    ensures present { OnOk result (L.absences files.new ≡ L.absences files.old) }
+    ensures present_at_refusal { IfErr result (λ fault. IsOfPresent fault → L.absences files.new ≡ L.absences files.old) }
     ensures failed { IsErrOf result LoadFault.FileFault → (starts_with nat_eq filekey.now (codes "FILE:") ≡ true) × L.failed_last files.new (drop 5 filekey.now) }
 {
     let Some(name) = filekey.strip_prefix("FILE:") else {
@@ -131,6 +138,9 @@ fn read_text<L: Library>(
     ensures same { L.files files.new ≡ L.files files.old }
     ensures causes { HasCauses (L.faults files.old) (L.faults files.new) (L.absences files.old) (L.absences files.new) result }
     ensures no_fault { OnOk result (L.faults files.new ≡ L.faults files.old) }
+    ensures no_fault_at_refusal { IfErr result (λ fault. fault ≢ LoadFault.FileFault → L.faults files.new ≡ L.faults files.old) }
+    ensures present { OnOk result (L.absences files.new ≡ L.absences files.old) }
+    ensures present_at_refusal { IfErr result (λ fault. IsOfPresent fault → L.absences files.new ≡ L.absences files.old) }
     ensures failed { IsErrOf result LoadFault.FileFault → (is_salted bytes.items ≡ true) × ((due : List ℕ) × NamesSecret (option_copied filekey.entry) due × L.failed_last files.new due) }
 {
     if !bytes.starts_with(b"Salted__") {
@@ -159,6 +169,9 @@ pub(crate) fn read_keys<L: Library>(
     ensures same { L.files files.new ≡ L.files files.old }
     ensures causes { HasCauses (L.faults files.old) (L.faults files.new) (L.absences files.old) (L.absences files.new) result }
     ensures no_fault { OnOk result (L.faults files.new ≡ L.faults files.old) }
+    ensures no_fault_at_refusal { IfErr result (λ fault. fault ≢ LoadFault.FileFault → L.faults files.new ≡ L.faults files.old) }
+    ensures present { OnOk result (L.absences files.new ≡ L.absences files.old) }
+    ensures present_at_refusal { IfErr result (λ fault. IsOfPresent fault → L.absences files.new ≡ L.absences files.old) }
     ensures failed { IsErrOf result LoadFault.FileFault → Told (λ fs. (due : List ℕ) × CallsFor fs index (option_copied filekey.entry) name.now due × L.failed_last files.new due) (L.files files.old) }
 {
     let bytes = read_named(alloc, files, name, index, KeyFault::TooLarge)?;

@@ -1,10 +1,10 @@
 // The ring of the keys of some key files.
 
-ghost use Rattle.std.specs.Prelude.{◌≡◌, ◌<◌, ◌≤◌, ◌+◌, ◌⊎◌, ℕ, List, [], Ok, Err, Some, length, map, string_bytes, slice_get, Contains, IfOk, IfErr, IsErrOf, OnOk, IsNone, MatchResult};
+ghost use Rattle.std.specs.Prelude.{◌≡◌, ◌≢◌, ◌<◌, ◌≤◌, ◌+◌, ◌⊎◌, ℕ, List, [], Ok, Err, Some, length, map, string_bytes, slice_get, Contains, IfOk, IfErr, IsErrOf, OnOk, IsNone, MatchResult};
 ghost use Rattle.std.specs.Option.{option_copied};
 ghost use Rattle.io_core.specs.Told.{Told};
 ghost use Rattle.key_ring.specs.Ring.{HasAdded, ring_key};
-ghost use Rattle.key_file.specs.Cause.{HasCauses};
+ghost use Rattle.key_file.specs.Cause.{HasCauses, IsOfPresent};
 ghost use Rattle.key_file.specs.Load.{IsOutside};
 ghost use Rattle.key_file.specs.Loaded.{HasKeysOfVersion, IsDue, IsTheAnswer, LoadsFrom};
 
@@ -59,6 +59,9 @@ fn load_in_order<L: Library>(
     ensures same { L.files files.new ≡ L.files files.old }
     ensures causes { HasCauses (L.faults files.old) (L.faults files.new) (L.absences files.old) (L.absences files.new) result }
     ensures no_fault { OnOk result (L.faults files.new ≡ L.faults files.old) }
+    ensures no_fault_at_refusal { IfErr result (λ fault. fault ≢ LoadFault.FileFault → L.faults files.new ≡ L.faults files.old) }
+    ensures present { OnOk result (L.absences files.new ≡ L.absences files.old) }
+    ensures present_at_refusal { IfErr result (λ fault. IsOfPresent fault → L.absences files.new ≡ L.absences files.old) }
     ensures failed { IsErrOf result LoadFault.FileFault → Told (λ fs. (due : List ℕ) × IsDue fs (option_copied filekey.entry) digest 0 (map string_bytes names.now) due × L.failed_last files.new due) (L.files files.old) }
 {
     let mut ring = Ring::new(alloc);
@@ -96,7 +99,13 @@ pub fn load<L: Library>(
     ensures versions { IfOk result (λ ring. (id version : ℕ) → length names.now < version → IsNone (ring_key ring id version)) }
     ensures same { L.files files.new ≡ L.files files.old }
     ensures causes { HasCauses (L.faults files.old) (L.faults files.new) (L.absences files.old) (L.absences files.new) result }
+
+    // A count of faults rises only where the answer is `FileFault`, one of absences only where it is `Missing`,
+    // or where there was no memory for the name.
     ensures no_fault { OnOk result (L.faults files.new ≡ L.faults files.old) }
+    ensures no_fault_at_refusal { IfErr result (λ fault. fault ≢ LoadFault.FileFault → L.faults files.new ≡ L.faults files.old) }
+    ensures present { OnOk result (L.absences files.new ≡ L.absences files.old) }
+    ensures present_at_refusal { IfErr result (λ fault. IsOfPresent fault → L.absences files.new ≡ L.absences files.old) }
 
     // A fault of the library is that of a file that was due: the key files before it gave keys, and it is
     // the next, or that one is enciphered and this is the file of the password.

@@ -49,12 +49,11 @@ loop-index-preserved g c =
     let at : get_or names c.loop-index.index name ≡ name =
     get_or-map string_bytes c.args.names.now c.loop-index.index c.index-names-index.result name c.loop-index-test.true ∙ ap string_bytes (sym c.index-names-index.is) ∙ sym c.deref.ensures in
     let within : c.loop-index.index < length names = omega (arith, c.loop-index-test.true, length-map c.args.names.now string_bytes) in
-    let added = c.in_ok-add_keys.ensures.added in
-    let causes = c.in_ok-keys.ensures.causes in (
+    let added = c.in_ok-add_keys.ensures.added in (
       c.read_keys.ensures.same ∙ c.loop-index.invariant.0,
       λ id v h. later_version c.loop-index.ring c.add_keys.new.ring c.in_ok-keys.keys _ added id v h (c.loop-index.invariant.1 id v (omega arith)),
       c.in_ok-keys.ensures.no_fault ∙ c.loop-index.invariant.2,
-      omega (arith, c.loop-index.invariant.3, causes.later_absences),
+      c.in_ok-keys.ensures.present ∙ c.loop-index.invariant.3,
       record {
         here = λ fs told r h. c.loop-index.invariant.4.here fs told r
             (loads_more fs (option_copied c.args.filekey) c.args.digest names c.loop-index.index name within at c.loop-index.ring c.add_keys.new.ring c.in_ok-keys.keys

@@ -1,4 +1,4 @@
-use Rattle.std.proofs.Common.{◌≡◌, ℕ, ◌<◌, ◌≤◌, List, [], drop, map, IsNone, Result, string_bytes}
+use Rattle.std.proofs.Common.{◌≡◌, ℕ, ◌<◌, List, [], drop, map, IsNone, Result, string_bytes}
 use Rattle.std.specs.Option.{option_copied}
 use Rattle.io_core.specs.Told.{Told}
 use Rattle.key_ring.specs.Ring.{RingEntry, ring_key}
@@ -12,7 +12,7 @@ invariant-loop-index g l =
     (g.L.Library.files l.files ≡ g.L.Library.files l.initial.files)
     × ((id v : ℕ) → l.index < v → IsNone (ring_key l.ring id v))
     × (g.L.Library.faults l.files ≡ g.L.Library.faults l.initial.files)
-    × (g.L.Library.absences l.initial.files ≤ g.L.Library.absences l.files)
+    × (g.L.Library.absences l.files ≡ g.L.Library.absences l.initial.files)
     × Told
     (λ fs. (r : Result (List RingEntry) LoadFault) → LoadsFrom fs (option_copied l.filekey) l.digest l.index (drop l.index (map string_bytes l.names)) l.ring r
     → LoadsFrom fs (option_copied l.filekey) l.digest 0 (map string_bytes l.names) [] r)
