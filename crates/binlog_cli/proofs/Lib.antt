@@ -7,3 +7,4 @@ pub mod KeyStops
 pub mod WordsListings
 pub mod WordsMatches
 pub mod Reached
+pub mod FirstStops

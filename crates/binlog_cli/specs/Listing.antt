@@ -67,7 +67,8 @@ EndsThere before behind end = (behind ≡ []) × (end ≡ Ok tt)
 abbrev pub IsTextDue : List BinlogEvent → List BinlogEvent → Result (Unit {0}) BinlogFault → Type 0
 IsTextDue before behind end = (before ≢ []) ⊎ EndsThere before behind end
 
--- Bytes of the file are to be read: at its start, or where it has bytes of an event.
+-- Bytes of the file are to be read: at its start, or where it has bytes of an event. Place 4 is that of the start and of the first
+-- event both, so of a file of exactly 4 bytes this is also so behind its start, where it has no more.
 abbrev pub HasBytesAt : Option (List ℕ) → ℕ → Type 0
 HasBytesAt file place = (place ≡ 4) ⊎ (place < length (unwrap_or file []))
 

@@ -24,6 +24,11 @@ log_stop (log.Scheme number) = Log (log.Scheme number)
 log_stop (log.MissingKey version) = Log (log.MissingKey version)
 log_stop (log.Checksum at stored computed) = Log (log.Checksum at stored computed)
 
+-- what is stopped with where the log had a fault, and then giving the text stopped: a fault of the file came first
+abbrev pub first_stop : BinlogFault → ListStatus → ListStatus
+first_stop log.FileFault stop = FileFault
+first_stop fault stop = stop
+
 abbrev pub key_stop : LoadFault → ListStatus
 key_stop key.FileFault = FileFault
 key_stop key.OutOfMemory = OutOfMemory

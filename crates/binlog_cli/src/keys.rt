@@ -1,6 +1,6 @@
 // The keys that the words name.
 
-ghost use Rattle.std.specs.Prelude.{◌≡◌, ◌≤◌, ◌⊎◌, ℕ, List, Ok, Err, IfErr, MatchResult, map, string_bytes, vec_len};
+ghost use Rattle.std.specs.Prelude.{◌≡◌, ◌≢◌, ◌≤◌, ◌⊎◌, ℕ, List, Ok, Err, IfErr, MatchResult, OnOk, map, string_bytes, vec_len};
 ghost use Rattle.std.specs.Option.{option_copied};
 ghost use Rattle.io_core.specs.Told.{Told};
 ghost use Rattle.key_file.specs.Loaded.{IsDue};
@@ -30,6 +30,8 @@ pub(crate) fn load_ring<L: Library>(
     ensures stop { IfErr result IsKeyStop }
     ensures same { L.files files.new ≡ L.files files.old }
     ensures library { FileCauses (L.faults files.old) (L.faults files.new) (L.absences files.old) (L.absences files.new) result }
+    ensures no_fault { OnOk result (L.faults files.new ≡ L.faults files.old) }
+    ensures no_fault_at_refusal { IfErr result (λ status. status ≢ ListStatus.FileFault → L.faults files.new ≡ L.faults files.old) }
     ensures due { result ≡ Err ListStatus.FileFault → Told (λ fs. (due : List ℕ) × IsDue fs (option_copied asked.now.filekey) asked.now.digest 0 (map string_bytes asked.now.key_files.items) due × L.failed_last files.new due) (L.files files.old) }
 {
     match load(alloc, files, &asked.key_files, asked.filekey, asked.digest) {

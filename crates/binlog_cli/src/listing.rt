@@ -6,12 +6,12 @@ ghost use Rattle.io_core.specs.Stream.{IsPartlyGiven, extended};
 ghost use Rattle.binlog_cli.specs.EventLines.{end_line};
 ghost use Rattle.binlog_cli.specs.Printed.{IsPrinted};
 ghost use Rattle.binlog_cli.specs.Listing.{HasLogListing, IsStoppedAt, refused_place};
-ghost use Rattle.binlog_cli.specs.Stops.{FileCauses, IsListStop, IsLogStop, PrintCauses, list_status_of, log_stop};
+ghost use Rattle.binlog_cli.specs.Stops.{FileCauses, IsListStop, IsLogStop, PrintCauses, first_stop, list_status_of, log_stop};
 
 use crate::ListStatus;
 use crate::lines::{end_line, event_lines};
 use crate::printing::{give_text, print_lines};
-use crate::status::{log_stop, refused_place};
+use crate::status::{first_stop, log_stop, refused_place};
 use binlog_text::{BinlogFault, LogReader};
 use io_core::{Library, Sink};
 use key_ring::Ring;
@@ -31,6 +31,7 @@ fn end_of_log<K: Sink>(
         → MatchResult result (λ _. K.given out.new ≡ extended (front ++ end_line length) before) (λ _. IsPartlyGiven (front ++ end_line length) before (K.given out.new)) }
     ensures stop { IfErr result IsListStop }
     ensures cause { PrintCauses (K.faults out.old) (K.faults out.new) result }
+    ensures no_out_fault { list_status_of result ≢ ListStatus.OutFault → K.faults out.new ≡ K.faults out.old }
     ensures inside { result ≢ Err ListStatus.FileFault }
 {
     let line = end_line(alloc, length)?;
@@ -39,7 +40,7 @@ fn end_of_log<K: Sink>(
 }
 
 // Gives what is left of the text, and answers the fault. `reached`, where the event that is due begins,
-// becomes the place of the refusal.
+// becomes the place of the refusal. A fault of the file stays the answer where the text can't be given.
 fn end_by_fault<K: Sink>(
     text: &str,
     fault: BinlogFault,
@@ -50,10 +51,16 @@ fn end_by_fault<K: Sink>(
         → ((result ≡ Err (log_stop fault)) × (K.given out.new ≡ extended front before)) ⊎ (IsErrAnd result IsListStop × IsPartlyGiven front before (K.given out.new)) }
     ensures answer { ((result ≡ Err (log_stop fault)) × (reached.new ≡ refused_place reached.old fault)) ⊎ (((result ≡ Err ListStatus.OutFault) × (text.now ≢ []) × (reached.new ≡ reached.old)) ⊎ ((result ≡ Err ListStatus.OutOfMemory) × (reached.new ≡ reached.old))) }
     ensures cause { PrintCauses (K.faults out.old) (K.faults out.new) result }
+    ensures no_out_fault { list_status_of result ≢ ListStatus.OutFault → list_status_of result ≢ ListStatus.FileFault → K.faults out.new ≡ K.faults out.old }
+    ensures file_first { fault ≡ BinlogFault.FileFault → result ≡ Err ListStatus.FileFault }
 {
-    give_text(out, text)?;
-    *reached = refused_place(*reached, fault);
-    Err(log_stop(fault))
+    match give_text(out, text) {
+        Ok(()) => {
+            *reached = refused_place(*reached, fault);
+            Err(log_stop(fault))
+        }
+        Err(stop) => Err(first_stop(fault, stop)),
+    }
 }
 
 /// Lists the events of the log of a name, with their bytes where `is_hex` says so. `reached` becomes the
@@ -75,6 +82,8 @@ pub(crate) fn list_log<L: Library, K: Sink>(
     ensures same { L.files files.new ≡ L.files files.old }
     ensures library { FileCauses (L.faults files.old) (L.faults files.new) (L.absences files.old) (L.absences files.new) result }
     ensures sink { PrintCauses (K.faults out.old) (K.faults out.new) result }
+    ensures no_file_fault { list_status_of result ≢ ListStatus.FileFault → L.faults files.new ≡ L.faults files.old }
+    ensures no_out_fault { list_status_of result ≢ ListStatus.OutFault → list_status_of result ≢ ListStatus.FileFault → K.faults out.new ≡ K.faults out.old }
     ensures due { IsErrOf result ListStatus.FileFault → L.failed_last files.new name.now }
     ensures reached { Told (λ fs. IsStoppedAt ring.now (fs name.now) (list_status_of result) reached.new) (L.files files.old) }
 {

@@ -3,7 +3,7 @@
 ghost use Rattle.std.specs.Prelude.{◌≡◌, ◌≢◌, ◌++◌, [], Err, ℕ, List, Option, IfErr, MatchResult, OnOk, OnErr, string_bytes};
 ghost use Rattle.io_core.specs.Stream.{IsPartlyGiven, extended};
 ghost use Rattle.binlog_cli.specs.Printed.{IsPrinted};
-ghost use Rattle.binlog_cli.specs.Stops.{IsListStop, PrintCauses};
+ghost use Rattle.binlog_cli.specs.Stops.{IsListStop, PrintCauses, list_status_of};
 
 use crate::ListStatus;
 use crate::status::print_stop;
@@ -18,6 +18,7 @@ pub(crate) fn give_text<K: Sink>(out: &mut K, text: &str) -> Result<(), ListStat
     ensures err { OnErr result (IsPartlyGiven text.now (K.given out.old) (K.given out.new)) }
     ensures stop { IfErr result IsListStop }
     ensures cause { PrintCauses (K.faults out.old) (K.faults out.new) result }
+    ensures no_out_fault { list_status_of result ≢ ListStatus.OutFault → K.faults out.new ≡ K.faults out.old }
     ensures inside { result ≢ Err ListStatus.FileFault }
     ensures some { result ≡ Err ListStatus.OutFault → text.now ≢ [] }
 {
@@ -41,6 +42,7 @@ pub(crate) fn print_lines<K: Sink>(
         (λ _. IsPartlyGiven (front ++ lines.now) before (K.given out.new)) }
     ensures stop { IfErr result IsListStop }
     ensures cause { PrintCauses (K.faults out.old) (K.faults out.new) result }
+    ensures no_out_fault { list_status_of result ≢ ListStatus.OutFault → K.faults out.new ≡ K.faults out.old }
     ensures inside { result ≢ Err ListStatus.FileFault }
     ensures some { result ≡ Err ListStatus.OutFault → string_bytes text.old ++ lines.now ≢ [] }
 {

@@ -2,7 +2,7 @@
 
 ghost use Rattle.std.specs.Prelude.{◌≡◌};
 ghost use Rattle.binlog_cli.specs.Listing.{refused_place};
-ghost use Rattle.binlog_cli.specs.Stops.{key_stop, list_exit_code, log_stop, print_stop};
+ghost use Rattle.binlog_cli.specs.Stops.{first_stop, key_stop, list_exit_code, log_stop, print_stop};
 
 use binlog_text::BinlogFault;
 use io_core::IoError;
@@ -65,6 +65,26 @@ pub(crate) fn log_stop(fault: BinlogFault) -> ListStatus
         | BinlogFault::Scheme(_)
         | BinlogFault::MissingKey { .. }
         | BinlogFault::Checksum { .. } => ListStatus::Log(fault),
+    }
+}
+
+/// What a listing ends with where the log had a fault and then the text so far couldn't be given, which
+/// stops with `stop`. A fault of the file came first, and stays the answer.
+pub(crate) fn first_stop(fault: BinlogFault, stop: ListStatus) -> ListStatus
+    ensures { result ≡ first_stop fault stop }
+{
+    match fault {
+        BinlogFault::FileFault => ListStatus::FileFault,
+        BinlogFault::OutOfMemory
+        | BinlogFault::Missing
+        | BinlogFault::BadMagic
+        | BinlogFault::ShortEvent { .. }
+        | BinlogFault::BadLength { .. }
+        | BinlogFault::NoFormat { .. }
+        | BinlogFault::Algorithm(_)
+        | BinlogFault::Scheme(_)
+        | BinlogFault::MissingKey { .. }
+        | BinlogFault::Checksum { .. } => stop,
     }
 }
 

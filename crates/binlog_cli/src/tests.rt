@@ -183,6 +183,20 @@ fn a_log_of_many_pieces_is_listed(rt: HostRuntime) -> Result<(), Fail> {
 }
 
 #[test]
+fn a_file_fault_stays_where_the_output_fails_too(rt: HostRuntime) -> Result<(), Fail> {
+    let alloc = rt.alloc();
+    let log = long_log(alloc)?;
+    let (ended, said, listed) = run(alloc, &log, "log", [3, 1])?;
+    assert_eq!(rt; ended, 7);
+    assert!(rt;
+        said.as_bytes()
+            .starts_with(b"binlog: file fault in log at ")
+    );
+    assert!(rt; listed.is_empty());
+    Ok(())
+}
+
+#[test]
 fn a_damaged_log_is_listed_up_to_the_damage(rt: HostRuntime) -> Result<(), Fail> {
     let alloc = rt.alloc();
     let table = [

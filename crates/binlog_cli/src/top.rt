@@ -30,6 +30,8 @@ fn list_keyed<L: Library, K: Sink>(
     ensures same { L.files files.new ≡ L.files files.old }
     ensures library { FileCauses {T = Unit {0}} (L.faults files.old) (L.faults files.new) (L.absences files.old) (L.absences files.new) (Err result.status) }
     ensures sink { PrintCauses {T = Unit {0}} (K.faults out.old) (K.faults out.new) (Err result.status) }
+    ensures no_file_fault { result.status ≢ ListStatus.FileFault → L.faults files.new ≡ L.faults files.old }
+    ensures no_out_fault { result.status ≢ ListStatus.OutFault → result.status ≢ ListStatus.FileFault → K.faults out.new ≡ K.faults out.old }
     ensures due { result.status ≡ ListStatus.FileFault → L.failed_last files.new asked.now.name.now }
     ensures reached { (place : ℕ) × (result.reached ≡ Some place) × Told (λ fs. IsStoppedAt ring.now (fs asked.now.name.now) result.status place) (L.files files.old) }
 {
@@ -66,6 +68,8 @@ fn list_asked<L: Library, K: Sink>(
     ensures same { L.files files.new ≡ L.files files.old }
     ensures library { FileCauses {T = Unit {0}} (L.faults files.old) (L.faults files.new) (L.absences files.old) (L.absences files.new) (Err result.status) }
     ensures sink { PrintCauses {T = Unit {0}} (K.faults out.old) (K.faults out.new) (Err result.status) }
+    ensures no_file_fault { result.status ≢ ListStatus.FileFault → L.faults files.new ≡ L.faults files.old }
+    ensures no_out_fault { result.status ≢ ListStatus.OutFault → result.status ≢ ListStatus.FileFault → K.faults out.new ≡ K.faults out.old }
     ensures due { (values : ListValues) → IsAskedBy values asked.now → result.status ≡ ListStatus.FileFault → Told (λ fs. (due : List ℕ) × IsDueAt values fs result.reached due × L.failed_last files.new due) (L.files files.old) }
     ensures reached { (values : ListValues) → IsAskedBy values asked.now → Told (λ fs. IsEndedAt values fs result.status result.reached) (L.files files.old) }
     ensures words { result.status ≢ ListStatus.Usage }
@@ -81,8 +85,9 @@ fn list_asked<L: Library, K: Sink>(
 
 /// Lists the events of the log that the words name, under the keys of the key files that they name, and
 /// prints as it goes. The words come without the program's name. Beside its status it answers how far
-/// the log was reached. A count of faults of the library or of the sink rises only where its fault is
-/// the status.
+/// the log was reached. After a fault of the log what was gathered of the listing is still given: where the
+/// sink fails at that, a fault of the file stays the status, and any other fault of the log gives way to
+/// `OutFault`.
 pub fn list_binlog<L: Library, K: Sink>(
     alloc: Global,
     words: &[String],
@@ -106,6 +111,10 @@ pub fn list_binlog<L: Library, K: Sink>(
     ensures same { L.files files.new ≡ L.files files.old }
     ensures library { FileCauses {T = Unit {0}} (L.faults files.old) (L.faults files.new) (L.absences files.old) (L.absences files.new) (Err result.status) }
     ensures sink { PrintCauses {T = Unit {0}} (K.faults out.old) (K.faults out.new) (Err result.status) }
+    // No other status hides a fault: a count of faults of the library rises only where the status is `FileFault`, and one of the
+    // sink only where it is `OutFault`, or where the file failed first.
+    ensures no_file_fault { result.status ≢ ListStatus.FileFault → L.faults files.new ≡ L.faults files.old }
+    ensures no_out_fault { result.status ≢ ListStatus.OutFault → result.status ≢ ListStatus.FileFault → K.faults out.new ≡ K.faults out.old }
     // A fault of the library is that of a file that was due.
     ensures due { result.status ≡ ListStatus.FileFault → Told (λ fs. (due : List ℕ) × IsDueAt (list_values_in words.now) fs result.reached due × L.failed_last files.new due) (L.files files.old) }
     // Where the log was reached: at its end, at the event that is refused, or behind those that were read. Bytes of the log
@@ -145,10 +154,14 @@ pub fn binlog<L: Library, K: Sink>(
     ensures same { L.files files.new ≡ L.files files.old }
     ensures library { FileCauses {T = Unit {0}} (L.faults files.old) (L.faults files.new) (L.absences files.old) (L.absences files.new) (Err result) }
     ensures sink { PrintCauses {T = Unit {0}} (K.faults out.old) (K.faults out.new) (Err result) }
-    // A fault of the library is that of a file that was due.
-    ensures due { result ≡ ListStatus.FileFault → Told (λ fs. (reached : Option ℕ) × (due : List ℕ) × IsDueAt (list_values_in words.now) fs reached due × L.failed_last files.new due) (L.files files.old) }
-    // Bytes of the log were due at a fault of it, and text at one of the output.
-    ensures ends { Told (λ fs. (reached : Option ℕ) × IsEndedAt (list_values_in words.now) fs result reached) (L.files files.old) }
+    // No other status hides a fault: a count of faults of the library rises only where the status is `FileFault`, and one of the
+    // sink only where it is `OutFault`, or where the file failed first.
+    ensures no_file_fault { result ≢ ListStatus.FileFault → L.faults files.new ≡ L.faults files.old }
+    ensures no_out_fault { result ≢ ListStatus.OutFault → result ≢ ListStatus.FileFault → K.faults out.new ≡ K.faults out.old }
+    // How far the log was reached, if at all, is one place for both: the listing stopped there, where bytes of the log were due at a
+    // fault of it and text at one of the output; and a fault of the library is that of a file that was due there.
+    ensures ends { Told (λ fs. (reached : Option ℕ) × IsEndedAt (list_values_in words.now) fs result reached
+        × (result ≡ ListStatus.FileFault → (due : List ℕ) × IsDueAt (list_values_in words.now) fs reached due × L.failed_last files.new due)) (L.files files.old) }
 {
     let outcome = list_binlog(alloc, words, files, out);
     outcome.status

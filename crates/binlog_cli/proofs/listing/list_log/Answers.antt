@@ -13,6 +13,7 @@ use Rattle.binlog_cli.specs.declared.status.ListStatus.TheVariants.{OutOfMemory}
 use Rattle.binlog_cli.proofs.Gathered.{gathered_part}
 use Rattle.binlog_cli.proofs.SoFar.{SoFar, end_length, events_end, events_fault, events_partly, gathered_some, so_far_none}
 use Rattle.binlog_cli.proofs.Reached.{err_out, handed_out, of_err, of_memory, stopped_end, stopped_fault, wants_bytes}
+use Rattle.binlog_cli.proofs.FirstStops.{handed_still, log_still}
 use Rattle.binlog_cli.proofs.Answered.{answer_err, answer_none, partly_event, reached_event, so_far_event, stands_behind}
 use Rattle.binlog_cli.proofs.listing.list_log.Goals as goal
 
@@ -32,6 +33,8 @@ events-init g c = record {
   faults = omega arith;
   absences = omega arith;
   outs = omega arith;
+  no_file_fault = refl;
+  no_out_fault = refl;
 }
 
 pub returns-in_err-lines-in-Ok-Some-clause-answer : goal.returns-in_err-lines-in-Ok-Some-clause-answer
@@ -102,6 +105,8 @@ events-preserved g c = record {
   faults = omega (arith, c.events.invariant.faults, c.in-Ok-Some.ensures.causes.faults_later);
   absences = omega (arith, c.events.invariant.absences, c.in-Ok-Some.ensures.causes.absences_later);
   outs = omega (arith, c.events.invariant.outs, c.in_ok-print_lines-in-Ok-Some.ensures.cause.later);
+  no_file_fault = c.in-Ok-Some.ensures.no_fault refl ∙ c.events.invariant.no_file_fault;
+  no_out_fault = c.in_ok-print_lines-in-Ok-Some.ensures.no_out_fault (λ e. cc) ∙ c.events.invariant.no_out_fault;
 }
 
 pub returns-in_err-lines-in-Ok-Some-clause-reached : goal.returns-in_err-lines-in-Ok-Some-clause-reached
@@ -153,3 +158,28 @@ returns-in-Err-clause-reached g c = record {
       (λ some. gathered_some (lines_of_events c.args.is_hex so_far.events) (string_bytes c.events.text) _ _ so_far.printed (λ e. some (gathered ∙ e)))
       c.end_by_fault.ensures.answer;
 }
+
+pub returns-in_err-lines-in-Ok-Some-clause-no_file_fault : goal.returns-in_err-lines-in-Ok-Some-clause-no_file_fault
+returns-in_err-lines-in-Ok-Some-clause-no_file_fault g c = λ other. c.in-Ok-Some.ensures.no_fault refl ∙ c.events.invariant.no_file_fault
+
+pub returns-in_err-print_lines-in-Ok-Some-clause-no_file_fault : goal.returns-in_err-print_lines-in-Ok-Some-clause-no_file_fault
+returns-in_err-print_lines-in-Ok-Some-clause-no_file_fault g c = λ other. c.in-Ok-Some.ensures.no_fault refl ∙ c.events.invariant.no_file_fault
+
+pub returns-in_err-print_lines-in-Ok-Some-clause-no_out_fault : goal.returns-in_err-print_lines-in-Ok-Some-clause-no_out_fault
+returns-in_err-print_lines-in-Ok-Some-clause-no_out_fault g c =
+    let own : IsErrAnd c.from_residual-in_err-print_lines-in-Ok-Some.result (λ s. s ≡ c.in_err-print_lines-in-Ok-Some.field-0.0) = search rules in
+    λ out file. handed_still c.from_residual-in_err-print_lines-in-Ok-Some.result _ own c.in_err-print_lines-in-Ok-Some.ensures.no_out_fault out ∙ c.events.invariant.no_out_fault
+
+pub returns-in-Ok-None-clause-no_file_fault : goal.returns-in-Ok-None-clause-no_file_fault
+returns-in-Ok-None-clause-no_file_fault g c = λ other. c.in-Ok-None.ensures.no_fault refl ∙ c.events.invariant.no_file_fault
+
+pub returns-in-Ok-None-clause-no_out_fault : goal.returns-in-Ok-None-clause-no_out_fault
+returns-in-Ok-None-clause-no_out_fault g c = λ out file. c.end_of_log.ensures.no_out_fault out ∙ c.events.invariant.no_out_fault
+
+pub returns-in-Err-clause-no_file_fault : goal.returns-in-Err-clause-no_file_fault
+returns-in-Err-clause-no_file_fault g c = λ other.
+    log_still c.in-Err.fault c.in-Err.ensures.no_fault c.in-Err.ensures.no_fault_at_want (λ file. other (ap list_status_of (c.end_by_fault.ensures.file_first file)))
+    ∙ c.events.invariant.no_file_fault
+
+pub returns-in-Err-clause-no_out_fault : goal.returns-in-Err-clause-no_out_fault
+returns-in-Err-clause-no_out_fault g c = λ out file. c.end_by_fault.ensures.no_out_fault out file ∙ c.events.invariant.no_out_fault

@@ -13,6 +13,8 @@ invariant-events g l = record {
   faults : g.L.Library.faults l.fn.files ≤ g.L.Library.faults l.files;
   absences : g.L.Library.absences l.fn.files ≤ g.L.Library.absences l.files;
   outs : g.K.Sink.faults l.fn.out ≤ g.K.Sink.faults l.out;
+  no_file_fault : g.L.Library.faults l.files ≡ g.L.Library.faults l.fn.files;
+  no_out_fault : g.K.Sink.faults l.out ≡ g.K.Sink.faults l.fn.out;
 }
 
 abbrev pub decreases-events : goal.decreases-events
