@@ -21,9 +21,9 @@ use crate::status::Status;
 use crate::words::{SpaceWords, check_words};
 use cause_core::OutOfMemory;
 use disk_model::Disk;
-use plain_engine::Journal;
 use io_core::{IoError, Library, Sink, Source, SourceContents, read_all};
 use key_file::LoadFault;
+use plain_engine::Journal;
 use rand_core::Rng;
 use std::alloc::Global;
 
