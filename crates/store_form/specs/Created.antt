@@ -8,11 +8,13 @@ use Rattle.page_places.specs.Texts.{page_bytes}
 use Rattle.places.specs.Places.{place}
 use Rattle.space_head.specs.declared.space.SpaceInfo.{SpaceInfo}
 use Rattle.store_files.specs.Header.{header_in}
+use Rattle.store_image.specs.View.{block_bytes}
 use Rattle.store_image.specs.Record.{Item, PageText, RingBlock}
 use Rattle.store_model.specs.Fold.{empty}
 use Rattle.crash_image.specs.Recovers.{Recovers}
 use Rattle.crash_image.specs.Stands.{Lucky}
 use Rattle.crash_image.specs.Writes.{written_items}
+use Rattle.store_form.specs.Creation.{first_lsn}
 
 -- no file of these spaces is there
 abbrev pub AreAbsent : List SpaceInfo → List Event → Type 0
@@ -32,7 +34,7 @@ HaveFirstPlaces (s ∷ ss) es = InFile (Space s.space) 0 page_bytes es × HaveFi
 
 -- there is no valid header
 abbrev pub IsNotFormatted : Image → Type 0
-IsNotFormatted image = (image.is_made Log ≡ false) ⊎ (header_in (place 4096 0 (image.bytes Log)) ≡ None)
+IsNotFormatted image = (image.is_made Log ≡ false) ⊎ (header_in (place block_bytes 0 (image.bytes Log)) ≡ None)
 
 -- Each image whose torn places fail their checksums has no valid header, or recovers to the spaces with each page from page 1 on unused.
 abbrev pub LeaveNoneOrEmpty : List SpaceInfo → List Event → Type 0
@@ -40,7 +42,7 @@ LeaveNoneOrEmpty spaces es = (image : Image) → IsImage es image → Lucky imag
 
 -- the text of a page 0 at LSN 8192, and no ring block
 abbrev pub IsFirstPage : Item → Type 0
-IsFirstPage (PageText s p t) = (p ≡ 0) × (t.lsn ≡ 8192)
+IsFirstPage (PageText s p t) = (p ≡ 0) × (t.lsn ≡ first_lsn)
 IsFirstPage (RingBlock n version bytes) = ⊥
 
 -- Since s no mark was told, and of page texts and ring blocks only texts of pages 0 were written.

@@ -3,16 +3,22 @@ use Rattle.std.specs.Prelude.{◌≡◌, ◌⊎◌, ℕ, ◌+◌, ◌*◌, List,
 use Rattle.disk_model.specs.Event.{Event, Open, Make, Write, Sync, Tell}
 use Rattle.disk_model.specs.Past.{Past, grow, IsWrite}
 use Rattle.disk_model.specs.declared.names.FileName.TheVariants.{Log, Double, Space}
-use Rattle.page_places.specs.Texts.{page_bytes}
+use Rattle.page_places.specs.Texts.{page_bytes, slot_size}
 use Rattle.page_text.specs.Text.{text}
 use Rattle.redo_log.specs.Events.{check_event}
 use Rattle.space_head.specs.declared.space.SpaceInfo.{SpaceInfo}
 use Rattle.store_files.specs.Header.{HeldHeader, header_bytes}
 use Rattle.store_files.specs.Pages.{head_page}
+use Rattle.store_image.specs.Checkpoint.{front_blocks}
+use Rattle.store_image.specs.View.{block_bytes, slot_count}
+
+-- the LSN of the log's first block, which the pages 0 are made at
+abbrev pub first_lsn : ℕ
+first_lsn = 8192
 
 -- the text of page 0 of a space as it is made: its head in clear, at the LSN of the log's first block
 unfoldable pub first_text : SpaceInfo → List ℕ
-first_text info = text info.space 0 8192 0 None (head_page info)
+first_text info = text info.space 0 first_lsn 0 None (head_page info)
 
 -- the files of the spaces, of zero bytes
 abbrev pub spaces_begun : List SpaceInfo → List Event
@@ -21,7 +27,7 @@ spaces_begun (s ∷ ss) = Make (Space s.space) (s.pages * page_bytes) ∷ spaces
 
 -- all files
 abbrev pub files_begun : HeldHeader → List SpaceInfo → List Event
-files_begun header spaces = Make Log ((3 + header.blocks) * 4096) ∷ Make Double (64 * 16896) ∷ spaces_begun spaces
+files_begun header spaces = Make Log ((front_blocks + header.blocks) * block_bytes) ∷ Make Double (slot_count * slot_size) ∷ spaces_begun spaces
 
 -- page 0 of each space, and a sync of it
 abbrev pub first_pages_written : List SpaceInfo → List Event

@@ -8,7 +8,7 @@ use Rattle.disk_model.specs.Event.{Event, is_there, reads}
 use Rattle.disk_model.specs.Past.{Past, At}
 use Rattle.disk_model.specs.declared.names.FileName.TheVariants.{Log, Double, Space}
 use Rattle.places.specs.Places.{place}
-use Rattle.page_places.specs.Texts.{page_bytes, are_zero}
+use Rattle.page_places.specs.Texts.{page_bytes, are_zero, slot_size}
 use Rattle.space_head.specs.Head.{head_of}
 use Rattle.space_head.specs.declared.head.SpaceHead.{SpaceHead}
 use Rattle.space_head.specs.declared.space.SpaceInfo.{SpaceInfo}
@@ -16,6 +16,8 @@ use Rattle.space_head.specs.declared.space.Home.{Home}
 use Rattle.space_head.specs.declared.space.Home.TheVariants.{Unused, Clean, Dirty}
 use Rattle.store_files.specs.Header.{HeldHeader, HeldSpace, header_in, are_allowed}
 use Rattle.store_files.specs.Checkpoint.{IsNewestCheckpoint}
+use Rattle.store_image.specs.Checkpoint.{front_blocks}
+use Rattle.store_image.specs.View.{block_bytes, slot_count}
 
 -- no page that was changed since it was written
 abbrev pub AreNoneDirty : List Home → Type 0
@@ -66,11 +68,11 @@ SpacesRead (s ∷ ss) (o ∷ os) es = SpaceReads s o es × SpacesRead ss os es
 
 -- the disk reads as the store that is told
 pub record ReadsAtRest (header : HeldHeader) (spaces : List SpaceInfo) (homes : List (List Home)) (next sequence : ℕ) (es : List Event) : Type 0 where
-  pub is_header : header_in (place 4096 0 (reads Log es)) ≡ Some header
+  pub is_header : header_in (place block_bytes 0 (reads Log es)) ≡ Some header
   pub log_there : is_there Log es ≡ true
-  pub log : length (reads Log es) ≡ (3 + header.blocks) * 4096
+  pub log : length (reads Log es) ≡ (front_blocks + header.blocks) * block_bytes
   pub double_there : is_there Double es ≡ true
-  pub double : length (reads Double es) ≡ 64 * 16896
+  pub double : length (reads Double es) ≡ slot_count * slot_size
   pub checkpoint : IsNewestCheckpoint (reads Log es) (record { sequence = sequence; from = next })
   pub spaces_read : SpacesRead spaces homes es
 

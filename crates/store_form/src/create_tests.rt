@@ -102,7 +102,11 @@ fn first_page() -> [u8; 16384] {
     put_be32(&mut page, 38, 5);
     put_be32(&mut page, 46, 4);
     put_be32(&mut page, 54, 0x15);
-    put(&mut page, 10428, &[0x73, 0x0e, 0x0c, 0x52, 0x45, 0x74, 1, 16]);
+    put(
+        &mut page,
+        10428,
+        &[0x73, 0x0e, 0x0c, 0x52, 0x45, 0x74, 1, 16],
+    );
     put(&mut page, 10436, &[0x11; 16]);
     put(&mut page, 10452, &[0, 0, 0, 1, 0, 0, 0, 1, 1]);
     put_be32(&mut page, 16376, 8192);
@@ -191,10 +195,12 @@ fn has_space<D: Disk>(disk: &mut D) -> Result<bool, Fail> {
 
 // Whether the files are those of a new store, byte by byte.
 fn is_new_store<D: Disk>(disk: &mut D, algorithm: Algorithm) -> Result<bool, Fail> {
-    Ok(has_block(disk, 0, &header_block(algorithm))?
-        && has_log(disk)?
-        && has_double(disk)?
-        && has_space(disk)?)
+    Ok(
+        has_block(disk, 0, &header_block(algorithm))?
+            && has_log(disk)?
+            && has_double(disk)?
+            && has_space(disk)?,
+    )
 }
 
 fn creates(rt: &HostRuntime, algorithm: Algorithm) -> Result<bool, Fail> {

@@ -6,6 +6,7 @@ ghost use Rattle.page_places.specs.Texts.{page_bytes};
 ghost use Rattle.page_text.specs.Text.{IsText, plain_of};
 ghost use Rattle.space_head.specs.Head.{head_of, with_head};
 ghost use Rattle.store_files.specs.Pages.{IsTypedInfo, head_of_space, head_page};
+ghost use Rattle.store_form.specs.Creation.{first_lsn};
 
 use byte_list::fields::put;
 use page_text::{PageMut, Seal, seal};
@@ -64,7 +65,7 @@ fn write_fields(page: &mut [u8], info: &SpaceInfo)
 fn seal_first(page: &mut [u8], space: u32)
     requires long { length page.old ≡ page_bytes }
     requires kind { be16_at page.old 24 ≡ 8 }
-    ensures text { IsText page_bytes space 0 8192 0 None (plain_of page.old) page.new }
+    ensures text { IsText page_bytes space 0 first_lsn 0 None (plain_of page.old) page.new }
     ensures long { length page.new ≡ page_bytes }
 {
     let mut text = PageMut::of(page);
@@ -81,7 +82,7 @@ fn seal_first(page: &mut [u8], space: u32)
 // Makes of 16384 bytes the text of page 0 of a space as it is created, at LSN 8192, in clear.
 pub(crate) fn fill_first_page(page: &mut [u8], info: &SpaceInfo)
     requires { length page.old ≡ page_bytes }
-    ensures text { IsText page_bytes info.now.space 0 8192 0 None (head_page info.now) page.new }
+    ensures text { IsText page_bytes info.now.space 0 first_lsn 0 None (head_page info.now) page.new }
     ensures long { length page.new ≡ page_bytes }
     ensures head { head_of page.new ≡ Ok (head_of_space info.now) }
 {

@@ -1,8 +1,9 @@
 // The header of a store.
 ghost use Rattle.std.specs.Prelude.{◌≡◌, ◌≤◌, IfSome, IfNone, Some, None, length, take, map, codes, true, nat_eq, nat_le, ◌&&◌};
-ghost use Rattle.page_places.specs.Texts.{ends_in_sum};
+ghost use Rattle.page_places.specs.Texts.{ends_in_sum, page_bytes};
 ghost use Rattle.byte_list.specs.Fields.{be32_at};
 ghost use Rattle.store_files.specs.Header.{are_in_order, header_in, pages_together};
+ghost use Rattle.store_image.specs.View.{block_bytes};
 ghost use Rattle.byte_list.specs.Bytes.{range};
 ghost use Rattle.store_form.specs.Said.{algorithm_named, header_said, space_said};
 
@@ -43,7 +44,7 @@ pub struct Header {
 const FORMAT: u32 = 2;
 
 // The bytes of a page.
-const PAGE_BYTES: u32 = 16384;
+const PAGE_BYTES: u32 = page_places::PAGE_BYTES as u32;
 
 // The most pages of all spaces together.
 const MOST_PAGES: u64 = 16384;
@@ -59,7 +60,7 @@ fn ends_in_sum(block: &[u8]) -> bool
 }
 
 fn has_magic(block: &[u8]) -> bool
-    requires { length block.now ≡ 4096 }
+    requires { length block.now ≡ block_bytes }
     ensures yes { result ≡ true → take 8 block.now ≡ codes "KEYSTOR1" }
     ensures no { take 8 block.now ≡ codes "KEYSTOR1" → result ≡ true }
 {
@@ -70,8 +71,8 @@ fn has_magic(block: &[u8]) -> bool
 
 // Whether format and page size are those that are read.
 fn has_form(block: &[u8]) -> bool
-    requires { length block.now ≡ 4096 }
-    ensures { result ≡ (nat_eq (be32_at block.now 8) 2 && nat_eq (be32_at block.now 12) 16384) }
+    requires { length block.now ≡ block_bytes }
+    ensures { result ≡ (nat_eq (be32_at block.now 8) 2 && nat_eq (be32_at block.now 12) page_bytes) }
 {
     be32_at(block, 8) == FORMAT && be32_at(block, 12) == PAGE_BYTES
 }
@@ -104,7 +105,7 @@ fn algorithm_of(code: u32) -> Option<Algorithm>
 }
 
 fn salt_of(block: &[u8]) -> [u8; 16]
-    requires { length block.now ≡ 4096 }
+    requires { length block.now ≡ block_bytes }
     ensures { result ≡ range 24 16 block.now }
 {
     let mut salt = [0; 16];
@@ -115,7 +116,7 @@ fn salt_of(block: &[u8]) -> [u8; 16]
 /// The header in block 0 of a log, of 4096 bytes. There is none exactly where the block isn't a valid
 /// header of format 2. It takes no memory.
 pub fn read_header(block: &[u8]) -> Option<Header>
-    requires { length block.now ≡ 4096 }
+    requires { length block.now ≡ block_bytes }
     ensures some { IfSome result (λ header. header_in block.now ≡ Some (header_said header)) }
     ensures none { IfNone result (header_in block.now ≡ None) }
     ensures format { IfSome result (λ header. header.format ≡ 2) }

@@ -2,6 +2,7 @@
 ghost use Rattle.std.specs.Prelude.{◌≡◌, ℕ, List, ◌+◌, ◌-◌, ◌*◌, ◌≤◌, ◌<◌, ◌++◌, [], ◌∷◌, length, map};
 ghost use Rattle.byte_list.specs.Bytes.{put, zeros};
 ghost use Rattle.store_files.specs.Header.{algorithm_code, header_bytes, space_words};
+ghost use Rattle.store_image.specs.View.{block_bytes};
 ghost use Rattle.store_form.specs.HeaderParts.{first_words, with_checksum, space_part};
 ghost use Rattle.store_form.specs.Said.{header_said, space_said};
 
@@ -46,20 +47,20 @@ fn space_part(space: &HeaderSpace) -> [u8; 12]
 }
 
 fn fill_space(block: &mut [u8], i: usize, space: &HeaderSpace)
-    requires long { length block.old ≡ 4096 }
+    requires long { length block.old ≡ block_bytes }
     requires few { i < 16 }
     ensures part { block.new ≡ put (40 + 12 * i) (space_part (space_said space.now)) block.old }
-    ensures long { length block.new ≡ 4096 }
+    ensures long { length block.new ≡ block_bytes }
 {
     put(block, 40 + 12 * i, &space_part(space));
 }
 
 // The spaces behind the first 40 bytes of a block, the rest of which is zero bytes.
 fn fill_spaces(block: &mut [u8], spaces: &[HeaderSpace])
-    requires long { length block.old ≡ 4096 }
+    requires long { length block.old ≡ block_bytes }
     requires few { length spaces.now ≤ 16 }
     ensures words { (w : List ℕ) → length w ≡ 40 → block.old ≡ w ++ zeros 4056 → block.new ≡ (w ++ space_words (map space_said spaces.now)) ++ zeros (4056 - 12 * length spaces.now) }
-    ensures long { length block.new ≡ 4096 }
+    ensures long { length block.new ≡ block_bytes }
 {
     for i in 0..spaces.len() {
         fill_space(block, i, &spaces[i]);
@@ -68,7 +69,7 @@ fn fill_spaces(block: &mut [u8], spaces: &[HeaderSpace])
 
 // The checksum of all bytes before it.
 fn fill_sum(block: &mut [u8])
-    requires { length block.old ≡ 4096 }
+    requires { length block.old ≡ block_bytes }
     ensures { block.new ≡ with_checksum block.old }
 {
     let end = block.len() - 4;
@@ -78,7 +79,7 @@ fn fill_sum(block: &mut [u8])
 
 // Makes of 4096 bytes the block of a header.
 pub(crate) fn fill_header(block: &mut [u8], header: &Header)
-    requires long { length block.old ≡ 4096 }
+    requires long { length block.old ≡ block_bytes }
     requires blocks { header.now.blocks ≤ 4096 }
     requires count { header.now.count ≤ 16 }
     ensures { block.new ≡ header_bytes (header_said header.now) }

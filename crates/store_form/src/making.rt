@@ -6,6 +6,7 @@ ghost use Rattle.disk_model.specs.Past.{At, HasDiskCause, HasDiskMemoryCause, gr
 ghost use Rattle.disk_model.specs.declared.names.DiskError.TheVariants.{NoMemory};
 ghost use Rattle.disk_model.specs.declared.names.FileName.TheVariants.{Log, Space};
 ghost use Rattle.page_places.specs.Texts.{page_bytes};
+ghost use Rattle.store_image.specs.View.{block_bytes};
 ghost use Rattle.store_form.specs.Created.{AreAbsent, HasNoFile, HaveFirstPlaces};
 ghost use Rattle.store_form.specs.Creation.{IsStopped, creation, files_begun, first_pages_written, first_text, header_written, past_after, spaces_begun};
 ghost use Rattle.store_form.specs.Made.{AreMadeInfos, CanBeMade, DifferInId, IsMadeInfo};
@@ -17,11 +18,14 @@ use crate::header_block::fill_header;
 use disk_model::{Disk, DiskError, FileName};
 use redo_log::write_first_checkpoint;
 use space_head::SpaceInfo;
+use store_files::{BLOCK_BYTES, FRONT_BLOCKS};
 
 // The bytes of a page, and of the doublewrite file.
-const PAGE_BYTES: u64 = 16384;
+const PAGE: usize = page_places::PAGE_BYTES;
 
-const DOUBLE_BYTES: u64 = 64 * 16896;
+const PAGE_BYTES: u64 = page_places::PAGE_BYTES as u64;
+
+const DOUBLE_BYTES: u64 = (page_places::SLOTS * page_places::SLOT_BYTES) as u64;
 
 // Makes the files of spaces.
 fn begin_spaces<D: Disk>(disk: &mut D, spaces: &[SpaceInfo]) -> Result<(), DiskError>
@@ -63,7 +67,10 @@ fn begin_files<D: Disk>(
     ensures no_fault_at_want { IsErrOf result NoMemory → D.faults disk.new ≡ D.faults disk.old }
     ensures no_refusal { OnOk result (D.memory_refusals disk.new ≡ D.memory_refusals disk.old) }
 {
-    disk.make(FileName::Log, (3 + header.blocks) * 4096)?;
+    disk.make(
+        FileName::Log,
+        (FRONT_BLOCKS as u64 + header.blocks) * BLOCK_BYTES as u64,
+    )?;
     disk.make(FileName::Double, DOUBLE_BYTES)?;
     begin_spaces(disk, spaces)
 }
@@ -107,7 +114,7 @@ fn write_first_pages<D: Disk>(disk: &mut D, spaces: &[SpaceInfo]) -> Result<(), 
     ensures no_fault_at_want { IsErrOf result NoMemory → D.faults disk.new ≡ D.faults disk.old }
     ensures no_refusal { OnOk result (D.memory_refusals disk.new ≡ D.memory_refusals disk.old) }
 {
-    let mut page = [0; 16384];
+    let mut page = [0; PAGE];
     for i in 0..spaces.len() {
         write_first_page(disk, &spaces[i], &mut page)?;
     }
@@ -118,7 +125,7 @@ fn write_first_pages<D: Disk>(disk: &mut D, spaces: &[SpaceInfo]) -> Result<(), 
 fn write_header<D: Disk>(disk: &mut D, header: &Header) -> Result<(), DiskError>
     requires most { header.now.blocks ≤ 4096 }
     requires count { header.now.count ≤ 16 }
-    requires inside { At (InFile Log 0 4096) (D.past disk.old) }
+    requires inside { At (InFile Log 0 block_bytes) (D.past disk.old) }
     ensures ok { OnOk result (D.past disk.new ≡ past_after (header_written (header_said header.now)) (D.past disk.old)) }
     ensures err { OnErr result (IsStopped (header_written (header_said header.now)) (D.past disk.old) (D.past disk.new)) }
     ensures later { D.is_later disk.old disk.new }
@@ -129,7 +136,7 @@ fn write_header<D: Disk>(disk: &mut D, header: &Header) -> Result<(), DiskError>
     ensures no_fault_at_want { IsErrOf result NoMemory → D.faults disk.new ≡ D.faults disk.old }
     ensures no_refusal { OnOk result (D.memory_refusals disk.new ≡ D.memory_refusals disk.old) }
 {
-    let mut block = [0; 4096];
+    let mut block = [0; BLOCK_BYTES];
     fill_header(&mut block, header);
     disk.write(FileName::Log, 0, &block)?;
     disk.sync(FileName::Log)

@@ -24,7 +24,7 @@ use page_text::{OpenFault, PageKey, PageMut, unseal};
 use space_head::{Home, SpaceInfo};
 
 // The bytes of a page, for places in a space's file.
-const PAGE_BYTES: u64 = 16384;
+const PAGE_BYTES: u64 = page_places::PAGE_BYTES as u64;
 
 // The place of a space among the spaces of a store.
 pub(crate) fn place_of(spaces: &[SpaceInfo], space: u32) -> usize

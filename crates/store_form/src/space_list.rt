@@ -2,6 +2,7 @@
 ghost use Rattle.std.specs.Prelude.{◌≡◌, ◌+◌, ◌≤◌, ◌<◌, length, take, map, nat_lt, nat_le, ◌&&◌};
 ghost use Rattle.byte_list.specs.Fields.{be32_at};
 ghost use Rattle.store_files.specs.Header.{are_in_order, pages_together, spaces_at};
+ghost use Rattle.store_image.specs.View.{block_bytes};
 ghost use Rattle.store_form.specs.Said.{space_said};
 
 use crate::HeaderSpace;
@@ -33,7 +34,7 @@ fn read_space(block: &[u8], at: usize) -> HeaderSpace
 
 // The spaces of a header, and behind them none.
 pub(crate) fn read_spaces(block: &[u8], count: usize) -> [HeaderSpace; MOST_SPACES]
-    requires size { length block.now ≡ 4096 }
+    requires size { length block.now ≡ block_bytes }
     requires few { count ≤ 16 }
     ensures { map space_said (take count result) ≡ spaces_at block.now 40 count }
 {
