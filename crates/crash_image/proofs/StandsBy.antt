@@ -1,5 +1,5 @@
 -- From the theory to bytes: where the theory says that a view stands or recovers, the image does.
-use Rattle.std.proofs.Common.{◌≡◌, ℕ, ◌+◌, ◌*◌, ◌≤◌, true, nat_le, if◌then◌else◌, List, [], ◌∷◌, take, Option, Some, None, refl, sym, ap, subst, ◌∙◌}
+use Rattle.std.proofs.Common.{◌≡◌, ℕ, ◌+◌, ◌*◌, ◌≤◌, true, List, [], ◌∷◌, take, Option, Some, None, refl, sym, ap, subst, ◌∙◌}
 use Rattle.std.specs.Prelude.{Contains}
 use Rattle.disk_model.specs.Image.{Image}
 use Rattle.disk_model.specs.Marks.{acked, minimum_of}
@@ -16,7 +16,7 @@ use Rattle.store_files.specs.Pages.{Page, has_page, pages_of, salts_of, HaveSpac
 use Rattle.store_files.proofs.Folds.{pages_after, spaces_after, spaces_folded, salts_folded}
 use Rattle.crash_image.specs.StoreTheory.{store_theory}
 use Rattle.crash_image.specs.Reading.{Reading}
-use Rattle.crash_image.specs.Stands.{Named, Stands, entries_to, mtrs_of}
+use Rattle.crash_image.specs.Stands.{Named, Stands, mtrs_of}
 
 -- ---- contents that are equal on the store's pages
 
@@ -45,10 +45,6 @@ module _ (header : HeldHeader) (keys : List RingEntry) (salts : ℕ → List ℕ
   abbrev T : pages.Theory
   T = store_theory header keys salts
 
-  pub count_is : (lsn : ℕ) (journal : List (Logged (List Change))) → pages.count_to T lsn journal ≡ entries_to lsn journal
-  count_is lsn [] = refl
-  count_is lsn (e ∷ es) = ap (λ (n : ℕ). if nat_le e.lsn lsn then 1 + n else 0) (count_is lsn es)
-
   -- the fold of a journal over contents is its fold of each page
   pub folded : (es : List (Logged (List Change))) (base : List SpaceContents) → HaveSpaces header.spaces base → (c : ℕ → ℕ → Page) → ((s p : ℕ) → has_page header.spaces s p ≡ true → c s p ≡ pages_of base s p)
       → (s p : ℕ) → has_page header.spaces s p ≡ true → pages.fold_pages T es c s p ≡ pages_of (fold (mtrs_of es) base) s p
@@ -65,11 +61,11 @@ module _ (image : Image) (keys : List RingEntry) (header : HeldHeader) (log : Lo
       → ((id version : ℕ) → Named image header log active id version → Contains named (id, version)) → Stands base journal image keys named active
   stands_by base journal named active last ends reading stands keyed =
       let T = store_theory header keys (salts_of base) in
-      let k : ℕ = entries_to ((last + 1) * 4096) journal in
+      let k : ℕ = pages.count_to ((last + 1) * 4096) journal in
       let front : List (Logged (List Change)) = take k journal in
-      let count : pages.count_to T (log.end * 4096) journal ≡ k = count_is header keys (salts_of base) (log.end * 4096) journal ∙ ap (λ (n : ℕ). entries_to (n * 4096) journal) (sym ends) in
+      let count : pages.count_to (log.end * 4096) journal ≡ k = ap (λ (n : ℕ). pages.count_to (n * 4096) journal) (sym ends) in
       let contents : List SpaceContents = fold (mtrs_of front) base in
-      let same : (s p : ℕ) → has_page header.spaces s p ≡ true → pages.fold_pages T (take (pages.count_to T (log.end * 4096) journal) journal) (pages_of base) s p ≡ pages_of contents s p =
+      let same : (s p : ℕ) → has_page header.spaces s p ≡ true → pages.fold_pages T (take (pages.count_to (log.end * 4096) journal) journal) (pages_of base) s p ≡ pages_of contents s p =
       λ s p there. ap (λ (n : ℕ). pages.fold_pages T (take n journal) (pages_of base) s p) count ∙ folded header keys (salts_of base) front base reading.spaces (pages_of base) (λ r q is. refl) s p there in
       let salts : salts_of base ≡ salts_of contents = λ i s. sym (salts_folded (mtrs_of front) base s) i in
       let recovers : pages.ViewRecovers T (view log image) (pages_of contents) = recovers_same T (view log image) _ (pages_of contents) same stands.recovers in

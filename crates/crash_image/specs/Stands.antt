@@ -1,5 +1,5 @@
 -- Which keys an image needs, when its torn places are told from whole ones, and when it stands for a beginning of a journal.
-use Rattle.std.specs.Prelude.{◌≡◌, ◌≢◌, ℕ, ◌+◌, ◌*◌, ◌<◌, ◌≤◌, Bool, true, nat_le, if◌then◌else◌, List, [], ◌∷◌, map, take, Some, Contains}
+use Rattle.std.specs.Prelude.{◌≡◌, ◌≢◌, ℕ, ◌+◌, ◌*◌, ◌<◌, ◌≤◌, Bool, true, List, map, take, Some, Contains}
 use Rattle.disk_model.specs.Image.{Image, IsLucky}
 use Rattle.disk_model.specs.Marks.{acked}
 use Rattle.disk_model.specs.declared.names.FileName.{FileName}
@@ -8,7 +8,7 @@ use Rattle.key_ring.specs.Ring.{RingEntry}
 use Rattle.page_places.specs.Texts.{ends_in_sum, slot_sums_up}
 use Rattle.page_places.specs.Views.{view}
 use Rattle.store_image.specs.Places.{LogView}
-use Rattle.store_image.specs.Recovers.{ViewRotated}
+use Rattle.store_image.specs.Recovers.{ViewRotated, count_to}
 use Rattle.store_image.specs.View.{Text, Logged, IsChosen, IsLive, block_bytes}
 use Rattle.store_model.specs.Fold.{fold}
 use Rattle.redo_text.specs.declared.change.Change.{Change}
@@ -51,15 +51,10 @@ pub record RecoversRotated (image : Image) (keys : List RingEntry) (c : List Spa
   pub recovers : Recovers image keys c last
   pub rotated : Rotated image keys recovers.header recovers.log c
 
--- how many entries of the journal have an LSN of at most this
-abbrev pub entries_to : ℕ → List (Logged (List Change)) → ℕ
-entries_to lsn [] = 0
-entries_to lsn (e ∷ es) = if nat_le e.lsn lsn then 1 + entries_to lsn es else 0
-
 -- The image stands for the first entries of the journal over the base contents, as many as its run reaches: it recovers to their fold, they hold all that was acknowledged, no key that was given up is needed, and each key that is needed is among the named.
 pub record Stands (base : List SpaceContents) (journal : List (Logged (List Change))) (image : Image) (keys : List RingEntry) (named : List (ℕ × ℕ)) (active : ℕ) : Type 0 where
   pub last : ℕ
-  pub recovers : Recovers image keys (fold (mtrs_of (take (entries_to ((last + 1) * block_bytes) journal) journal)) base) last
-  pub acknowledged : acked image.told ≤ entries_to ((last + 1) * block_bytes) journal
-  pub rotated : Rotated image keys recovers.header recovers.log (fold (mtrs_of (take (entries_to ((last + 1) * block_bytes) journal) journal)) base)
+  pub recovers : Recovers image keys (fold (mtrs_of (take (count_to ((last + 1) * block_bytes) journal) journal)) base) last
+  pub acknowledged : acked image.told ≤ count_to ((last + 1) * block_bytes) journal
+  pub rotated : Rotated image keys recovers.header recovers.log (fold (mtrs_of (take (count_to ((last + 1) * block_bytes) journal) journal)) base)
   pub keyed : (id version : ℕ) → Named image recovers.header recovers.log active id version → Contains named (id, version)

@@ -45,7 +45,7 @@ use Rattle.store_files.proofs.Folds.{spaces_folded, salts_folded}
 use Rattle.store_files.proofs.HeaderBounds.{header_blocks}
 use Rattle.store_files.proofs.RunsOnce.{log_one}
 use Rattle.crash_image.specs.Recovers.{HasHeader, RunIsOfStore, RecoversBy, Recovers}
-use Rattle.crash_image.specs.Stands.{Lucky, Named, OfChosen, OfSlot, OfBlock, OfLog, OfSpace, Rotated, Stands, place_test, mtrs_of, entries_to}
+use Rattle.crash_image.specs.Stands.{Lucky, Named, OfChosen, OfSlot, OfBlock, OfLog, OfSpace, Rotated, Stands, place_test, mtrs_of}
 use Rattle.crash_image.specs.StoreTheory.{store_theory}
 use Rattle.crash_image.specs.Writes.{Once, Settled, written_items}
 use Rattle.crash_image.proofs.LivesOverBytes.{written_once}
@@ -156,7 +156,7 @@ module _ (store : SessionStore) where
     -- ---- what it recovers to
 
     abbrev front : List (Logged (List Change))
-    front = take (count_to T (log.end * 4096) w.journal) w.journal
+    front = take (count_to (log.end * 4096) w.journal) w.journal
 
     abbrev contents : List SpaceContents
     contents = fold (mtrs_of front) store.base
@@ -253,15 +253,15 @@ module _ (store : SessionStore) where
 
   -- ---- a journal that grows
 
-  count_less : (lsn : ℕ) (journal : List (Logged (List Change))) (e : Logged (List Change)) → lsn < e.lsn → entries_to lsn (journal ++ e ∷ []) ≡ entries_to lsn journal
+  count_less : (lsn : ℕ) (journal : List (Logged (List Change))) (e : Logged (List Change)) → lsn < e.lsn → count_to lsn (journal ++ e ∷ []) ≡ count_to lsn journal
   count_less lsn [] e below = let above : nat_le e.lsn lsn ≡ false = grind (arith, nat_tests, below) in cond-false (nat_le e.lsn lsn) (1 + 0) 0 above
   count_less lsn (d ∷ journal) e below = ap (λ (n : ℕ). if nat_le d.lsn lsn then 1 + n else 0) (count_less lsn journal e below)
 
-  count_within : (lsn : ℕ) (journal : List (Logged (List Change))) → entries_to lsn journal ≤ length journal
+  count_within : (lsn : ℕ) (journal : List (Logged (List Change))) → count_to lsn journal ≤ length journal
   count_within lsn [] = omega arith
   count_within lsn (d ∷ journal) = by (nat_le d.lsn lsn) (count_within lsn journal)
     where
-      by : (b : Bool) → entries_to lsn journal ≤ length journal → (if b then 1 + entries_to lsn journal else 0) ≤ length (d ∷ journal)
+      by : (b : Bool) → count_to lsn journal ≤ length journal → (if b then 1 + count_to lsn journal else 0) ≤ length (d ∷ journal)
       by true le = omega (arith, le)
       by false le = omega arith
 
@@ -275,9 +275,9 @@ module _ (store : SessionStore) where
   stands_more journal next es all e behind n up image is lucky active named =
       let (s, within) = all image is lucky active named in
       let lsn : ℕ = (s.last + 1) * 4096 in
-      let count : entries_to lsn (journal ++ e ∷ []) ≡ entries_to lsn journal = count_less lsn journal e (omega (arith, within, behind)) in
+      let count : count_to lsn (journal ++ e ∷ []) ≡ count_to lsn journal = count_less lsn journal e (omega (arith, within, behind)) in
       let le = count_within lsn journal in
-      let same : take (entries_to lsn journal) journal ≡ take (entries_to lsn (journal ++ e ∷ [])) (journal ++ e ∷ []) =
-      sym (take-append-le (entries_to lsn journal) journal (e ∷ []) le) ∙ ap (λ (k : ℕ). take k (journal ++ e ∷ [])) (sym count) in
-      let t : Standing store.base image active s.last (take (entries_to lsn (journal ++ e ∷ [])) (journal ++ e ∷ [])) = subst (Standing store.base image active s.last) same (s.recovers, s.rotated, s.keyed) in
+      let same : take (count_to lsn journal) journal ≡ take (count_to lsn (journal ++ e ∷ [])) (journal ++ e ∷ []) =
+      sym (take-append-le (count_to lsn journal) journal (e ∷ []) le) ∙ ap (λ (k : ℕ). take k (journal ++ e ∷ [])) (sym count) in
+      let t : Standing store.base image active s.last (take (count_to lsn (journal ++ e ∷ [])) (journal ++ e ∷ [])) = subst (Standing store.base image active s.last) same (s.recovers, s.rotated, s.keyed) in
       (record { last = s.last; recovers = t.0; acknowledged = subst (λ (k : ℕ). acked image.told ≤ k) (sym count) s.acknowledged; rotated = t.1; keyed = t.2 }, omega (arith, within, up))
