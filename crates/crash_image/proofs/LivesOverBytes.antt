@@ -31,7 +31,7 @@ use Rattle.crash_image.specs.LogForm.{log_places}
 use Rattle.crash_image.specs.Rest.{read_image, HasNonePending, IsAtRest}
 use Rattle.crash_image.specs.Stands.{Lucky, place_test}
 use Rattle.crash_image.specs.Writes.{written_items, Once, Settled}
-use Rattle.crash_image.specs.Reading.{Reading}
+use Rattle.crash_image.specs.Recovers.{HasHeader, Reading}
 
 module _ (header : HeldHeader) (keys : List RingEntry) (salts : ℕ → List ℕ) (may_log : LogView (List Change) → Type 0) (es : List Event) where
   abbrev theory : Theory
@@ -98,18 +98,18 @@ module _ (es : List Event) (none : HasNonePending es) (f : FileName) where
   none_written some = unwritten_by_images f (reads f es) es some as_read
 
 -- A disk with nothing pending, whose view rests with these contents, is at rest with them.
-pub rests_by : (es : List Event) (keys : List RingEntry) (header : HeldHeader) (log : LogView (List Change)) (c : List SpaceContents) (last : ℕ) → last + 1 ≡ log.end → HasNonePending es → Reading (read_image es) keys header log c
+pub rests_by : (es : List Event) (keys : List RingEntry) (header : HeldHeader) (log : LogView (List Change)) (c : List SpaceContents) (last : ℕ) → last + 1 ≡ log.end → HasNonePending es → HasHeader (read_image es) header → Reading (read_image es) keys header log c
     → IsRest (store_theory header keys (salts_of c)) (view log (read_image es)) (pages_of c) → IsClear header.blocks (reads Log es) log.end → IsAtRest es keys c log.end
-rests_by es keys header log c last ends settled reading rest clear = record {
+rests_by es keys header log c last ends settled is_header reading rest clear = record {
   settled = settled;
   last = last;
   is_next = ends;
   recovers = record {
     header = header;
-    is_header = reading.is_header;
+    is_header = is_header;
     log = log;
     is_last = ends;
-    by = record { long = reading.long; run = reading.run; of_store = reading.of_store; placed = reading.placed; spaces = reading.spaces; pages = rest.recovers; clear = reading.clear };
+    by = record { reading = reading; pages = rest.recovers };
   };
   empty = rest.run;
   none_live = rest.none_live;

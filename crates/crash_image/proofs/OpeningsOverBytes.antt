@@ -32,8 +32,7 @@ use Rattle.store_files.specs.Pages.{pages_of}
 use Rattle.store_files.specs.Run.{AreLogEntries, IsLogOf, IsClear}
 use Rattle.crash_image.specs.LogForm.{log_form, log_places}
 use Rattle.crash_image.specs.Opened.{StoreOpened, opened_theory, log_after, IsOpenedAt, FilesStand, FilesOpened, LogEnded}
-use Rattle.crash_image.specs.Reading.{Reading}
-use Rattle.crash_image.specs.Recovers.{HasHeader, Recovers, RunIsOfStore, SpacesLong}
+use Rattle.crash_image.specs.Recovers.{HasHeader, Reading, Recovers, RunIsOfStore, SpacesLong}
 use Rattle.crash_image.specs.Rest.{read_image, IsAtRest}
 use Rattle.crash_image.specs.Stands.{Lucky, RecoversRotated, Rotated, place_test}
 use Rattle.crash_image.proofs.LivesOverBytes.{none_pending, rests_by}
@@ -86,7 +85,8 @@ module _ (es : List Event) (keys : List RingEntry) (c : List SpaceContents) (las
     log_whole = unwritten_whole Log (log_places r.header.blocks) es (none Log);
     double_whole = unwritten_whole Double slots es (none Double);
     spaces_whole = λ z count. unwritten_whole (Space z) (pages count) es (none (Space z));
-    reading = record { is_header = r.is_header; long = r.by.long; run = r.by.run; of_store = r.by.of_store; placed = r.by.placed; spaces = r.by.spaces; clear = r.by.clear };
+    is_header = r.is_header;
+    reading = r.by.reading;
     recovers = r.by.pages;
     rotated = rotated;
     allowed = allowed;
@@ -135,13 +135,15 @@ module _ (o : StoreOpened) (last : ℕ) (s : List Event) (opened : IsOpenedAt o 
           log = log;
           is_last = ends;
           by = record {
-            long = record { log = long; double = double_size; spaces = spaces_size o.header.spaces opened.reading.long.spaces };
-            run = run;
-            of_store = of_store;
-            placed = λ z p here. placed_image z p 0 m (files.spaces_whole z 0) place_test (λ bytes. refl) image is lucky (files.placed z p here);
-            spaces = opened.reading.spaces;
+            reading = record {
+              long = record { log = long; double = double_size; spaces = spaces_size o.header.spaces opened.reading.long.spaces };
+              run = run;
+              of_store = of_store;
+              placed = λ z p here. placed_image z p 0 m (files.spaces_whole z 0) place_test (λ bytes. refl) image is lucky (files.placed z p here);
+              spaces = opened.reading.spaces;
+              clear = clear;
+            };
             pages = kept.0;
-            clear = clear;
           };
         };
         rotated = kept.1;
@@ -164,7 +166,7 @@ module _ (o : StoreOpened) (last : ℕ) (s : List Event) (opened : IsOpenedAt o 
     opening_recovers stage has image is lucky =
         let same : reads Log s ≡ image.bytes Log = sym (log_file image is) in
         image_recovers m files.files image is lucky (log_of v)
-        (subst (λ (file : List ℕ). header_in (place 4096 0 file) ≡ Some o.header) same opened.reading.is_header)
+        (subst (λ (file : List ℕ). header_in (place 4096 0 file) ≡ Some o.header) same opened.is_header)
         (subst (λ (file : List ℕ). length file ≡ (3 + N) * 4096) same opened.reading.long.log)
         (subst (λ (file : List ℕ). IsLogOf o.header o.keys file (log_of v)) same opened.reading.run) opened.reading.of_store
         (subst (λ (file : List ℕ). IsClear N file (v.end + N)) same opened.reading.clear)
@@ -177,7 +179,7 @@ module _ (o : StoreOpened) (last : ℕ) (s : List Event) (opened : IsOpenedAt o 
       (has : StageHas T v (pages_of o.contents) o.active N stage (places_by (λ l. (l ≡ log_of v) ⊎ (l ≡ log_after o)) m)) (image : Image) (is : IsImage m image) (lucky : Lucky image)
       (long : length (image.bytes Log) ≡ (3 + N) * 4096) (header_same : place 4096 0 (image.bytes Log) ≡ place 4096 0 (reads Log s)) (clear : IsRingClear N (log_form o.header o.keys) (image.bytes Log) v.end) where
     header_still : HasHeader image o.header
-    header_still = ap header_in header_same ∙ opened.reading.is_header
+    header_still = ap header_in header_same ∙ opened.is_header
 
     -- Each lucky image recovers to what was opened, with the run that was found or with the empty one behind it.
     pub opening_recovers_behind : IsRingLog N (log_form o.header o.keys) (image.bytes Log) (log_of v) ⊎ IsRingLog N (log_form o.header o.keys) (image.bytes Log) (log_behind N (log_form o.header o.keys) (log_of v))
@@ -209,7 +211,6 @@ module _ (o : StoreOpened) (last : ℕ) (s : List Event) (opened : IsOpenedAt o 
 
     read_reading : Reading image o.keys o.header (log_after o) o.contents
     read_reading = record {
-      is_header = log.is_header;
       long = record { log = log.long; double = files.double_long ∙ opened.reading.long.double; spaces = read_spaces o.header.spaces opened.reading.long.spaces };
       run = log.run;
       of_store = tt;
@@ -224,6 +225,6 @@ module _ (o : StoreOpened) (last : ℕ) (s : List Event) (opened : IsOpenedAt o 
         let next : v.end + N ≡ last + 1 + N = ap (λ (n : ℕ). n + N) (sym opened.is_last) in
         subst (IsAtRest m o.keys o.contents) next
         (rests_by m o.keys o.header (log_after o) o.contents (last + N) (omega (arith, opened.is_last))
-        (none_pending N (λ z. 0) m log.whole files.double_whole (λ z. files.spaces_whole z 0) log.settled double spaces) read_reading
+        (none_pending N (λ z. 0) m log.whole files.double_whole (λ z. files.spaces_whole z 0) log.settled double spaces) log.is_header read_reading
         (opened_rest T v (pages_of o.contents) o.active N opened.recovers opened.rotated opened_journal opened.allowed (places_by (λ l. l ≡ log_after o) m) ended (view (log_after o) image) read_view)
         log.clear)

@@ -42,16 +42,16 @@ module _ (image : Image) (keys : List RingEntry) where
   by_one header log c d order rc rd =
       let v = view log image in
       let heads : (s : ℕ) → has_page header.spaces s 0 ≡ true → pages_of c s 0 ≡ pages_of d s 0 = λ s is. head_one header keys v (salts_of c) (salts_of d) (pages_of c) (pages_of d) s (rc.pages.pages s 0 is) (rd.pages.pages s 0 is) in
-      let salts : salts_of c ≡ salts_of d = λ i s. salts_one 0 header.spaces c d order rc.spaces rd.spaces heads s i in
+      let salts : salts_of c ≡ salts_of d = λ i s. salts_one 0 header.spaces c d order rc.reading.spaces rd.reading.spaces heads s i in
       let as_c : pages.ViewRecovers (store_theory header keys (salts_of c)) v (pages_of d) = subst (λ (f : ℕ → List ℕ). pages.ViewRecovers (store_theory header keys f) v (pages_of d)) (sym salts) rd.pages in
-      contents_one 0 header.spaces c d order rc.spaces rd.spaces (λ s p is. page_one (store_theory header keys (salts_of c)) v (pages_of c) (pages_of d) s p (rc.pages.pages s p is) (as_c.pages s p is))
+      contents_one 0 header.spaces c d order rc.reading.spaces rd.reading.spaces (λ s p is. page_one (store_theory header keys (salts_of c)) v (pages_of c) (pages_of d) s p (rc.pages.pages s p is) (as_c.pages s p is))
 
   -- An image recovers to one contents with one last block.
   pub recovers_one : (c d : List SpaceContents) (last end : ℕ) → Recovers image keys c last → Recovers image keys d end → (c ≡ d) × (last ≡ end)
   recovers_one c d last end rc rd =
       let header : rd.header ≡ rc.header = same_Some rd.header rc.header (sym rd.is_header ∙ rc.is_header) in
       let same_header : RecoversBy image keys rc.header rd.log d = subst (λ (h : HeldHeader). RecoversBy image keys h rd.log d) header rd.by in
-      let log : rd.log ≡ rc.log = log_one rc.header keys (image.bytes Log) rd.log rc.log same_header.run rc.by.run in
+      let log : rd.log ≡ rc.log = log_one rc.header keys (image.bytes Log) rd.log rc.log same_header.reading.run rc.by.reading.run in
       let same_log : RecoversBy image keys rc.header rc.log d = subst (λ (l : LogView (List Change)). RecoversBy image keys rc.header l d) log same_header in
       let ends : rd.log.end ≡ rc.log.end = λ i. (log i).end in
       (by_one rc.header rc.log c d (header_order (place 4096 0 (image.bytes Log)) rc.header rc.is_header) rc.by same_log, omega (arith, rc.is_last, rd.is_last, ends))

@@ -15,7 +15,7 @@ use Rattle.store_files.specs.Header.{HeldHeader}
 use Rattle.store_files.specs.Pages.{Page, has_page, pages_of, salts_of, HaveSpaces}
 use Rattle.store_files.proofs.Folds.{pages_after, spaces_after, spaces_folded, salts_folded}
 use Rattle.crash_image.specs.StoreTheory.{store_theory}
-use Rattle.crash_image.specs.Reading.{Reading}
+use Rattle.crash_image.specs.Recovers.{HasHeader, Reading}
 use Rattle.crash_image.specs.Stands.{Named, Stands, mtrs_of}
 
 -- ---- contents that are equal on the store's pages
@@ -56,10 +56,10 @@ module _ (header : HeldHeader) (keys : List RingEntry) (salts : ℕ → List ℕ
 
 module _ (image : Image) (keys : List RingEntry) (header : HeldHeader) (log : LogView (List Change)) where
   -- An image whose view stands for a beginning of a journal, as the theory says it, stands for it.
-  pub stands_by : (base : List SpaceContents) (journal : List (Logged (List Change))) (named : List (ℕ × ℕ)) (active last : ℕ) → last + 1 ≡ log.end → Reading image keys header log base
+  pub stands_by : (base : List SpaceContents) (journal : List (Logged (List Change))) (named : List (ℕ × ℕ)) (active last : ℕ) → last + 1 ≡ log.end → HasHeader image header → Reading image keys header log base
       → pages.ViewStands (store_theory header keys (salts_of base)) (pages_of base) journal (view log image)
       → ((id version : ℕ) → Named image header log active id version → Contains named (id, version)) → Stands base journal image keys named active
-  stands_by base journal named active last ends reading stands keyed =
+  stands_by base journal named active last ends is_header reading stands keyed =
       let T = store_theory header keys (salts_of base) in
       let k : ℕ = pages.count_to ((last + 1) * 4096) journal in
       let front : List (Logged (List Change)) = take k journal in
@@ -74,17 +74,19 @@ module _ (image : Image) (keys : List RingEntry) (header : HeldHeader) (log : Lo
         last = last;
         recovers = record {
           header = header;
-          is_header = reading.is_header;
+          is_header = is_header;
           log = log;
           is_last = ends;
           by = record {
-            long = reading.long;
-            run = reading.run;
-            of_store = reading.of_store;
-            placed = reading.placed;
-            spaces = spaces_folded (mtrs_of front) header.spaces base reading.spaces;
+            reading = record {
+              long = reading.long;
+              run = reading.run;
+              of_store = reading.of_store;
+              placed = reading.placed;
+              spaces = spaces_folded (mtrs_of front) header.spaces base reading.spaces;
+              clear = reading.clear;
+            };
             pages = subst (λ (f : ℕ → List ℕ). pages.ViewRecovers (store_theory header keys f) (view log image) (pages_of contents)) salts recovers;
-            clear = reading.clear;
           };
         };
         acknowledged = subst (λ (n : ℕ). acked image.told ≤ n) count stands.acknowledged;

@@ -4,5 +4,4 @@ pub mod Stands
 pub mod Writes
 pub mod Rest
 pub mod LogForm
-pub mod Reading
 pub mod Opened

@@ -20,8 +20,7 @@ use Rattle.store_files.specs.Header.{HeldHeader}
 use Rattle.store_files.specs.Pages.{has_page, pages_of, salts_of}
 use Rattle.store_files.specs.Run.{IsLogOf, IsClear}
 use Rattle.crash_image.specs.LogForm.{log_places}
-use Rattle.crash_image.specs.Reading.{Reading}
-use Rattle.crash_image.specs.Recovers.{HasHeader}
+use Rattle.crash_image.specs.Recovers.{HasHeader, Reading}
 use Rattle.crash_image.specs.Rest.{read_image}
 use Rattle.crash_image.specs.StoreTheory.{store_theory}
 
@@ -48,6 +47,7 @@ pub record IsOpenedAt (o : StoreOpened) (last : ℕ) (es : List Event) : Type 0 
   pub log_whole : AreWhole Log (log_places o.header.blocks) es
   pub double_whole : AreWhole Double slots es
   pub spaces_whole : (z count : ℕ) → AreWhole (Space z) (pages count) es
+  pub is_header : HasHeader (read_image es) o.header
   pub reading : Reading (read_image es) o.keys o.header (log_of o.view) o.contents
   pub recovers : ViewRecovers (opened_theory o) o.view (pages_of o.contents)
   pub rotated : ViewRotated (opened_theory o) o.view (pages_of o.contents)

@@ -52,18 +52,22 @@ RunIsOfStore spaces [] = Unit {0}
 RunIsOfStore spaces (e ∷ es) = AreOfStore spaces e.mtr × RunIsOfStore spaces es
 
 module _ (image : Image) (keys : List RingEntry) where
-  -- Under this header and with this run the image recovers to these contents.
-  pub record RecoversBy (header : HeldHeader) (log : LogView (List Change)) (c : List SpaceContents) : Type 0 where
+  -- Under this header the files of the image say this, beside their pages: each is as long as the header says, the log's run is this and changes the store's pages alone, and the contents have the header's spaces.
+  pub record Reading (header : HeldHeader) (log : LogView (List Change)) (c : List SpaceContents) : Type 0 where
     pub long : AreLong image header
     pub run : IsLogOf header keys (image.bytes Log) log
     pub of_store : RunIsOfStore header.spaces log.run
     -- no home has the text of another page
     pub placed : (s p : ℕ) → has_page header.spaces s p ≡ true → IsPlaced p (place page_bytes p (image.bytes (Space s)))
     pub spaces : HaveSpaces header.spaces c
-    -- each page is its chosen text's with the run's later changes, and so is what any live slot gives
-    pub pages : pages.ViewRecovers (store_theory header keys (salts_of c)) (view log image) (pages_of c)
     -- no ring block has a number that the blocks behind the run could meet
     pub clear : IsClear header.blocks (image.bytes Log) (log.end + header.blocks)
+
+  -- Under this header and with this run the image recovers to these contents.
+  pub record RecoversBy (header : HeldHeader) (log : LogView (List Change)) (c : List SpaceContents) : Type 0 where
+    pub reading : Reading header log c
+    -- each page is its chosen text's with the run's later changes, and so is what any live slot gives
+    pub pages : pages.ViewRecovers (store_theory header keys (salts_of c)) (view log image) (pages_of c)
 
   -- The image recovers to these contents; last is the number of the run's last block, or that before the run where it is empty.
   pub record Recovers (c : List SpaceContents) (last : ℕ) : Type 0 where

@@ -47,28 +47,28 @@ module _ (image : Image) (keys : List RingEntry) (c : List SpaceContents) (last 
   by_text : (header : HeldHeader) (text : LogView (List Change)) → HasLog image keys header text → RecoversBy image keys header text c
   by_text header text is =
       let by = by_header header is.files.is_header in
-      subst (λ (l : LogView (List Change)). RecoversBy image keys header l c) (log_one header keys (image.bytes Log) r.log text by.run is.is) by
+      subst (λ (l : LogView (List Change)). RecoversBy image keys header l c) (log_one header keys (image.bytes Log) r.log text by.reading.run is.is) by
 
   by_log : (header : HeldHeader) (fault : LogTextFault) → HasFiles image keys header → IsLogTextFault header keys (image.bytes Log) fault → fault ≢ log.OutOfMemory → ⊥
-  by_log header fault files is some = fault_refuses header keys (image.bytes Log) fault is some r.log (by_header header files.is_header).run
+  by_log header fault files is some = fault_refuses header keys (image.bytes Log) fault is some r.log (by_header header files.is_header).reading.run
 
   pub never_refused : (refusal : Refusal) → IsRefusalOf image keys refusal → refusal ≢ OutOfMemory → ⊥
-  never_refused NoHeader none some = let long = r.by.long.log in none (omega (arith, long)) r.header r.is_header
-  never_refused (Length Log) (header, is, long, lacks) some = lacks (by_header header is).long.log
-  never_refused (Length Double) (header, is, long, lacks) some = lacks.1 (by_header header is).long.double
+  never_refused NoHeader none some = let long = r.by.reading.long.log in none (omega (arith, long)) r.header r.is_header
+  never_refused (Length Log) (header, is, long, lacks) some = lacks (by_header header is).reading.long.log
+  never_refused (Length Double) (header, is, long, lacks) some = lacks.1 (by_header header is).reading.long.double
   never_refused (Length (Space s)) (header, is, long, lacks) some =
       let first = lacks.2 in
-      first.other (ap (λ (n : ℕ). length (image.bytes (Space n))) first.id ∙ long_named image header.spaces first.named.index first.space _ (by_header header is).long.spaces first.named.is)
+      first.other (ap (λ (n : ℕ). length (image.bytes (Space n))) first.id ∙ long_named image header.spaces first.named.index first.space _ (by_header header is).reading.long.spaces first.named.is)
   never_refused NoCheckpoint (header, files, fault) some = by_log header log.NoCheckpoint files fault (λ e. cc)
   never_refused (NoKey number version) (header, files, fault) some = by_log header (log.NoKey number version) files fault (λ e. cc)
   never_refused (NoChanges first at) (header, files, fault) some = by_log header (log.NoChanges first at) files fault (λ e. cc)
-  never_refused (OtherPages first) (header, text, is, f) some = f.other (run_at header.spaces text.run f.index f.entry _ (by_text header text is).of_store f.is)
-  never_refused (Mixed s p) (header, text, is, f) some = f.other ((by_text header text is.log).placed s p f.has)
+  never_refused (OtherPages first) (header, text, is, f) some = f.other (run_at header.spaces text.run f.index f.entry _ (by_text header text is).reading.of_store f.is)
+  never_refused (Mixed s p) (header, text, is, f) some = f.other ((by_text header text is.log).reading.placed s p f.has)
   never_refused (NotChosen s p) (header, text, f) some = f.none.none c (by_text header text f.none.homes.run.log)
   never_refused (NoText s p fault) (header, text, f) some = f.none.none c (by_text header text f.none.homes.run.log)
   never_refused (Head s) (header, text, f) some = f.none.none c (by_text header text f.none.homes.run.log)
   never_refused (Slot s p i) (header, text, f) some = f.none.none c (by_text header text f.none.homes.run.log)
-  never_refused (LateBlock i number) (header, text, found, has, late) some = (by_text header text has.homes.run.log).clear i number late.within late.least late.is
+  never_refused (LateBlock i number) (header, text, found, has, late) some = (by_text header text has.homes.run.log).reading.clear i number late.within late.least late.is
   never_refused OutOfMemory u some = some refl
 
 -- ---- the refusal of each step
@@ -219,6 +219,6 @@ module _ (files : ImageFiles) (keys : List RingEntry) (header : HeldHeader) (tex
       let bytes = space_bytes files.spaces h.space in
       let none : r ≢ OutOfMemory → HasNoContents image keys header text = λ mem. record {
         homes = homes;
-        none = λ c by. none_recovers header keys text files c by.pages ordered by.spaces h refused.named (refused_space header keys text bytes files.double h r mem some refused.is);
+        none = λ c by. none_recovers header keys text files c by.pages ordered by.reading.spaces h refused.named (refused_space header keys text bytes files.double h r mem some refused.is);
       } in
       space_refused h refused.named refused.held refused.before r some none refused.is

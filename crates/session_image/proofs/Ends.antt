@@ -40,9 +40,8 @@ use Rattle.store_files.specs.Run.{IsClear, IsLogOf}
 use Rattle.store_files.proofs.ContentsOnce.{header_order}
 use Rattle.store_files.proofs.Folds.{salts_folded, spaces_folded}
 use Rattle.store_files.proofs.HeaderBounds.{header_blocks}
-use Rattle.crash_image.specs.Recovers.{RunIsOfStore}
+use Rattle.crash_image.specs.Recovers.{Reading, RunIsOfStore}
 use Rattle.crash_image.specs.Rest.{read_image, IsAtRest}
-use Rattle.crash_image.specs.Reading.{Reading}
 use Rattle.crash_image.specs.Stands.{Named, OfChosen, OfSlot, OfBlock, OfLog, OfSpace, Rotated, mtrs_of}
 use Rattle.crash_image.specs.StoreTheory.{store_theory}
 use Rattle.crash_image.specs.Writes.{written_items}
@@ -176,7 +175,6 @@ module _ (store : SessionStore) where
 
     pub reading : Reading (read_image es) store.book store.header log contents
     reading = record {
-      is_header = is_header;
       long = record {
         log = ready.moment.ringed.places.size;
         double = ready.moment.files.double.size;
@@ -206,13 +204,15 @@ module _ (store : SessionStore) where
           log = log;
           is_last = omega (arith, above, end_is);
           by = record {
-            long = reading.long;
-            run = run_is;
-            of_store = reading.of_store;
-            placed = reading.placed;
-            spaces = reading.spaces;
+            reading = record {
+              long = reading.long;
+              run = run_is;
+              of_store = reading.of_store;
+              placed = reading.placed;
+              spaces = reading.spaces;
+              clear = reading.clear;
+            };
             pages = view_recovers;
-            clear = reading.clear;
           };
         };
         empty = empty;

@@ -44,14 +44,13 @@ use Rattle.store_files.proofs.ContentsOnce.{header_order}
 use Rattle.store_files.proofs.Folds.{spaces_folded, salts_folded}
 use Rattle.store_files.proofs.HeaderBounds.{header_blocks}
 use Rattle.store_files.proofs.RunsOnce.{log_one}
-use Rattle.crash_image.specs.Recovers.{HasHeader, RunIsOfStore, RecoversBy, Recovers}
+use Rattle.crash_image.specs.Recovers.{HasHeader, Reading, RunIsOfStore, RecoversBy, Recovers}
 use Rattle.crash_image.specs.Stands.{Lucky, Named, OfChosen, OfSlot, OfBlock, OfLog, OfSpace, Rotated, Stands, place_test, mtrs_of}
 use Rattle.crash_image.specs.StoreTheory.{store_theory}
 use Rattle.crash_image.specs.Writes.{Once, Settled, written_items}
 use Rattle.crash_image.proofs.LivesOverBytes.{written_once}
 use Rattle.crash_image.proofs.LogForms.{is_form, log_is, clear_is, valid_in}
 use Rattle.crash_image.proofs.RecoversOnce.{recovers_one}
-use Rattle.crash_image.specs.Reading.{Reading}
 use Rattle.crash_image.proofs.StandsBy.{stands_by, recovers_same, folded}
 use Rattle.session_image.specs.Kept.{SessionStore, page_count, named_keys, IsActiveNamed, session_theory, session_form, session_places, SessionMoment, SessionRecord, AllImagesStand, AllImagesSettled}
 use Rattle.session_image.proofs.KeyLaws.{key_named}
@@ -111,7 +110,6 @@ module _ (store : SessionStore) where
 
     reading : Reading image store.book store.header log store.base
     reading = record {
-      is_header = is_header;
       long = record {
         log = ring.size;
         double = image_size Double slots es moment.files.double (image.bytes Double) (image.torn Double) (is.left Double);
@@ -171,14 +169,16 @@ module _ (store : SessionStore) where
       log = log;
       is_last = let two = low in omega (arith, two);
       by = record {
-        long = reading.long;
-        run = reading.run;
-        of_store = reading.of_store;
-        placed = reading.placed;
-        spaces = spaces_folded (mtrs_of front) store.header.spaces store.base moment.have;
+        reading = record {
+          long = reading.long;
+          run = reading.run;
+          of_store = reading.of_store;
+          placed = reading.placed;
+          spaces = spaces_folded (mtrs_of front) store.header.spaces store.base moment.have;
+          clear = reading.clear;
+        };
         pages = subst (λ (f : ℕ → List ℕ). ViewRecovers (store_theory store.header store.book f) v (pages_of contents)) salts
             (recovers_same T v (fold_pages T front (pages_of store.base)) (pages_of contents) (λ s p there. folded store.header store.book (salts_of store.base) front store.base moment.have (pages_of store.base) (λ t q has. refl) s p there) view_stands.recovers);
-        clear = reading.clear;
       };
     }
 
@@ -191,7 +191,7 @@ module _ (store : SessionStore) where
       by_header = subst (λ (h : HeldHeader). RecoversBy image store.book h q.log c) header_one q.by
 
       log_is_one : q.log ≡ log
-      log_is_one = log_one store.header store.book file q.log log by_header.run reading.run
+      log_is_one = log_one store.header store.book file q.log log by_header.reading.run reading.run
 
       by_log : RecoversBy image store.book store.header log c
       by_log = subst (λ (l : LogView (List Change)). RecoversBy image store.book store.header l c) log_is_one by_header
@@ -240,7 +240,7 @@ module _ (store : SessionStore) where
       let two = low w r es moment image is lucky in
       let within = high w r es moment image is lucky in
       let s : Stands store.base w.journal image store.book store.named active = stands_by image store.book store.header (log w r es moment image is lucky) store.base w.journal store.named active ((log w r es moment image is lucky).end - 1) (omega (arith, two))
-      (reading w r es moment image is lucky) (view_stands w r es moment image is lucky) (keyed w r es moment image is lucky active named) in
+      (is_header w r es moment image is lucky) (reading w r es moment image is lucky) (view_stands w r es moment image is lucky) (keyed w r es moment image is lucky active named) in
       (s, let last = last_one w r es moment image is lucky _ s.last s.recovers in omega (arith, last, within))
 
   -- And whatever it recovers to, it agrees with what was written.

@@ -28,14 +28,14 @@ space_long image (h ∷ hs) long s there = by (nat_eq h.space s) refl there (λ 
 
 module _ (store : SessionStore) (next : ℕ) (es : List Event) (rests : IsAtRest es store.book store.base next) (header_is : rests.recovers.header ≡ store.header) where
   long : AreLong (read_image es) store.header
-  long = subst (AreLong (read_image es)) header_is rests.recovers.by.long
+  long = subst (AreLong (read_image es)) header_is rests.recovers.by.reading.long
 
   -- the log
   pub rest_log : is_there Log es ≡ true → AreWhole Log (log_places store.header.blocks) es → HasPlaces Log (log_places store.header.blocks) es
   rest_log there whole = record { some = omega arith; there = there; size = long.log; whole = whole }
 
   placed : (s p : ℕ) → has_page store.header.spaces s p ≡ true → IsPlaced p (shown (Space s) page_bytes p es)
-  placed s p there = rests.recovers.by.placed s p (subst (λ (h : HeldHeader). has_page h.spaces s p ≡ true) (sym header_is) there)
+  placed s p there = rests.recovers.by.reading.placed s p (subst (λ (h : HeldHeader). has_page h.spaces s p ≡ true) (sym header_is) there)
 
   -- and the other files
   pub rest_files : is_there Double es ≡ true → AreWhole Double slots es → ((s : ℕ) → has_page store.header.spaces s 0 ≡ true → is_there (Space s) es ≡ true) → ((s : ℕ) → AreWhole (Space s) (pages (page_count store.header.spaces s)) es) → SessionFiles store es

@@ -92,7 +92,7 @@ module _ (store : SessionStore) where
     end_is = sym q.is_last ∙ b.rests.is_next
 
     begins_at_end : q.log.from ≡ q.log.end
-    begins_at_end = subst (λ (run : List (Logged (List Change))). AreLogEntries q.header store.book file q.log.from run q.log.end) b.rests.empty q.by.run.entries
+    begins_at_end = subst (λ (run : List (Logged (List Change))). AreLogEntries q.header store.book file q.log.from run q.log.end) b.rests.empty q.by.reading.run.entries
 
     is_header : header_in (place 4096 0 file) ≡ Some store.header
     is_header = q.is_header ∙ ap (λ (h : HeldHeader). Some h) b.header_is
@@ -103,12 +103,12 @@ module _ (store : SessionStore) where
     check : checkpoint_in (side_of sequence) (place 4096 (side_of sequence) file) ≡ Some (record { sequence = sequence; from = next })
     check =
         subst (λ (n : ℕ). checkpoint_in (side_of sequence) (place 4096 (side_of sequence) file) ≡ Some (record { sequence = sequence; from = n })) (begins_at_end ∙ end_is)
-        (subst (λ (n : ℕ). checkpoint_in (side_of n) (place 4096 (side_of n) file) ≡ Some (record { sequence = n; from = q.log.from })) b.newest q.by.run.run.newest.is)
+        (subst (λ (n : ℕ). checkpoint_in (side_of n) (place 4096 (side_of n) file) ≡ Some (record { sequence = n; from = q.log.from })) b.newest q.by.reading.run.run.newest.is)
 
     older : (c : HeldCheckpoint) → checkpoint_in (side_of (sequence + 1)) (place 4096 (side_of (sequence + 1)) file) ≡ Some c → c.sequence < sequence
     older c is =
         let newest = b.newest in
-        let le = q.by.run.run.newest.newest (side_of (sequence + 1)) c is in
+        let le = q.by.reading.run.run.newest.newest (side_of (sequence + 1)) c is in
         let side : side_of (sequence + 1) ≡ side_of c.sequence = (is_form store.header store.book).check_side (side_of (sequence + 1)) (place 4096 (side_of (sequence + 1)) file) c is in
         ⊎_elim (λ (lt : c.sequence < sequence). lt)
         (λ (ge : sequence ≤ c.sequence).
@@ -187,7 +187,7 @@ module _ (store : SessionStore) where
       moment = record {
         base = refl;
         keys = refl;
-        have = subst (λ (h : HeldHeader). HaveSpaces h.spaces store.base) b.header_is q.by.spaces;
+        have = subst (λ (h : HeldHeader). HaveSpaces h.spaces store.base) b.header_is q.by.reading.spaces;
         header = is_header;
         ringed = ring_ready.ringed;
         journal = record {

@@ -83,13 +83,15 @@ module _ (image : Image) (is_made : FileName → Bool) (told : List Mark) (torn 
       log = q.log;
       is_last = q.is_last;
       by = record {
-        long = record { log = q.by.long.log; double = q.by.long.double; spaces = as_long q.header.spaces q.by.long.spaces };
-        run = q.by.run;
-        of_store = q.by.of_store;
-        placed = q.by.placed;
-        spaces = q.by.spaces;
+        reading = record {
+          long = record { log = q.by.reading.long.log; double = q.by.reading.long.double; spaces = as_long q.header.spaces q.by.reading.long.spaces };
+          run = q.by.reading.run;
+          of_store = q.by.reading.of_store;
+          placed = q.by.reading.placed;
+          spaces = q.by.reading.spaces;
+          clear = q.by.reading.clear;
+        };
         pages = recovers_retold (store_theory q.header keys (salts_of c)) (view q.log image) told (pages_of c) q.by.pages;
-        clear = q.by.clear;
       };
     }
 

@@ -150,7 +150,7 @@ module _ (store : SessionStore) where
     pub keyed : (id version : ℕ) → Named (read_image es) rests.recovers.header rests.recovers.log active id version → Contains store.named (id, version)
     pub of_book : IsOfBook ring store.book
     pub ring_named : IsRingNamed ring store.named
-    pub newest : rests.recovers.by.run.run.sequence ≡ sequence
+    pub newest : rests.recovers.by.reading.run.run.sequence ≡ sequence
     -- each file was written in whole places
     pub log : HasPlaces Log (log_places store.header.blocks) es
     pub files : SessionFiles es

@@ -162,23 +162,25 @@ module _ (header : HeldHeader) (spaces : List SpaceInfo) (w : IsWritableHeader h
 
     pub recovers_by : RecoversBy image keys header empty_log (empty spaces)
     recovers_by = record {
-      long = record {
-        log = ap length log ∙ length-made header w;
-        double = ap length double ∙ length-zeros (64 * 16896);
-        spaces = spaces_long header.spaces spaces image are files;
+      reading = record {
+        long = record {
+          log = ap length log ∙ length-made header w;
+          double = ap length double ∙ length-zeros (64 * 16896);
+          spaces = spaces_long header.spaces spaces image are files;
+        };
+        run = record {
+          run = subst (λ (file : List ℕ). IsRun header.blocks file 2 2) (sym log) (made_run header w);
+          entries = refl;
+        };
+        of_store = tt;
+        placed = placed;
+        spaces = have_spaces header.spaces spaces are;
+        clear = subst (λ (file : List ℕ). IsClear header.blocks file (2 + header.blocks)) (sym log) (made_clear header w (2 + header.blocks) (omega arith));
       };
-      run = record {
-        run = subst (λ (file : List ℕ). IsRun header.blocks file 2 2) (sym log) (made_run header w);
-        entries = refl;
-      };
-      of_store = tt;
-      placed = placed;
-      spaces = have_spaces header.spaces spaces are;
       pages = record {
         pages = page_recovers;
         slots = λ s p i t has live. absurd (no_copy s p i t live.copy);
       };
-      clear = subst (λ (file : List ℕ). IsClear header.blocks file (2 + header.blocks)) (sym log) (made_clear header w (2 + header.blocks) (omega arith));
     }
 
     unfoldable pub empty_recovers : Recovers image keys (empty spaces) 1

@@ -43,13 +43,15 @@ never files keys refusal is = λ some xs last r. never_refused (image_of files) 
 
 recovers_by : (files : ImageFiles) (keys : List RingEntry) (header : HeldHeader) (text : LogView (List Change)) (xs : List SpaceContents) → HasContents (image_of files) keys header text xs → IsClear header.blocks files.log (text.end + header.blocks) → RecoversBy (image_of files) keys header text xs
 recovers_by files keys header text xs has clear = record {
-  long = has.homes.run.log.files.long;
-  run = has.homes.run.log.is;
-  of_store = has.homes.run.of_store;
-  placed = has.homes.placed;
-  spaces = has.spaces;
+  reading = record {
+    long = has.homes.run.log.files.long;
+    run = has.homes.run.log.is;
+    of_store = has.homes.run.of_store;
+    placed = has.homes.placed;
+    spaces = has.spaces;
+    clear = clear;
+  };
   pages = has.pages;
-  clear = clear;
 }
 
 pub read_log-requires-clause-least : goal.read_log-requires-clause-least
