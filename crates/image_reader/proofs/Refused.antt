@@ -27,7 +27,7 @@ use Rattle.image_reader.specs.HeaderSpaces.{IsSpaceAt}
 use Rattle.image_reader.specs.Homes.{AreHomesRight, HasHomeFault}
 use Rattle.image_reader.specs.Lengths.{IsLengthFault}
 use Rattle.image_reader.specs.PageRefusals.{IsPageRefusal, IsSpaceRefusal, IsSpacesRefusal, AtHead, AtInfo, AtPage, NoMemory}
-use Rattle.image_reader.specs.Refusals.{Precedes, HasFiles, HasLog, HasStoreRun, HasHomes, IsFirstMixedHome, HasNoContents, IsReadUnder, IsPageRight, IsHeadRight, AreRightBefore, IsHeaderFault, IsRefusalOf, log_refusal}
+use Rattle.image_reader.specs.Refusals.{Precedes, HasFiles, HasLog, HasStoreRun, HasHomes, HasContents, IsFirstMixedHome, HasNoContents, IsReadUnder, IsPageRight, IsHeadRight, AreRightBefore, IsHeaderFault, IsRefusalOf, log_refusal}
 use Rattle.image_reader.specs.Spaces.{AllGive}
 use Rattle.image_reader.specs.declared.refusal.Refusal.{Refusal}
 use Rattle.image_reader.specs.declared.refusal.Refusal.TheVariants.{NoHeader, Length, NoCheckpoint, NoKey, NoChanges, OtherPages, Mixed, NotChosen, NoText, Head, Slot, LateBlock, OutOfMemory}
@@ -52,6 +52,9 @@ module _ (image : Image) (keys : List RingEntry) (c : List SpaceContents) (last 
   by_log : (header : HeldHeader) (fault : LogTextFault) → HasFiles image keys header → IsLogTextFault header keys (image.bytes Log) fault → fault ≢ log.OutOfMemory → ⊥
   by_log header fault files is some = fault_refuses header keys (image.bytes Log) fault is some r.log (by_header header files.is_header).reading.run
 
+  by_contents : (header : HeldHeader) (text : LogView (List Change)) → HasHomes image keys header text → HasContents image keys header text c
+  by_contents header text homes = let by = by_text header text homes.run.log in record { homes = homes; spaces = by.reading.spaces; pages = by.pages }
+
   pub never_refused : (refusal : Refusal) → IsRefusalOf image keys refusal → refusal ≢ OutOfMemory → ⊥
   never_refused NoHeader none some = let long = r.by.reading.long.log in none (omega (arith, long)) r.header r.is_header
   never_refused (Length Log) (header, is, long, lacks) some = lacks (by_header header is).reading.long.log
@@ -64,10 +67,10 @@ module _ (image : Image) (keys : List RingEntry) (c : List SpaceContents) (last 
   never_refused (NoChanges first at) (header, files, fault) some = by_log header (log.NoChanges first at) files fault (λ e. cc)
   never_refused (OtherPages first) (header, text, is, f) some = f.other (run_at header.spaces text.run f.index f.entry _ (by_text header text is).reading.of_store f.is)
   never_refused (Mixed s p) (header, text, is, f) some = f.other ((by_text header text is.log).reading.placed s p f.has)
-  never_refused (NotChosen s p) (header, text, f) some = f.none.none c (by_text header text f.none.homes.run.log)
-  never_refused (NoText s p fault) (header, text, f) some = f.none.none c (by_text header text f.none.homes.run.log)
-  never_refused (Head s) (header, text, f) some = f.none.none c (by_text header text f.none.homes.run.log)
-  never_refused (Slot s p i) (header, text, f) some = f.none.none c (by_text header text f.none.homes.run.log)
+  never_refused (NotChosen s p) (header, text, f) some = f.none.none c (by_contents header text f.none.homes)
+  never_refused (NoText s p fault) (header, text, f) some = f.none.none c (by_contents header text f.none.homes)
+  never_refused (Head s) (header, text, f) some = f.none.none c (by_contents header text f.none.homes)
+  never_refused (Slot s p i) (header, text, f) some = f.none.none c (by_contents header text f.none.homes)
   never_refused (LateBlock i number) (header, text, found, has, late) some = (by_text header text has.homes.run.log).reading.clear i number late.within late.least late.is
   never_refused OutOfMemory u some = some refl
 
@@ -219,6 +222,6 @@ module _ (files : ImageFiles) (keys : List RingEntry) (header : HeldHeader) (tex
       let bytes = space_bytes files.spaces h.space in
       let none : r ≢ OutOfMemory → HasNoContents image keys header text = λ mem. record {
         homes = homes;
-        none = λ c by. none_recovers header keys text files c by.pages ordered by.reading.spaces h refused.named (refused_space header keys text bytes files.double h r mem some refused.is);
+        none = λ c by. none_recovers header keys text files c by.pages ordered by.spaces h refused.named (refused_space header keys text bytes files.double h r mem some refused.is);
       } in
       space_refused h refused.named refused.held refused.before r some none refused.is

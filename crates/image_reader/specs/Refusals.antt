@@ -79,7 +79,7 @@ module _ (image : Image) (keys : List RingEntry) where
     -- the homes are right, and there are no contents
     pub record HasNoContents : Type 0 where
       pub homes : HasHomes header text
-      pub none : (c : List SpaceContents) → RecoversBy image keys header text c → ⊥
+      pub none : (c : List SpaceContents) → HasContents header text c → ⊥
 
     -- page 0 of a space recovers to this head, whatever the salts are
     pub record HasHead (s : ℕ) (info : SpaceInfo) : Type 0 where
