@@ -180,6 +180,33 @@ fn the_first_home_of_another_page_comes_before_any_page(rt: HostRuntime) -> Resu
 }
 
 #[test]
+fn a_home_of_another_page_is_refused_also_with_a_good_copy(rt: HostRuntime) -> Result<(), Fail> {
+    let other = PageHead {
+        space: 1,
+        page: 2,
+        lsn: 12288,
+        version: 1,
+        kind: 10,
+    };
+    for algorithm in MODES {
+        // The text of page 1 in page 0.
+        let mut store = one_put(&rt, rt.alloc(), algorithm)?;
+        let page = text(&rt, rt.alloc(), algorithm, 12288, 1)?;
+        write_at(&rt, &mut store.one, 0, &page);
+        let wanted = Refusal::Mixed { space: 1, page: 0 };
+        assert!(rt; refusal(&rt, rt.alloc(), store)? == Some(wanted));
+        // The text of page 2 in page 1, whose own text is in a slot.
+        let mut store = one_put(&rt, rt.alloc(), algorithm)?;
+        let second = page_text(&rt, rt.alloc(), algorithm, other, &[0x61])?;
+        write_slot(&rt, rt.alloc(), &mut store.double, 4, 1, 1, &page)?;
+        write_at(&rt, &mut store.one, HOME, &second);
+        let wanted = Refusal::Mixed { space: 1, page: 1 };
+        assert!(rt; refusal(&rt, rt.alloc(), store)? == Some(wanted));
+    }
+    Ok(())
+}
+
+#[test]
 fn of_several_pages_with_a_fault_the_first_is_named(rt: HostRuntime) -> Result<(), Fail> {
     let late = Refusal::NoText {
         space: 1,
