@@ -1,1 +1,2 @@
 pub mod CallCounts
+pub mod Stopped

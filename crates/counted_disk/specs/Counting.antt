@@ -1,5 +1,5 @@
 -- What calls leave of a disk that counts its turns and stops at the first call that isn't answered Ok.
-use Rattle.std.specs.Prelude.{◌≡◌, ℕ, ◌+◌, ◌-◌, ◌^◌, min, if◌then◌else◌, List, [], ◌∷◌, ◌++◌, Option, Some, None, refl}
+use Rattle.std.specs.Prelude.{◌≡◌, ℕ, ◌+◌, ◌-◌, ◌^◌, min, Bool, if◌then◌else◌, Result, OnOk, IfErr, List, [], ◌∷◌, ◌++◌, Option, Some, None, refl}
 use Rattle.std.proofs.Common.{sym, ◌∙◌, ap, subst}
 use Rattle.std.proofs.lemmas.Option.{same_Some, none-some}
 use mathlib.Core.List.{append_assoc}
@@ -9,6 +9,7 @@ use Rattle.disk_model.specs.Event.{Event, Open, Make, Write, Sync, Tell}
 use Rattle.disk_model.specs.Past.{Past, MayGrow}
 use Rattle.disk_model.specs.declared.names.DiskError.{DiskError}
 use Rattle.disk_model.specs.declared.names.DiskError.TheVariants.{Failed, NoMemory}
+use Rattle.counted_disk.specs.declared.counted.Counted.{Counted}
 use Rattle.counted_disk.specs.declared.counted.Stop.{Stop}
 
 -- the count of turns stays at the end of a u64
@@ -40,6 +41,10 @@ pub record CountState : Type 0 where
   pub turns : ℕ
   pub stop : Option Stop
 
+-- what is known of a disk that counts, by what is known of the one inside
+abbrev pub count_of : {D : Type 0} → (D → Past) → (D → ℕ) → (D → ℕ) → Counted D → CountState
+count_of past faults refusals c = record { past = past c.disk; faults = faults c.disk; refusals = refusals c.disk; turns = c.turns; stop = c.stop }
+
 -- the past goes on by events with n turns among them, where it is told
 pub data GoesOn (n : ℕ) (old new : Past) : Type 0 where
   Untold : old ≡ None → new ≡ None → GoesOn n old new
@@ -61,6 +66,12 @@ pub data IsCounted (old new : CountState) : Type 0 where
   Runs : (n : ℕ) → GoesOn n old.past new.past → AddsTurns n old.turns new.turns → old.stop ≡ None → new.stop ≡ None → new.faults ≡ old.faults → new.refusals ≡ old.refusals → IsCounted old new
   Stops : (n : ℕ) (mid : Past) (s : Stop) → GoesOn n old.past mid → MayGrow (λ e. turns_of_event e ≡ turns_of_stop s) mid new.past → AddsTurns (n + turns_of_stop s) old.turns new.turns → old.stop ≡ None → new.stop ≡ Some s → IsStopCause s old new → IsCounted old new
 
+-- One call of a disk that wasn't stopped: it is a turn or isn't, it leaves the disk running at Ok, and else is what stopped it.
+pub record RunsOn {T : Type 0} (in_turn : Bool) (old new : ℕ) (stop : Option Stop) (result : Result T DiskError) : Type 0 where
+  pub turn : AddsTurns (if in_turn then 1 else 0) old new
+  pub ok : OnOk result (stop ≡ None)
+  pub err : IfErr result (λ e. stop ≡ Some (record { error = e; in_turn = in_turn }))
+
 -- the calls that a stopped disk has answered by this error are one more, up to the end of a u64
 abbrev pub faults_after : DiskError → ℕ → ℕ
 faults_after Failed n = capped (n + 1)
@@ -69,6 +80,23 @@ faults_after NoMemory n = n
 abbrev pub refusals_after : DiskError → ℕ → ℕ
 refusals_after Failed n = n
 refusals_after NoMemory n = capped (n + 1)
+
+-- the answers of one error, where another or the same stopped the disk
+abbrev pub answers_of : DiskError → DiskError → ℕ → ℕ
+answers_of Failed Failed since = since + 1
+answers_of Failed NoMemory since = 0
+answers_of NoMemory Failed since = 0
+answers_of NoMemory NoMemory since = since + 1
+
+-- How often the disk has answered Failed: never while it runs, once where that stopped it, and then as often as it was called.
+abbrev pub faults_told : Option Stop → ℕ → ℕ
+faults_told None since = 0
+faults_told (Some s) since = answers_of s.error Failed since
+
+-- and how often it had no memory
+abbrev pub refusals_told : Option Stop → ℕ → ℕ
+refusals_told None since = 0
+refusals_told (Some s) since = answers_of s.error NoMemory since
 
 -- this error has stopped the disk
 abbrev pub IsStoppedBy : DiskError → Option Stop → Type 0

@@ -1,9 +1,12 @@
 // A disk that counts its turns, and stops at the first call that isn't answered Ok.
-ghost use Rattle.std.specs.Prelude.{◌≡◌, ℕ, ◌+◌, ◌⊎◌, None, Some, OnOk, IfErr};
-ghost use Rattle.disk_model.specs.Past.{HasDiskCause, HasDiskMemoryCause};
+ghost use Rattle.std.specs.Prelude.{◌≡◌, ◌+◌, ◌≤◌, ◌⊎◌, false, true, length, take, drop, is_some, None, Some, OnOk, OnErr, IfOk, IfSome, IfErr, IsErrOf};
+ghost use Rattle.cause_core.specs.Counts.{Rose};
+ghost use Rattle.disk_model.specs.Event.{Make, Write, Sync, Tell, is_there, reads};
+ghost use Rattle.disk_model.specs.Image.{InFile};
+ghost use Rattle.disk_model.specs.Past.{grow, At, MayGrow, Is, IsWrite, HasDiskCause, HasDiskMemoryCause};
 ghost use Rattle.disk_model.specs.declared.names.DiskError.TheVariants.{Failed};
 ghost use Rattle.counted_disk.specs.declared.counted.Stop.{Stop};
-ghost use Rattle.counted_disk.specs.Counting.{IsCounted, IsStoppedBy, counts_none, counts_then, faults_after, refusals_after};
+ghost use Rattle.counted_disk.specs.Counting.{IsCounted, IsStoppedBy, RunsOn, count_of, counts_none, counts_then, faults_after, refusals_after, faults_told, refusals_told};
 
 use disk_model::{Disk, DiskError, FileName, Mark};
 
@@ -64,17 +67,22 @@ impl<D: Disk + Drop> Counted<D> {
     fn check_running(&mut self) -> Result<(), DiskError>
         ensures running { OnOk result ((self.old.stop ≡ None) × (self.new ≡ self.old)) }
         ensures stopped { IfErr result (λ e. (s : Stop) × (self.old.stop ≡ Some s) × (s.error ≡ e) × (self.new ≡ record self.old { faults_since = faults_after e self.old.faults_since; refusals_since = refusals_after e self.old.refusals_since })) }
-        ensures cause { (count : D → ℕ) → HasDiskCause (count self.old.disk + self.old.faults_since) (count self.new.disk + self.new.faults_since) result }
-        ensures memory { (count : D → ℕ) → HasDiskMemoryCause (count self.old.disk + self.old.refusals_since) (count self.new.disk + self.new.refusals_since) result }
+        ensures cause { HasDiskCause (faults_told self.old.stop self.old.faults_since) (faults_told self.new.stop self.new.faults_since) result }
+        ensures memory { HasDiskMemoryCause (refusals_told self.old.stop self.old.refusals_since) (refusals_told self.new.stop self.new.refusals_since) result }
     {
         let Some(stop) = self.stop else {
             return Ok(());
         };
         match stop.error {
-            DiskError::Failed => self.faults_since = self.faults_since.saturating_add(1),
-            DiskError::NoMemory => self.refusals_since = self.refusals_since.saturating_add(1),
+            DiskError::Failed => {
+                self.faults_since = self.faults_since.saturating_add(1);
+                Err(DiskError::Failed)
+            }
+            DiskError::NoMemory => {
+                self.refusals_since = self.refusals_since.saturating_add(1);
+                Err(DiskError::NoMemory)
+            }
         }
-        Err(stop.error)
     }
 
     /// The disk.
@@ -106,19 +114,35 @@ impl<D: Disk + Drop> Disk for Counted<D> {
 
     ghost clock = { λ c. D.clock c.disk + (c.faults_since + c.refusals_since) };
 
-    ghost faults = { λ c. D.faults c.disk + c.faults_since };
+    // The answers of its own, none while it runs. So a call that answers an error says what stopped it, also
+    // where the disk inside has counted as far as it counts.
+    ghost faults = { λ c. faults_told c.stop c.faults_since };
 
-    ghost memory_refusals = { λ c. D.memory_refusals c.disk + c.refusals_since };
+    ghost memory_refusals = { λ c. refusals_told c.stop c.refusals_since };
 
-    ghost is_later = { λ old new. D.is_later old.disk new.disk × IsCounted (record { past = D.past old.disk; faults = D.faults old.disk; refusals = D.memory_refusals old.disk; turns = old.turns; stop = old.stop }) (record { past = D.past new.disk; faults = D.faults new.disk; refusals = D.memory_refusals new.disk; turns = new.turns; stop = new.stop }) };
+    ghost is_later = { λ old new. D.is_later old.disk new.disk × IsCounted (count_of D.past D.faults D.memory_refusals old) (count_of D.past D.faults D.memory_refusals new) };
 
     ghost may_fail_to_tell = { λ c. D.may_fail_to_tell c.disk ⊎ IsStoppedBy Failed c.stop };
 
-    ghost is_later_reflexive = { λ c. (D.is_later_reflexive c.disk, counts_none (record { past = D.past c.disk; faults = D.faults c.disk; refusals = D.memory_refusals c.disk; turns = c.turns; stop = c.stop })) };
+    ghost is_later_reflexive = { λ c. (D.is_later_reflexive c.disk, counts_none (count_of D.past D.faults D.memory_refusals c)) };
 
     ghost is_later_transitive = { λ a b c p q. (D.is_later_transitive a.disk b.disk c.disk p.0 q.0, counts_then _ _ _ p.1 q.1) };
 
-    fn make(&mut self, file: FileName, length: u64) -> Result<(), DiskError> {
+    fn make(&mut self, file: FileName, length: u64) -> Result<(), DiskError>
+        requires { At (λ es. is_there file es ≡ false) (D.past self.old.disk) }
+        ensures ok { OnOk result (D.past self.new.disk ≡ grow (Make file length) (D.past self.old.disk)) }
+        ensures err { OnErr result (MayGrow (Is (Make file length)) (D.past self.old.disk) (D.past self.new.disk)) }
+        ensures later { D.is_later self.old.disk self.new.disk × IsCounted (count_of D.past D.faults D.memory_refusals self.old) (count_of D.past D.faults D.memory_refusals self.new) }
+        ensures time { Rose (D.clock self.old.disk + (self.old.faults_since + self.old.refusals_since)) (D.clock self.new.disk + (self.new.faults_since + self.new.refusals_since)) }
+        ensures once { D.clock self.new.disk + (self.new.faults_since + self.new.refusals_since) ≤ D.clock self.old.disk + (self.old.faults_since + self.old.refusals_since) + 1 }
+        ensures cause { HasDiskCause (faults_told self.old.stop self.old.faults_since) (faults_told self.new.stop self.new.faults_since) result }
+        ensures memory { HasDiskMemoryCause (refusals_told self.old.stop self.old.refusals_since) (refusals_told self.new.stop self.new.refusals_since) result }
+        ensures no_fault { OnOk result (faults_told self.new.stop self.new.faults_since ≡ faults_told self.old.stop self.old.faults_since) }
+        ensures no_fault_at_want { IsErrOf result DiskError.NoMemory → faults_told self.new.stop self.new.faults_since ≡ faults_told self.old.stop self.old.faults_since }
+        ensures no_refusal { OnOk result (refusals_told self.new.stop self.new.refusals_since ≡ refusals_told self.old.stop self.old.refusals_since) }
+        ensures running { self.old.stop ≡ None → RunsOn false self.old.turns self.new.turns self.new.stop result }
+        ensures stopped { (s : Stop) → self.old.stop ≡ Some s → IsErrOf result s.error × (self.new.disk ≡ self.old.disk) × (self.new.turns ≡ self.old.turns) × (self.new.stop ≡ self.old.stop) }
+    {
         if let Err(error) = self.check_running() {
             return Err(error);
         }
@@ -126,7 +150,21 @@ impl<D: Disk + Drop> Disk for Counted<D> {
         keep_stop(&mut self.stop, false, done)
     }
 
-    fn size(&mut self, file: FileName) -> Result<Option<u64>, DiskError> {
+    fn size(&mut self, file: FileName) -> Result<Option<u64>, DiskError>
+        ensures there { IfOk result (λ n. At (λ es. is_some n ≡ is_there file es) (D.past self.old.disk)) }
+        ensures size { IfOk result (λ n. IfSome n (λ n. At (λ es. n ≡ length (reads file es)) (D.past self.old.disk))) }
+        ensures same { D.past self.new.disk ≡ D.past self.old.disk }
+        ensures later { D.is_later self.old.disk self.new.disk × IsCounted (count_of D.past D.faults D.memory_refusals self.old) (count_of D.past D.faults D.memory_refusals self.new) }
+        ensures time { Rose (D.clock self.old.disk + (self.old.faults_since + self.old.refusals_since)) (D.clock self.new.disk + (self.new.faults_since + self.new.refusals_since)) }
+        ensures once { D.clock self.new.disk + (self.new.faults_since + self.new.refusals_since) ≤ D.clock self.old.disk + (self.old.faults_since + self.old.refusals_since) + 1 }
+        ensures cause { HasDiskCause (faults_told self.old.stop self.old.faults_since) (faults_told self.new.stop self.new.faults_since) result }
+        ensures memory { HasDiskMemoryCause (refusals_told self.old.stop self.old.refusals_since) (refusals_told self.new.stop self.new.refusals_since) result }
+        ensures no_fault { OnOk result (faults_told self.new.stop self.new.faults_since ≡ faults_told self.old.stop self.old.faults_since) }
+        ensures no_fault_at_want { IsErrOf result DiskError.NoMemory → faults_told self.new.stop self.new.faults_since ≡ faults_told self.old.stop self.old.faults_since }
+        ensures no_refusal { OnOk result (refusals_told self.new.stop self.new.refusals_since ≡ refusals_told self.old.stop self.old.refusals_since) }
+        ensures running { self.old.stop ≡ None → RunsOn false self.old.turns self.new.turns self.new.stop result }
+        ensures stopped { (s : Stop) → self.old.stop ≡ Some s → IsErrOf result s.error × (self.new.disk ≡ self.old.disk) × (self.new.turns ≡ self.old.turns) × (self.new.stop ≡ self.old.stop) }
+    {
         if let Err(error) = self.check_running() {
             return Err(error);
         }
@@ -134,7 +172,21 @@ impl<D: Disk + Drop> Disk for Counted<D> {
         keep_stop(&mut self.stop, false, done)
     }
 
-    fn read(&mut self, file: FileName, at: u64, into: &mut [u8]) -> Result<(), DiskError> {
+    fn read(&mut self, file: FileName, at: u64, into: &mut [u8]) -> Result<(), DiskError>
+        requires { At (InFile file at (length into.old)) (D.past self.old.disk) }
+        ensures bytes { OnOk result (At (λ es. into.new ≡ take (length into.old) (drop at (reads file es))) (D.past self.old.disk)) }
+        ensures same { D.past self.new.disk ≡ D.past self.old.disk }
+        ensures later { D.is_later self.old.disk self.new.disk × IsCounted (count_of D.past D.faults D.memory_refusals self.old) (count_of D.past D.faults D.memory_refusals self.new) }
+        ensures time { Rose (D.clock self.old.disk + (self.old.faults_since + self.old.refusals_since)) (D.clock self.new.disk + (self.new.faults_since + self.new.refusals_since)) }
+        ensures once { D.clock self.new.disk + (self.new.faults_since + self.new.refusals_since) ≤ D.clock self.old.disk + (self.old.faults_since + self.old.refusals_since) + 1 }
+        ensures cause { HasDiskCause (faults_told self.old.stop self.old.faults_since) (faults_told self.new.stop self.new.faults_since) result }
+        ensures memory { HasDiskMemoryCause (refusals_told self.old.stop self.old.refusals_since) (refusals_told self.new.stop self.new.refusals_since) result }
+        ensures no_fault { OnOk result (faults_told self.new.stop self.new.faults_since ≡ faults_told self.old.stop self.old.faults_since) }
+        ensures no_fault_at_want { IsErrOf result DiskError.NoMemory → faults_told self.new.stop self.new.faults_since ≡ faults_told self.old.stop self.old.faults_since }
+        ensures no_refusal { OnOk result (refusals_told self.new.stop self.new.refusals_since ≡ refusals_told self.old.stop self.old.refusals_since) }
+        ensures running { self.old.stop ≡ None → RunsOn false self.old.turns self.new.turns self.new.stop result }
+        ensures stopped { (s : Stop) → self.old.stop ≡ Some s → IsErrOf result s.error × (self.new.disk ≡ self.old.disk) × (self.new.turns ≡ self.old.turns) × (self.new.stop ≡ self.old.stop) }
+    {
         if let Err(error) = self.check_running() {
             return Err(error);
         }
@@ -142,7 +194,21 @@ impl<D: Disk + Drop> Disk for Counted<D> {
         keep_stop(&mut self.stop, false, done)
     }
 
-    fn write(&mut self, file: FileName, at: u64, bytes: &[u8]) -> Result<(), DiskError> {
+    fn write(&mut self, file: FileName, at: u64, bytes: &[u8]) -> Result<(), DiskError>
+        requires { At (InFile file at (length bytes.now)) (D.past self.old.disk) }
+        ensures ok { OnOk result (D.past self.new.disk ≡ grow (Write file at bytes.now bytes.now) (D.past self.old.disk)) }
+        ensures err { OnErr result (MayGrow (IsWrite file at bytes.now) (D.past self.old.disk) (D.past self.new.disk)) }
+        ensures later { D.is_later self.old.disk self.new.disk × IsCounted (count_of D.past D.faults D.memory_refusals self.old) (count_of D.past D.faults D.memory_refusals self.new) }
+        ensures time { Rose (D.clock self.old.disk + (self.old.faults_since + self.old.refusals_since)) (D.clock self.new.disk + (self.new.faults_since + self.new.refusals_since)) }
+        ensures once { D.clock self.new.disk + (self.new.faults_since + self.new.refusals_since) ≤ D.clock self.old.disk + (self.old.faults_since + self.old.refusals_since) + 1 }
+        ensures cause { HasDiskCause (faults_told self.old.stop self.old.faults_since) (faults_told self.new.stop self.new.faults_since) result }
+        ensures memory { HasDiskMemoryCause (refusals_told self.old.stop self.old.refusals_since) (refusals_told self.new.stop self.new.refusals_since) result }
+        ensures no_fault { OnOk result (faults_told self.new.stop self.new.faults_since ≡ faults_told self.old.stop self.old.faults_since) }
+        ensures no_fault_at_want { IsErrOf result DiskError.NoMemory → faults_told self.new.stop self.new.faults_since ≡ faults_told self.old.stop self.old.faults_since }
+        ensures no_refusal { OnOk result (refusals_told self.new.stop self.new.refusals_since ≡ refusals_told self.old.stop self.old.refusals_since) }
+        ensures running { self.old.stop ≡ None → RunsOn true self.old.turns self.new.turns self.new.stop result }
+        ensures stopped { (s : Stop) → self.old.stop ≡ Some s → IsErrOf result s.error × (self.new.disk ≡ self.old.disk) × (self.new.turns ≡ self.old.turns) × (self.new.stop ≡ self.old.stop) }
+    {
         if let Err(error) = self.check_running() {
             return Err(error);
         }
@@ -151,7 +217,20 @@ impl<D: Disk + Drop> Disk for Counted<D> {
         keep_stop(&mut self.stop, true, done)
     }
 
-    fn sync(&mut self, file: FileName) -> Result<(), DiskError> {
+    fn sync(&mut self, file: FileName) -> Result<(), DiskError>
+        ensures ok { OnOk result (D.past self.new.disk ≡ grow (Sync file) (D.past self.old.disk)) }
+        ensures err { OnErr result (D.past self.new.disk ≡ D.past self.old.disk) }
+        ensures later { D.is_later self.old.disk self.new.disk × IsCounted (count_of D.past D.faults D.memory_refusals self.old) (count_of D.past D.faults D.memory_refusals self.new) }
+        ensures time { Rose (D.clock self.old.disk + (self.old.faults_since + self.old.refusals_since)) (D.clock self.new.disk + (self.new.faults_since + self.new.refusals_since)) }
+        ensures once { D.clock self.new.disk + (self.new.faults_since + self.new.refusals_since) ≤ D.clock self.old.disk + (self.old.faults_since + self.old.refusals_since) + 1 }
+        ensures cause { HasDiskCause (faults_told self.old.stop self.old.faults_since) (faults_told self.new.stop self.new.faults_since) result }
+        ensures memory { HasDiskMemoryCause (refusals_told self.old.stop self.old.refusals_since) (refusals_told self.new.stop self.new.refusals_since) result }
+        ensures no_fault { OnOk result (faults_told self.new.stop self.new.faults_since ≡ faults_told self.old.stop self.old.faults_since) }
+        ensures no_fault_at_want { IsErrOf result DiskError.NoMemory → faults_told self.new.stop self.new.faults_since ≡ faults_told self.old.stop self.old.faults_since }
+        ensures no_refusal { OnOk result (refusals_told self.new.stop self.new.refusals_since ≡ refusals_told self.old.stop self.old.refusals_since) }
+        ensures running { self.old.stop ≡ None → RunsOn true self.old.turns self.new.turns self.new.stop result }
+        ensures stopped { (s : Stop) → self.old.stop ≡ Some s → IsErrOf result s.error × (self.new.disk ≡ self.old.disk) × (self.new.turns ≡ self.old.turns) × (self.new.stop ≡ self.old.stop) }
+    {
         if let Err(error) = self.check_running() {
             return Err(error);
         }
@@ -160,7 +239,21 @@ impl<D: Disk + Drop> Disk for Counted<D> {
         keep_stop(&mut self.stop, true, done)
     }
 
-    fn tell(&mut self, mark: Mark) -> Result<(), DiskError> {
+    fn tell(&mut self, mark: Mark) -> Result<(), DiskError>
+        ensures ok { OnOk result (D.past self.new.disk ≡ grow (Tell mark) (D.past self.old.disk)) }
+        ensures err { OnErr result (MayGrow (Is (Tell mark)) (D.past self.old.disk) (D.past self.new.disk)) }
+        ensures tells { IsErrOf result DiskError.Failed → D.may_fail_to_tell self.old.disk ⊎ IsStoppedBy Failed self.old.stop }
+        ensures later { D.is_later self.old.disk self.new.disk × IsCounted (count_of D.past D.faults D.memory_refusals self.old) (count_of D.past D.faults D.memory_refusals self.new) }
+        ensures time { Rose (D.clock self.old.disk + (self.old.faults_since + self.old.refusals_since)) (D.clock self.new.disk + (self.new.faults_since + self.new.refusals_since)) }
+        ensures once { D.clock self.new.disk + (self.new.faults_since + self.new.refusals_since) ≤ D.clock self.old.disk + (self.old.faults_since + self.old.refusals_since) + 1 }
+        ensures cause { HasDiskCause (faults_told self.old.stop self.old.faults_since) (faults_told self.new.stop self.new.faults_since) result }
+        ensures memory { HasDiskMemoryCause (refusals_told self.old.stop self.old.refusals_since) (refusals_told self.new.stop self.new.refusals_since) result }
+        ensures no_fault { OnOk result (faults_told self.new.stop self.new.faults_since ≡ faults_told self.old.stop self.old.faults_since) }
+        ensures no_fault_at_want { IsErrOf result DiskError.NoMemory → faults_told self.new.stop self.new.faults_since ≡ faults_told self.old.stop self.old.faults_since }
+        ensures no_refusal { OnOk result (refusals_told self.new.stop self.new.refusals_since ≡ refusals_told self.old.stop self.old.refusals_since) }
+        ensures running { self.old.stop ≡ None → RunsOn false self.old.turns self.new.turns self.new.stop result }
+        ensures stopped { (s : Stop) → self.old.stop ≡ Some s → IsErrOf result s.error × (self.new.disk ≡ self.old.disk) × (self.new.turns ≡ self.old.turns) × (self.new.stop ≡ self.old.stop) }
+    {
         if let Err(error) = self.check_running() {
             return Err(error);
         }

@@ -9,7 +9,9 @@
 #![tactic(auto)]
 
 mod counted;
+mod laws;
 #[cfg(test)]
 mod tests;
 
 pub use counted::{Counted, Stop};
+pub use laws::answer_tells_stop;
