@@ -6,7 +6,6 @@ use Rattle.std.proofs.Math.Nat.{add-mod_right}
 use Rattle.std.proofs.lemmas.Bool.Decides.{nat_tests}
 use Rattle.std.proofs.lemmas.Bool.{cases_lt}
 use Rattle.key_ring.specs.Ring.{RingEntry}
-use Rattle.key_ring.specs.Local.{local_key}
 use Rattle.places.specs.Places.{place}
 use Rattle.byte_list.specs.Fields.{be64_at}
 use Rattle.byte_list.specs.Bytes.{range}
@@ -14,11 +13,10 @@ use Rattle.page_places.specs.Texts.{ends_in_sum}
 use Rattle.page_places.proofs.Sums.{and_left, and_right}
 use Rattle.ring_log.specs.Ring as ring
 use Rattle.ring_log.specs.Ring.{Form, IsForm, listed_blocks}
-use Rattle.store_image.specs.Checkpoint.{HeldCheckpoint, side_of}
+use Rattle.store_image.specs.Checkpoint.{HeldCheckpoint, front_blocks, side_of}
 use Rattle.store_image.specs.Places.{LogView}
-use Rattle.store_image.specs.View.{Logged}
+use Rattle.store_image.specs.View.{Logged, block_bytes}
 use Rattle.redo_text.specs.declared.change.Change.{Change}
-use Rattle.redo_text.specs.Reading.{block_version}
 use Rattle.store_files.specs.Checkpoint.{checkpoint_in, is_checkpoint}
 use Rattle.store_files.specs.Header.{HeldHeader}
 use Rattle.store_files.specs.RingBlock.{is_ring_block, begins_mtr, ends_mtr, block_text, IsMtrText}
@@ -68,12 +66,9 @@ module _ (header : HeldHeader) (keys : List RingEntry) (file : List ℕ) where
   abbrev N : ℕ
   N = header.blocks
 
+  -- the ring block of a number
   abbrev read : ℕ → List ℕ
-  read = ring.read_in N F file
-
-  at : (n : ℕ) → read n ≡ block_at N file n
-  unfolding block_at
-  at n = refl
+  read = block_at N file
 
   -- ---- whole mini-transactions, both ways
 
@@ -82,7 +77,7 @@ module _ (header : HeldHeader) (keys : List RingEntry) (file : List ℕ) where
       record {
         some = let s = w.some in omega (arith, s);
         few = let s = w.most in omega (arith, s);
-        valid = λ i lt. ap (is_ring_block (n + i)) (sym (at (n + i))) ∙ w.valid (n + i) (omega arith) (omega (arith, lt));
+        valid = λ i lt. w.valid (n + i) (omega arith) (omega (arith, lt));
         first = first;
         last = last;
       }
@@ -91,28 +86,28 @@ module _ (header : HeldHeader) (keys : List RingEntry) (file : List ℕ) where
       first zero lt =
           let e : n + 0 ≡ n = omega arith in
           let z : nat_eq 0 0 ≡ true = grind (arith, nat_tests) in
-          ap (λ (m : ℕ). begins_mtr (block_at N file m)) e ∙ ap begins_mtr (sym (at n)) ∙ w.first ∙ sym z
+          ap (λ (m : ℕ). begins_mtr (read m)) e ∙ w.first ∙ sym z
       first (suc i) lt =
           let z : nat_eq (suc i) 0 ≡ false = grind (arith, nat_tests) in
-          ap begins_mtr (sym (at (n + suc i))) ∙ w.others (n + suc i) (omega arith) (omega (arith, lt)) ∙ sym z
+          w.others (n + suc i) (omega arith) (omega (arith, lt)) ∙ sym z
 
       last : (i : ℕ) → i < k → ends_mtr (block_at N file (n + i)) ≡ nat_eq (i + 1) k
       last i lt = by (nat_eq (i + 1) k) refl
         where
           by : (b : Bool) → nat_eq (i + 1) k ≡ b → ends_mtr (block_at N file (n + i)) ≡ b
-          by true is = let e : i + 1 ≡ k = grind (arith, nat_tests) in ap ends_mtr (sym (at (n + i))) ∙ w.last (n + i) (omega (arith, e))
-          by false isnt = let e : i + 1 < k = grind (arith, nat_tests) in ap ends_mtr (sym (at (n + i))) ∙ w.before (n + i) (omega arith) (omega (arith, e))
+          by true is = let e : i + 1 ≡ k = grind (arith, nat_tests) in w.last (n + i) (omega (arith, e))
+          by false isnt = let e : i + 1 < k = grind (arith, nat_tests) in w.before (n + i) (omega arith) (omega (arith, e))
 
   whole_there : (n k : ℕ) → MakeWholeMtr N file n k → ring.IsWholeMtr N F read n (n + k)
   whole_there n k w =
       record {
         some = let s = w.some in omega (arith, s);
         most = let s = w.few in omega (arith, s);
-        valid = λ m le lt. back (λ x. is_ring_block m (read x) ≡ true) m le (λ i e. ap₂ (λ (y : ℕ) (b : List ℕ). is_ring_block y b) (sym e) (at (n + i)) ∙ w.valid i (omega (arith, lt, e)));
-        first = ap (λ (m : ℕ). begins_mtr (read m)) plus_none ∙ ap begins_mtr (at (n + 0)) ∙ w.first 0 w.some ∙ zero_is;
-        others = λ m lt below. back (λ x. begins_mtr (read x) ≡ false) m (omega (arith, lt)) (λ i e. ap begins_mtr (at (n + i)) ∙ w.first i (omega (arith, below, e)) ∙ not_zero i (omega (arith, lt, e)));
-        before = λ m le below. back (λ x. ends_mtr (read x) ≡ false) m le (λ i e. ap ends_mtr (at (n + i)) ∙ w.last i (omega (arith, below, e)) ∙ not_last i (omega (arith, below, e)));
-        last = λ m e. let s = w.some in back (λ x. ends_mtr (read x) ≡ true) m (omega (arith, e, s)) (λ i f. ap ends_mtr (at (n + i)) ∙ w.last i (omega (arith, e, f)) ∙ is_at_last i (omega (arith, e, f)));
+        valid = λ m le lt. back (λ x. is_ring_block m (read x) ≡ true) m le (λ i e. ap (λ (y : ℕ). is_ring_block y (read (n + i))) (sym e) ∙ w.valid i (omega (arith, lt, e)));
+        first = ap (λ (m : ℕ). begins_mtr (read m)) plus_none ∙ w.first 0 w.some ∙ zero_is;
+        others = λ m lt below. back (λ x. begins_mtr (read x) ≡ false) m (omega (arith, lt)) (λ i e. w.first i (omega (arith, below, e)) ∙ not_zero i (omega (arith, lt, e)));
+        before = λ m le below. back (λ x. ends_mtr (read x) ≡ false) m le (λ i e. w.last i (omega (arith, below, e)) ∙ not_last i (omega (arith, below, e)));
+        last = λ m e. let s = w.some in back (λ x. ends_mtr (read x) ≡ true) m (omega (arith, e, s)) (λ i f. w.last i (omega (arith, e, f)) ∙ is_at_last i (omega (arith, e, f)));
       }
     where
       plus_none : n ≡ n + 0
@@ -139,7 +134,7 @@ module _ (header : HeldHeader) (keys : List RingEntry) (file : List ℕ) where
   texts_here : (n k : ℕ) (text : List ℕ) → AreTexts header keys (listed_blocks N F read n k) text → HasText header keys file n k text
   texts_here n zero text is = is
   texts_here n (suc k) text (local, rest, key, more, e) =
-      (local, rest, ap (λ (b : List ℕ). local_key keys 1 (block_version b) header.salt) (sym (at n)) ∙ key, texts_here (n + 1) k rest more, e ∙ ap (λ (b : List ℕ). block_text header.algorithm local b ++ rest) (at n))
+      (local, rest, key, texts_here (n + 1) k rest more, e)
 
   entries_here : (n : ℕ) (es : List (Logged (List Change))) (end : ℕ) → ring.AreWholeEntries N F read n es end → AreLogEntries header keys file n es end
   entries_here n [] end is = is
@@ -153,8 +148,7 @@ module _ (header : HeldHeader) (keys : List RingEntry) (file : List ℕ) where
   -- ---- the end of the run
 
   same_place : (n : ℕ) → block_at N file (n + N) ≡ block_at N file n
-  unfolding block_at
-  same_place n = ap (λ (m : ℕ). place 4096 (3 + m) file) (add-mod_right n N)
+  same_place n = ap (λ (m : ℕ). place block_bytes (front_blocks + m) file) (add-mod_right n N)
 
   two_numbers : (n : ℕ) → 0 < N → is_ring_block n (block_at N file n) ≡ true → is_ring_block (n + N) (block_at N file (n + N)) ≡ true → ⊥
   two_numbers n some x y =
@@ -176,7 +170,7 @@ module _ (header : HeldHeader) (keys : List RingEntry) (file : List ℕ) where
           let e : end + i ≡ from + N = omega (arith, few) in
           let here : is_ring_block (end + i) (block_at N file (end + i)) ≡ true = w.valid i (omega (arith, past, few)) in
           let s = v.some in
-          let own : is_ring_block from (block_at N file from) ≡ true = ap (is_ring_block from) (sym (at from)) ∙ v.valid from (omega arith) s in
+          let own : is_ring_block from (block_at N file from) ≡ true = v.valid from (omega arith) s in
           absurd (two_numbers from (omega (arith, big)) own (subst (λ (m : ℕ). is_ring_block m (block_at N file m) ≡ true) e here))
 
   -- What the ring's law says of the file, the file says under the keys.
@@ -206,7 +200,7 @@ module _ (header : HeldHeader) (keys : List RingEntry) (file : List ℕ) where
   texts_there : (n k : ℕ) (text : List ℕ) → HasText header keys file n k text → AreTexts header keys (listed_blocks N F read n k) text
   texts_there n zero text is = is
   texts_there n (suc k) text (local, rest, key, more, e) =
-      (local, rest, ap (λ (b : List ℕ). local_key keys 1 (block_version b) header.salt) (at n) ∙ key, texts_there (n + 1) k rest more, e ∙ ap (λ (b : List ℕ). block_text header.algorithm local b ++ rest) (sym (at n)))
+      (local, rest, key, texts_there (n + 1) k rest more, e)
 
   entries_there : (n : ℕ) (es : List (Logged (List Change))) (end : ℕ) → AreLogEntries header keys file n es end → ring.AreWholeEntries N F read n es end
   entries_there n [] end is = is

@@ -4,18 +4,17 @@ use Rattle.key_ring.specs.Ring.{RingEntry}
 use Rattle.key_ring.specs.Local.{local_key}
 use Rattle.places.specs.Places.{Layout}
 use Rattle.page_places.specs.Texts.{ends_in_sum}
+use Rattle.ring_log.specs.Blocks.{ring_layout}
 use Rattle.ring_log.specs.Ring.{Form}
 use Rattle.redo_text.specs.declared.change.Change.{Change}
 use Rattle.redo_text.specs.Reading.{block_version}
 use Rattle.store_files.specs.Checkpoint.{checkpoint_in}
 use Rattle.store_files.specs.Header.{HeldHeader}
 use Rattle.store_files.specs.RingBlock.{is_ring_block, begins_mtr, ends_mtr, block_text, IsMtrText}
-use Rattle.store_image.specs.Checkpoint.{front_blocks}
-use Rattle.store_image.specs.View.{block_bytes}
 
 -- the log's file: header, two checkpoints and so many ring blocks
 abbrev pub log_places : ℕ → Layout
-log_places blocks = record { size = block_bytes; count = front_blocks + blocks; passes = ends_in_sum }
+log_places blocks = ring_layout blocks ends_in_sum
 
 module _ (header : HeldHeader) (keys : List RingEntry) where
   -- the text in these blocks, each under the local key of id 1 at its version

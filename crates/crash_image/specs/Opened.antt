@@ -10,6 +10,7 @@ use Rattle.places.specs.Batches.{IsFileSettled}
 use Rattle.page_places.specs.Placed.{MayBePlaced}
 use Rattle.page_places.specs.Texts.{page_bytes, slot_size, slots, pages}
 use Rattle.page_places.specs.Views.{IsReadAs}
+use Rattle.store_image.specs.Checkpoint.{front_blocks}
 use Rattle.store_image.specs.Opening.{IsVersionAllowed}
 use Rattle.store_image.specs.Places.{LogView, log_of}
 use Rattle.store_image.specs.Recovers.{Theory, ViewRecovers, ViewRotated}
@@ -80,7 +81,7 @@ pub record SpaceStands (o : StoreOpened) (z : ℕ) (t m : List Event) : Type 0 w
 -- The log's file, as the opening leaves it: nothing of it is pending, and no block of its ring has a number from the next one on.
 pub record LogEnded (o : StoreOpened) (m : List Event) : Type 0 where
   pub is_header : HasHeader (read_image m) o.header
-  pub long : length (reads Log m) ≡ (3 + o.header.blocks) * block_bytes
+  pub long : length (reads Log m) ≡ (front_blocks + o.header.blocks) * block_bytes
   pub run : IsLogOf o.header o.keys (reads Log m) (log_after o)
   pub clear : IsClear o.header.blocks (reads Log m) (o.view.end + o.header.blocks)
   pub whole : AreWhole Log (log_places o.header.blocks) m

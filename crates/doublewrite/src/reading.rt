@@ -17,7 +17,9 @@ use crate::{Copied, Copies, PageText};
 use byte_list::fields::{be32_at, be64_at};
 use bytes_core::{Crc32c, ends_in_crc32c};
 use disk_model::{Disk, DiskError, FileName};
-use page_places::SLOT_HEAD_BYTES;
+use page_places::{
+    PAGE_LSN_AT, PAGE_NUMBER_AT, PAGE_VERSION_AT, SLOT_HEAD_BYTES, SLOT_PAGE_AT, SLOT_SPACE_AT,
+};
 use std::alloc::{AllocError, Global};
 
 #[tactic(auto, unfolding(page_places::specs::Texts::has_magic))]
@@ -45,7 +47,7 @@ pub(crate) fn is_page_text(text: &[u8], number: u32) -> bool
     requires { 8 ≤ length text.now }
     ensures { result ≡ is_page_text number text.now }
 {
-    ends_in_crc32c(text) && be32_at(text, 4) == number
+    ends_in_crc32c(text) && be32_at(text, PAGE_NUMBER_AT) == number
 }
 
 pub(crate) fn is_slot(slot: &[u8]) -> bool
@@ -60,7 +62,7 @@ pub(crate) fn is_slot(slot: &[u8]) -> bool
     if !has_sum(head, text, sum) {
         return false;
     }
-    is_page_text(text, be32_at(slot, 12))
+    is_page_text(text, be32_at(slot, SLOT_PAGE_AT))
 }
 
 fn read_copy(alloc: Global, index: usize, slot: &[u8]) -> Result<Option<Copied>, AllocError>
@@ -72,15 +74,15 @@ fn read_copy(alloc: Global, index: usize, slot: &[u8]) -> Result<Option<Copied>,
     }
     let (_head, rest) = slot.split_at(SLOT_HEAD_BYTES);
     let (_sum, text) = rest.split_at(4);
-    let page = be32_at(slot, 12);
-    let lsn = be64_at(text, 16);
-    let version = be32_at(text, 0);
+    let page = be32_at(slot, SLOT_PAGE_AT);
+    let lsn = be64_at(text, PAGE_LSN_AT);
+    let version = be32_at(text, PAGE_VERSION_AT);
     let Some(text) = PageText::of(text.to_vec(alloc)?) else {
         return Ok(None);
     };
     Ok(Some(Copied {
         index,
-        space: be32_at(slot, 8),
+        space: be32_at(slot, SLOT_SPACE_AT),
         page,
         lsn,
         version,

@@ -6,7 +6,7 @@ ghost use Rattle.page_places.specs.Texts.{slot_words, slot_bytes, page_bytes, sl
 
 use byte_list::fields::{be32_at, put};
 use bytes_core::Crc32c;
-use page_places::SLOT_HEAD_BYTES;
+use page_places::{PAGE_NUMBER_AT, SLOT_HEAD_BYTES};
 
 // A slot of the doublewrite file in bytes: a head, its checksum and a page text.
 pub(crate) const SLOT: usize = page_places::SLOT_BYTES;
@@ -17,7 +17,7 @@ pub(crate) const SLOTS: usize = page_places::SLOTS;
 pub(crate) const SLOT_BYTES: u64 = page_places::SLOT_BYTES as u64;
 
 // The bytes of the head that say something.
-const WORDS: usize = 24;
+const WORDS: usize = page_places::SLOT_ZEROS_AT;
 
 // Where the page text stands in a slot, behind the checksum of four bytes.
 const TEXT: usize = SLOT_HEAD_BYTES + 4;
@@ -56,7 +56,7 @@ pub(crate) fn fill_slot(slot: &mut [u8], space: u32, batch: u64, text: &[u8])
     requires text { length text.now ≡ page_bytes }
     ensures { slot.new ≡ slot_bytes space (page_number_of text.now) batch text.now }
 {
-    put(slot, 0, &words(space, be32_at(text, 4), batch));
+    put(slot, 0, &words(space, be32_at(text, PAGE_NUMBER_AT), batch));
     clear_part(slot, WORDS, SLOT_HEAD_BYTES - WORDS);
     let mut sum = Crc32c::new();
     sum.update(part(slot, 0, SLOT_HEAD_BYTES));

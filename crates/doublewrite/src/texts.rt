@@ -1,6 +1,7 @@
 // Page texts, and batches of them.
 use byte_list::fields::be32_at;
 use bytes_core::ends_in_crc32c;
+use page_places::PAGE_NUMBER_AT;
 use std::marker::Model;
 
 // A page of a store in bytes.
@@ -43,7 +44,7 @@ impl PageText {
         if !ends_in_crc32c(&bytes) {
             return None;
         }
-        let _number = be32_at(&bytes, 4);
+        let _number = be32_at(&bytes, PAGE_NUMBER_AT);
         Some(PageText { bytes })
     }
 
@@ -59,7 +60,7 @@ impl PageText {
     pub fn number(&self) -> u32
         ensures { result ≡ page_number_of self.now }
     {
-        be32_at(&self.bytes, 4)
+        be32_at(&self.bytes, PAGE_NUMBER_AT)
     }
 }
 

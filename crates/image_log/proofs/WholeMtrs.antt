@@ -102,7 +102,6 @@ module _ (blocks : ℕ) (file : List ℕ) where
   leads_run from sizes end round leads = subst (λ (xs : List ℕ). MakeWholeMtrs blocks file from xs end) (append-nil sizes) (leads.more [] end refl)
 
   same_place : (n : ℕ) → at (n + blocks) ≡ at n
-  unfolding block_at
   same_place n = ap (λ (k : ℕ). place 4096 (3 + k) file) (add-mod_right n blocks)
 
   -- A run is no longer than the ring.

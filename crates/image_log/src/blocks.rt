@@ -24,7 +24,6 @@ pub fn place(file: &[u8], size: usize, index: usize) -> &[u8]
 }
 
 /// The block at the place of this number, in a ring of so many blocks.
-#[tactic(auto, unfolding(store_files::specs::Run::block_at))]
 pub fn block_at(log: &[u8], blocks: u32, number: u64) -> &[u8]
     requires long { length log.now ≡ (front_blocks + blocks) * block_bytes }
     requires some { 0 < blocks }

@@ -10,7 +10,7 @@ ghost use Rattle.store_image.specs.View.{block_bytes};
 use crate::blocks::place;
 use crate::header::ends_in_sum;
 use byte_list::fields::be64_at;
-use store_files::BLOCK_BYTES;
+use store_files::{BLOCK_BYTES, CHECKPOINT_FROM_AT, CHECKPOINT_SEQUENCE_AT};
 
 /// What a checkpoint says: how many were written up to it, and the number of the block that the run
 /// begins with.
@@ -37,8 +37,8 @@ fn is_checkpoint(side: u64, block: &[u8]) -> bool
     if !ends_in_sum(block) || !has_magic(block) {
         return false;
     }
-    let sequence = be64_at(block, 8);
-    let from = be64_at(block, 16);
+    let sequence = be64_at(block, CHECKPOINT_SEQUENCE_AT);
+    let from = be64_at(block, CHECKPOINT_FROM_AT);
     side == 1 + sequence % 2 && 1 <= sequence && sequence < from && from <= 1 << 50
 }
 
@@ -52,8 +52,8 @@ fn checkpoint_in(side: u64, block: &[u8]) -> Option<RunStart>
         return None;
     }
     Some(RunStart {
-        sequence: be64_at(block, 8),
-        from: be64_at(block, 16),
+        sequence: be64_at(block, CHECKPOINT_SEQUENCE_AT),
+        from: be64_at(block, CHECKPOINT_FROM_AT),
     })
 }
 

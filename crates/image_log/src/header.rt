@@ -4,8 +4,9 @@ ghost use Rattle.std.specs.Str.{bytes_eq};
 ghost use Rattle.byte_list.specs.Bytes.{range};
 ghost use Rattle.byte_list.specs.Fields.{be32_at};
 ghost use Rattle.page_places.specs.Texts.{ends_in_sum};
-ghost use Rattle.store_files.specs.Header.{are_allowed, are_in_order, header_fields, header_in, is_header, pages_together, spaces_at};
+ghost use Rattle.store_files.specs.Header.{are_allowed, are_in_order, header_fields, header_in, is_header, pages_together, spaces_at, header_count_at, header_salt_at, header_spaces_at, held_space_bytes, most_spaces};
 ghost use Rattle.store_image.specs.View.{block_bytes};
+ghost use Rattle.store_image.specs.Ivs.{last_space};
 
 use aes_core::Algorithm;
 use byte_list::fields::be32_at;
@@ -14,15 +15,17 @@ use cause_core::OutOfMemory;
 use page_places::PAGE_BYTES;
 use std::alloc::Global;
 use std::marker::Model;
+use store_files::{
+    HEADER_ALGORITHM_AT, HEADER_BLOCKS_AT, HEADER_COUNT_AT, HEADER_FORMAT_AT, HEADER_PAGE_AT,
+    HEADER_SALT_AT, HEADER_SPACES_AT, HELD_SPACE_BYTES, LAST_SPACE, LEAST_RING_BLOCKS, MOST_PAGES,
+    MOST_RING_BLOCKS, MOST_SPACES,
+};
 
 // The format of headers that are read.
 const FORMAT: u32 = 2;
 
-// The most pages of all spaces together.
-const MOST_PAGES: u64 = 16384;
-
-// The greatest id of a space.
-const LAST_SPACE: u32 = 4_294_967_279;
+// The most spaces, as a header counts them.
+const MOST_COUNT: u32 = MOST_SPACES as u32;
 
 /// A space, as a store's header names it. In contracts it is a `HeldSpace`.
 #[derive(Debug, Drop)]
@@ -141,15 +144,17 @@ fn is_front(block: &[u8]) -> bool
     if !ends_in_sum(block) || !has_magic(block) {
         return false;
     }
-    if be32_at(block, 8) != FORMAT || be32_at(block, 12) != PAGE_BYTES as u32 {
+    if be32_at(block, HEADER_FORMAT_AT) != FORMAT
+        || be32_at(block, HEADER_PAGE_AT) != PAGE_BYTES as u32
+    {
         return false;
     }
-    is_algorithm(be32_at(block, 240))
+    is_algorithm(be32_at(block, HEADER_ALGORITHM_AT))
 }
 
-// A space's 12 bytes from a place on.
+// A space's bytes from a place on.
 fn space_at(block: &[u8], at: usize) -> StoreSpace
-    requires { at + 12 ≤ length block.now }
+    requires { at + held_space_bytes ≤ length block.now }
     ensures { result ≡ record { space = be32_at block.now at; pages = be32_at block.now (at + 4); key_id = be32_at block.now (at + 8) } }
 {
     StoreSpace {
@@ -161,22 +166,22 @@ fn space_at(block: &[u8], at: usize) -> StoreSpace
 
 fn spaces_in(alloc: Global, block: &[u8], count: usize) -> Result<Vec<StoreSpace>, OutOfMemory>
     requires size { length block.now ≡ block_bytes }
-    requires few { count ≤ 16 }
-    ensures { IfOk result (λ spaces. spaces.items ≡ spaces_at block.now 40 count) }
+    requires few { count ≤ most_spaces }
+    ensures { IfOk result (λ spaces. spaces.items ≡ spaces_at block.now header_spaces_at count) }
 {
     let mut spaces = Vec::new(alloc);
     for i in 0..count {
-        spaces.push(space_at(block, 40 + 12 * i))?;
+        spaces.push(space_at(block, HEADER_SPACES_AT + HELD_SPACE_BYTES * i))?;
     }
     Ok(spaces)
 }
 
 fn salt_in(block: &[u8]) -> [u8; 16]
     requires { length block.now ≡ block_bytes }
-    ensures { result ≡ range 24 16 block.now }
+    ensures { result ≡ range header_salt_at 16 block.now }
 {
     let mut salt = [0; 16];
-    salt.copy_from_slice(&block[24..40]);
+    salt.copy_from_slice(&block[HEADER_SALT_AT..HEADER_SPACES_AT]);
     salt
 }
 
@@ -185,7 +190,7 @@ fn algorithm_in(block: &[u8]) -> Algorithm
     requires { length block.now ≡ block_bytes }
     ensures { result ≡ (header_fields block.now).algorithm }
 {
-    if be32_at(block, 240) == 1 {
+    if be32_at(block, HEADER_ALGORITHM_AT) == 1 {
         Algorithm::Cbc
     } else {
         Algorithm::Ctr
@@ -196,13 +201,13 @@ fn algorithm_in(block: &[u8]) -> Algorithm
 #[tactic(auto, unfolding(store_files::specs::Header::header_fields))]
 fn header_fields(alloc: Global, block: &[u8]) -> Result<StoreHeader, OutOfMemory>
     requires size { length block.now ≡ block_bytes }
-    requires few { be32_at block.now 20 ≤ 16 }
+    requires few { be32_at block.now header_count_at ≤ most_spaces }
     ensures { IfOk result (λ header. header ≡ header_fields block.now) }
 {
-    let spaces = spaces_in(alloc, block, be32_at(block, 20) as usize)?;
+    let spaces = spaces_in(alloc, block, be32_at(block, HEADER_COUNT_AT) as usize)?;
     Ok(StoreHeader {
         algorithm: algorithm_in(block),
-        blocks: be32_at(block, 16),
+        blocks: be32_at(block, HEADER_BLOCKS_AT),
         salt: salt_in(block),
         spaces,
     })
@@ -210,7 +215,7 @@ fn header_fields(alloc: Global, block: &[u8]) -> Result<StoreHeader, OutOfMemory
 
 // Whether a space may stand behind one of this id.
 fn may_follow(id: u32, space: &StoreSpace) -> bool
-    ensures { result ≡ (nat_lt id space.now.space && (nat_le space.now.space 4294967279 && (nat_le 2 space.now.pages && nat_le 1 space.now.key_id))) }
+    ensures { result ≡ (nat_lt id space.now.space && (nat_le space.now.space last_space && (nat_le 2 space.now.pages && nat_le 1 space.now.key_id))) }
 {
     id < space.space && space.space <= LAST_SPACE && 2 <= space.pages && 1 <= space.key_id
 }
@@ -229,7 +234,7 @@ fn are_in_order(spaces: &[StoreSpace]) -> bool
 }
 
 fn pages_together(spaces: &[StoreSpace]) -> u64
-    requires { length spaces.now ≤ 16 }
+    requires { length spaces.now ≤ most_spaces }
     ensures { result ≡ pages_together spaces.now }
 {
     let mut pages = 0;
@@ -245,10 +250,10 @@ fn are_allowed(header: &StoreHeader) -> bool
     ensures { result ≡ are_allowed header.now }
 {
     let spaces = header.spaces();
-    32 <= header.blocks
-        && header.blocks <= 4096
+    LEAST_RING_BLOCKS <= header.blocks
+        && header.blocks <= MOST_RING_BLOCKS
         && 1 <= spaces.len()
-        && spaces.len() <= 16
+        && spaces.len() <= MOST_SPACES
         && are_in_order(spaces)
         && pages_together(spaces) <= MOST_PAGES
 }
@@ -264,7 +269,7 @@ pub fn read_header(alloc: Global, block: &[u8]) -> Result<Option<StoreHeader>, O
     if !is_front(block) {
         return Ok(None);
     }
-    if 16 < be32_at(block, 20) {
+    if be32_at(block, HEADER_COUNT_AT) > MOST_COUNT {
         return Ok(None);
     }
     let header = header_fields(alloc, block)?;

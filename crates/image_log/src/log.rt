@@ -7,6 +7,7 @@ ghost use Rattle.image_log.specs.declared.fault.LogTextFault.TheVariants.{OutOfM
 ghost use Rattle.image_log.specs.Logs.{IsEntryIn, IsEntryFault, IsLogTextFault, IsMtrFault};
 ghost use Rattle.store_image.specs.View.{block_bytes};
 ghost use Rattle.store_image.specs.Checkpoint.{front_blocks};
+ghost use Rattle.store_files.specs.Header.{least_ring_blocks, most_ring_blocks};
 
 use crate::changes::changes_of;
 use crate::checkpoint::newest_checkpoint;
@@ -177,8 +178,8 @@ pub fn read_log(
     log: &[u8],
 ) -> Result<LogText, LogTextFault>
     requires long { length log.now ≡ (front_blocks + header.now.blocks) * block_bytes }
-    requires least { 32 ≤ header.now.blocks }
-    requires most { header.now.blocks ≤ 4096 }
+    requires least { least_ring_blocks ≤ header.now.blocks }
+    requires most { header.now.blocks ≤ most_ring_blocks }
     ensures ok { IfOk result (λ text. IsLogOf header.now keys.now log.now text) }
     ensures fault { IfErr result (IsLogTextFault header.now keys.now log.now) }
     // A log that says something is never refused.

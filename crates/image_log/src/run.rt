@@ -1,22 +1,23 @@
 // The run: whole mini-transactions from the newest checkpoint on.
 ghost use Rattle.std.specs.Prelude.{◌≡◌, ℕ, ◌≤◌, ◌<◌, ◌+◌, ◌*◌, ◌^◌, length, IfOk, IfSome, IfNone};
 ghost use Rattle.store_files.specs.Run.{MakeWholeMtr, MakeWholeMtrs, NoWholeMtr};
-ghost use Rattle.store_image.specs.View.{block_bytes};
+ghost use Rattle.store_image.specs.View.{block_bytes, most_mtr_blocks};
 ghost use Rattle.store_image.specs.Checkpoint.{front_blocks};
+ghost use Rattle.store_files.specs.Header.{most_ring_blocks};
 
 use crate::blocks::{block_at, valid_block};
 use cause_core::OutOfMemory;
 use std::alloc::Global;
 
 // The most blocks of a mini-transaction.
-const MOST_BLOCKS: u64 = 16;
+const MOST_BLOCKS: u64 = store_files::MOST_MTR_BLOCKS;
 
 // How many blocks the whole mini-transaction has that begins with the block of this number, where
 // there is one.
 fn whole_mtr(log: &[u8], blocks: u32, number: u64) -> Option<u64>
     requires long { length log.now ≡ (front_blocks + blocks) * block_bytes }
     requires some { 0 < blocks }
-    requires small { number + 16 < 2 ^ 64 }
+    requires small { number + most_mtr_blocks < 2 ^ 64 }
     ensures some { IfSome result (λ k. MakeWholeMtr blocks log.now number k) }
     ensures none { IfNone result (NoWholeMtr blocks log.now number) }
 {
@@ -48,7 +49,7 @@ pub(crate) fn run_from(
 ) -> Result<RunSizes, OutOfMemory>
     requires long { length log.now ≡ (front_blocks + blocks) * block_bytes }
     requires some { 0 < blocks }
-    requires most { blocks ≤ 4096 }
+    requires most { blocks ≤ most_ring_blocks }
     requires small { from ≤ 2 ^ 50 }
     ensures run { IfOk result (λ run. MakeWholeMtrs blocks log.now from run.sizes.items run.end) }
     ensures longest { IfOk result (λ run. NoWholeMtr blocks log.now run.end) }

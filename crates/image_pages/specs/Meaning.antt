@@ -9,14 +9,14 @@ use Rattle.page_text.specs.declared.key.PageKey.{PageKey}
 use Rattle.space_head.specs.Head.{with_head}
 use Rattle.space_head.specs.declared.space.SpaceInfo.{SpaceInfo}
 use Rattle.store_model.specs.declared.contents.PlainPage.{PlainPage}
-use Rattle.page_places.specs.Texts.{text_in, page_bytes}
+use Rattle.page_places.specs.Texts.{text_in, page_bytes, page_lsn_at, page_version_at}
 use Rattle.store_files.specs.Header.{HeldHeader}
 use Rattle.store_files.specs.Pages.{Page, Used, IsTypedInfo, MeansPage, head_of_space, head_page}
 
 -- under a key
 abbrev pub IsPlainOf : ℕ → ℕ → Option PageKey → List ℕ → Option PlainPage → Type 0
-IsPlainOf s p key text (Some page) = IsText page_bytes s p (be64_at text 16) (be32_at text 0) key (record { kind = page.kind; bytes = page.body }) text
-IsPlainOf s p key text None = (plain : Plain) → IsText page_bytes s p (be64_at text 16) (be32_at text 0) key plain text → ⊥
+IsPlainOf s p key text (Some page) = IsText page_bytes s p (be64_at text page_lsn_at) (be32_at text page_version_at) key (record { kind = page.kind; bytes = page.body }) text
+IsPlainOf s p key text None = (plain : Plain) → IsText page_bytes s p (be64_at text page_lsn_at) (be32_at text page_version_at) key plain text → ⊥
 
 -- of a page from page 1 on, under the keys of a store in which the space has this salt
 abbrev pub IsUsedPage : HeldHeader → List RingEntry → ℕ → ℕ → List ℕ → List ℕ → Option PlainPage → Type 0
@@ -32,7 +32,7 @@ IsHeadPage bytes None = (info : SpaceInfo) → IsTypedInfo info → bytes ≡ bo
 pub record IsHeadOf (s : ℕ) (text : List ℕ) (info : SpaceInfo) : Type 0 where
   pub space : info.space ≡ s
   pub typed : IsTypedInfo info
-  pub is_text : IsText page_bytes s 0 (be64_at text 16) (be32_at text 0) None (head_page info) text
+  pub is_text : IsText page_bytes s 0 (be64_at text page_lsn_at) (be32_at text page_version_at) None (head_page info) text
 
 -- or of none
 abbrev pub IsHeadText : ℕ → List ℕ → Option SpaceInfo → Type 0

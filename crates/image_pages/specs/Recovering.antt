@@ -4,7 +4,7 @@ use Rattle.std.specs.Borrow.{Bor}
 use Rattle.key_ring.specs.Local.{local_key}
 use Rattle.key_ring.specs.Ring.{RingEntry}
 use Rattle.byte_list.specs.Fields.{be64_at}
-use Rattle.page_places.specs.Texts.{held, text_in, page_bytes}
+use Rattle.page_places.specs.Texts.{held, text_in, page_bytes, page_lsn_at}
 use Rattle.store_image.specs.Places.{LogView}
 use Rattle.store_image.specs.Recovers.{PageRecovers, SlotRecovers, later_by, IsNamedBy}
 use Rattle.store_image.specs.Groups.{copy_of}
@@ -97,8 +97,8 @@ IsNewestLsn home double s p lsn =
 pub record TextGives (header : HeldHeader) (keys : List RingEntry) (log : LogView (List Change)) (s p : ℕ) (salts : ℕ → List ℕ) (text : List ℕ) (x : Page) : Type 0 where
   pub holds : Page
   pub means : MeansPage header keys salts s p (text_in text) holds
-  pub named : IsNamedBy mtr_names log.run s p (be64_at text 16)
-  pub same : x ≡ later_by mtr_acts (be64_at text 16) log.run s p holds
+  pub named : IsNamedBy mtr_names log.run s p (be64_at text page_lsn_at)
+  pub same : x ≡ later_by mtr_acts (be64_at text page_lsn_at) log.run s p holds
 
 -- or it doesn't
 abbrev pub GivesPage : HeldHeader → List RingEntry → LogView (List Change) → ℕ → ℕ → List ℕ → List ℕ → Page → Bool → Type 0

@@ -8,7 +8,7 @@ ghost use Rattle.store_image.specs.View.{slot_count};
 use crate::texts::is_slot;
 use byte_list::fields::{be32_at, be64_at};
 use image_log::place;
-use page_places::{SLOT_BYTES, SLOT_HEAD_BYTES, SLOTS};
+use page_places::{PAGE_LSN_AT, SLOT_BYTES, SLOT_HEAD_BYTES, SLOT_PAGE_AT, SLOT_SPACE_AT, SLOTS};
 
 /// A copy of a page: its slot, 0 to 63, and its LSN.
 #[derive(Clone, Copy, Debug, PartialEq, Eq)]
@@ -25,15 +25,15 @@ pub(crate) fn copy_in(slot: &[u8], space: u32, page: u32) -> Option<u64>
     if !is_slot(slot) {
         return None;
     }
-    if be32_at(slot, 8) != space {
+    if be32_at(slot, SLOT_SPACE_AT) != space {
         return None;
     }
-    if be32_at(slot, 12) != page {
+    if be32_at(slot, SLOT_PAGE_AT) != page {
         return None;
     }
     let (_head, rest) = slot.split_at(SLOT_HEAD_BYTES);
     let (_sum, text) = rest.split_at(4);
-    Some(be64_at(text, 16))
+    Some(be64_at(text, PAGE_LSN_AT))
 }
 
 // Of two copies the newer, of two of one LSN the first.

@@ -7,12 +7,12 @@ ghost use Rattle.space_head.specs.Head.{with_head};
 ghost use Rattle.space_head.specs.declared.space.SpaceInfo.{SpaceInfo};
 ghost use Rattle.store_files.specs.Pages.{IsTypedInfo, head_of_space, head_page};
 ghost use Rattle.image_pages.specs.Meaning.{IsHeadPage, IsHeadText};
-ghost use Rattle.page_places.specs.Texts.{page_bytes};
+ghost use Rattle.page_places.specs.Texts.{page_bytes, page_body_at, page_body_bytes};
 
 use crate::plain::plain_page;
 use byte_list::{copy_with, zero_bytes};
 use cause_core::OutOfMemory;
-use page_places::PAGE_BYTES;
+use page_places::{PAGE_BODY_AT, PAGE_BYTES};
 use space_head::{CryptRecord, SpaceHead, SpaceInfo, read_head, write_head};
 use std::alloc::Global;
 
@@ -64,10 +64,10 @@ fn known_info(info: &SpaceInfo)
 
 // A page of zero bytes with this body.
 fn page_with(alloc: Global, body: &[u8]) -> Result<Vec<u8>, OutOfMemory>
-    ensures { IfOk result (λ page. page.items ≡ put 38 body.now (zeros page_bytes)) }
+    ensures { IfOk result (λ page. page.items ≡ put page_body_at body.now (zeros page_bytes)) }
 {
     let page = zero_bytes(alloc, PAGE_BYTES)?;
-    Ok(copy_with(alloc, &page, 38, body)?)
+    Ok(copy_with(alloc, &page, PAGE_BODY_AT, body)?)
 }
 
 // A page of zero bytes with the head of this space.
@@ -87,7 +87,7 @@ fn are_same(a: &[u8], b: &[u8]) -> bool
 
 // The space whose page 0 has this body, where there is one.
 fn head_in(alloc: Global, body: &[u8]) -> Result<Option<SpaceInfo>, OutOfMemory>
-    requires { length body.now ≡ 16338 }
+    requires { length body.now ≡ page_body_bytes }
     ensures { IfOk result (IsHeadPage body.now) }
 {
     let page = page_with(alloc, body)?;

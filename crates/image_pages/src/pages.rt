@@ -18,6 +18,7 @@ use crate::plain::used_page;
 use crate::source::{PageSource, SpaceKeys};
 use byte_list::fields::{be32_at, be64_at};
 use image_log::LogText;
+use page_places::{PAGE_LSN_AT, PAGE_VERSION_AT};
 use space_head::SpaceInfo;
 use std::alloc::Global;
 use store_files::BLOCK_BYTES;
@@ -48,7 +49,7 @@ fn text_fault(keys: &SpaceKeys, text: &[u8]) -> TextFault
     requires { length text.now ≡ page_bytes }
     ensures { IsMeaningFault (local_key keys.now.ring.now keys.now.key_id (be32_at text.now 0) keys.now.salt.now) (be32_at text.now 0) result }
 {
-    let version = be32_at(text, 0);
+    let version = be32_at(text, PAGE_VERSION_AT);
     if version != 0 && keys.ring.local(keys.key_id, version, keys.salt).is_none() {
         return TextFault::NoKey { version };
     }
@@ -79,7 +80,7 @@ pub fn recover_page(
     let Some(text) = chosen else {
         return Ok(later_page(alloc, log.run(), 0, source.space, source.number, None)?);
     };
-    let lsn = be64_at(text, 16);
+    let lsn = be64_at(text, PAGE_LSN_AT);
     if log.end() * (BLOCK_BYTES as u64) < lsn {
         return Err(PageFault::Text(TextFault::BehindTheRun));
     }
@@ -119,7 +120,7 @@ pub fn recover_head(
     let Some(text) = chosen else {
         return Err(PageFault::Text(TextFault::UnusedHead));
     };
-    let lsn = be64_at(text, 16);
+    let lsn = be64_at(text, PAGE_LSN_AT);
     if log.end() * (BLOCK_BYTES as u64) < lsn {
         return Err(PageFault::Text(TextFault::BehindTheRun));
     }

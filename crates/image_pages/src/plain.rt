@@ -8,11 +8,12 @@ ghost use Rattle.page_text.specs.Text.{IsText, Plain, key_lent, plain_of};
 ghost use Rattle.space_head.specs.Sizes.{IsPageSize};
 ghost use Rattle.store_files.specs.Pages.{HasKeyBytes, key_id_of};
 ghost use Rattle.image_pages.specs.Meaning.{IsPlainOf, IsUsedPage};
-ghost use Rattle.page_places.specs.Texts.{page_bytes};
+ghost use Rattle.page_places.specs.Texts.{page_bytes, page_lsn_at, page_version_at, page_type_at};
 
 use crate::source::SpaceKeys;
 use byte_list::fields::{be16_at, be32_at};
 use cause_core::OutOfMemory;
+use page_places::{PAGE_BODY_AT, PAGE_TYPE_AT, PAGE_VERSION_AT};
 use page_text::{PageKey, PageMut, unseal};
 use redo_text::Piece;
 use std::alloc::Global;
@@ -50,8 +51,8 @@ fn page_key(keys: &SpaceKeys, version: u32) -> Option<PageKey>
 // Takes a page text apart in place, and tells whether it is one.
 fn unseals(bytes: &mut [u8], space: u32, number: u32, key: Option<&PageKey>) -> bool
     requires sized { IsPageSize (length bytes.old) }
-    requires keyed { be32_at bytes.old 0 ≢ 0 → IsSome key }
-    ensures accepted { result ≡ true → IsText (length bytes.old) space number (be64_at bytes.old 16) (be32_at bytes.old 0) (key_lent key.entry) (plain_of bytes.new) bytes.old }
+    requires keyed { be32_at bytes.old page_version_at ≢ 0 → IsSome key }
+    ensures accepted { result ≡ true → IsText (length bytes.old) space number (be64_at bytes.old page_lsn_at) (be32_at bytes.old page_version_at) (key_lent key.entry) (plain_of bytes.new) bytes.old }
     ensures refused { result ≡ false → (lsn version : ℕ) (plain : Plain) → IsText (length bytes.old) space number lsn version (key_lent key.entry) plain bytes.old → ⊥ }
 {
     let mut page = PageMut::of(bytes);
@@ -64,13 +65,13 @@ fn unseals(bytes: &mut [u8], space: u32, number: u32, key: Option<&PageKey>) -> 
 // The plain page in a page that is in clear.
 fn plain_of(alloc: Global, page: &[u8]) -> Result<PlainPage, OutOfMemory>
     requires { length page.now ≡ page_bytes }
-    ensures kind { IfOk result (λ plain. plain.kind ≡ be16_at page.now 24) }
+    ensures kind { IfOk result (λ plain. plain.kind ≡ be16_at page.now page_type_at) }
     ensures body { IfOk result (λ plain. plain.body ≡ body page.now) }
 {
     let end = page.len() - 8;
-    let body = page[38..end].to_vec(alloc)?;
+    let body = page[PAGE_BODY_AT..end].to_vec(alloc)?;
     Ok(PlainPage {
-        kind: be16_at(page, 24),
+        kind: be16_at(page, PAGE_TYPE_AT),
         body: Piece::of(body),
     })
 }
@@ -84,7 +85,7 @@ fn opened(
     key: Option<&PageKey>,
 ) -> Result<Option<PlainPage>, OutOfMemory>
     requires long { length bytes.old ≡ page_bytes }
-    requires keyed { be32_at bytes.old 0 ≢ 0 → IsSome key }
+    requires keyed { be32_at bytes.old page_version_at ≢ 0 → IsSome key }
     ensures { IfOk result (IsPlainOf space number (key_lent key.entry) bytes.old) }
 {
     if !unseals(bytes, space, number, key) {
@@ -105,7 +106,7 @@ pub(crate) fn plain_page(
     requires { length text.now ≡ page_bytes }
     ensures { IfOk result (IsPlainOf space number key text.now) }
 {
-    if be32_at(text, 0) != 0 && key.is_none() {
+    if be32_at(text, PAGE_VERSION_AT) != 0 && key.is_none() {
         return Ok(None);
     }
     let mut page = text.to_vec(alloc)?;
@@ -125,6 +126,6 @@ pub(crate) fn used_page(
     requires key_id { keys.now.key_id ≡ key_id_of keys.now.header.now.spaces space }
     ensures { IfOk result (IsUsedPage keys.now.header.now keys.now.ring.now space number keys.now.salt.now text.now) }
 {
-    let key = page_key(keys, be32_at(text, 0));
+    let key = page_key(keys, be32_at(text, PAGE_VERSION_AT));
     plain_page(alloc, space, number, key, text)
 }

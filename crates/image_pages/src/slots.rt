@@ -16,7 +16,7 @@ use crate::texts::is_page_text;
 use byte_list::fields::be64_at;
 use cause_core::OutOfMemory;
 use image_log::{LogText, place};
-use page_places::{SLOT_BYTES, SLOTS};
+use page_places::{PAGE_LSN_AT, SLOT_BYTES, SLOTS};
 use space_head::SpaceInfo;
 use std::alloc::Global;
 use store_model::PlainPage;
@@ -29,7 +29,7 @@ fn is_newest(home: &[u8], double: &[u8], space: u32, number: u32, lsn: u64) -> b
     ensures no { result ≡ false → IsNewestLsn home.now double.now space number lsn → ⊥ }
 {
     if is_page_text(home, number) {
-        return be64_at(home, 16) < lsn;
+        return be64_at(home, PAGE_LSN_AT) < lsn;
     }
     match newest_copy(double, space, number) {
         Some(newest) => newest.lsn <= lsn,
@@ -90,7 +90,7 @@ fn text_gives(
     requires key_id { keys.now.key_id ≡ key_id_of keys.now.header.now.spaces space }
     ensures { IfOk result (GivesPage keys.now.header.now keys.now.ring.now log.now space number keys.now.salt.now text.now (page_held wanted.now)) }
 {
-    let lsn = be64_at(text, 16);
+    let lsn = be64_at(text, PAGE_LSN_AT);
     if !is_named(log.run(), space, number, lsn) {
         return Ok(false);
     }
@@ -112,7 +112,7 @@ fn text_gives_head(
     requires { length text.now ≡ page_bytes }
     ensures { IfOk result (λ gives. (header : HeldHeader) (keys : List RingEntry) (salt : List ℕ) → GivesPage header keys log.now space 0 salt text.now (Head wanted.now) gives) }
 {
-    let lsn = be64_at(text, 16);
+    let lsn = be64_at(text, PAGE_LSN_AT);
     if !is_named(log.run(), space, 0, lsn) {
         return Ok(false);
     }

@@ -7,7 +7,7 @@ ghost use Rattle.page_places.specs.Texts.{has_magic, is_page_text, is_slot, slot
 
 use byte_list::fields::be32_at;
 use bytes_core::{Crc32c, ends_in_crc32c};
-use page_places::SLOT_HEAD_BYTES;
+use page_places::{PAGE_NUMBER_AT, SLOT_HEAD_BYTES, SLOT_PAGE_AT};
 
 #[tactic(auto, unfolding(page_places::specs::Texts::has_magic))]
 fn has_magic(slot: &[u8]) -> bool
@@ -35,7 +35,7 @@ pub(crate) fn is_page_text(text: &[u8], number: u32) -> bool
     requires { 8 ≤ length text.now }
     ensures { result ≡ is_page_text number text.now }
 {
-    ends_in_crc32c(text) && be32_at(text, 4) == number
+    ends_in_crc32c(text) && be32_at(text, PAGE_NUMBER_AT) == number
 }
 
 pub(crate) fn is_slot(slot: &[u8]) -> bool
@@ -50,7 +50,7 @@ pub(crate) fn is_slot(slot: &[u8]) -> bool
     if !has_sum(head, text, sum) {
         return false;
     }
-    is_page_text(text, be32_at(slot, 12))
+    is_page_text(text, be32_at(slot, SLOT_PAGE_AT))
 }
 
 pub(crate) fn are_zero(bytes: &[u8]) -> bool

@@ -15,7 +15,7 @@ use byte_list::fields::be32_at;
 use cause_core::OutOfMemory;
 use image_log::{LogText, StoreHeader, StoreSpace, block_at, place};
 use image_pages::{chosen_bytes, live_text};
-use page_places::{PAGE_BYTES, SLOTS};
+use page_places::{PAGE_BYTES, PAGE_VERSION_AT, SLOTS};
 use std::alloc::Global;
 
 fn has_name(names: &[(u32, u32)], id: u32, version: u32) -> bool
@@ -45,7 +45,7 @@ fn add_text(names: &mut Vec<(u32, u32)>, id: u32, text: &[u8]) -> Result<(), Out
     requires { length text.now ≡ page_bytes }
     ensures { OnOk result (AddsNames (IsTextName id (be32_at text.now 0)) names.old.items names.new.items) }
 {
-    let version = be32_at(text, 0);
+    let version = be32_at(text, PAGE_VERSION_AT);
     if version == 0 {
         return Ok(());
     }

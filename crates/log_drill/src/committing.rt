@@ -7,7 +7,7 @@ ghost use Rattle.redo_text.specs.Block.{block_count};
 ghost use Rattle.redo_text.specs.Text.{text_of, AreAllowed};
 ghost use Rattle.redo_text.specs.declared.change.Change.{Change};
 ghost use Rattle.ring_log.specs.Ring.{RingState, RingReady, IsRingState, IsRingJournal};
-ghost use Rattle.store_image.specs.View.{Logged};
+ghost use Rattle.store_image.specs.View.{Logged, most_mtr_blocks};
 ghost use Rattle.redo_log.specs.Append.{logged_entry};
 ghost use Rattle.redo_log.specs.Blocks.{Keys, IsStoreKey, redo_form};
 ghost use Rattle.redo_log.specs.Log.{FitsRing};
@@ -35,7 +35,7 @@ pub fn commit<D: Disk>(
     requires some { 0 < length mtr.now }
     requires many { length mtr.now ≤ 65536 }
     requires allowed { AreAllowed mtr.now }
-    requires few { block_count (text_of mtr.now) ≤ 16 }
+    requires few { block_count (text_of mtr.now) ≤ most_mtr_blocks }
     requires version { 1 ≤ key.now.version }
     requires places { At (HasPlaces LogFile (log_places log.old.blocks)) (D.past disk.old) }
     ensures journal { OnOk result ((keys : Keys) (r : RingState) (start : ℕ) (journal : List (Logged (List Change))) → IsStoreKey keys key.now → FitsRing r log.old → IsRingState log.old.blocks (redo_form keys) r → r.written ≡ r.settled → At (RingReady log.old.blocks (redo_form keys) r) (D.past disk.old)

@@ -10,6 +10,7 @@ use crate::RING_BLOCKS;
 use disk_model::{Disk, DiskError, FileName};
 use redo_log::{BLOCK, BLOCK_BYTES, Checkpoint, Run, read_checkpoint, scan};
 use std::alloc::Global;
+use store_files::FRONT_BLOCKS;
 
 /// The newest checkpoint of a log's file, and the run from it.
 #[derive(Drop)]
@@ -90,7 +91,7 @@ pub(crate) fn has_blocks<D: Disk>(
 {
     let mut buffer = [0; BLOCK];
     for n in from..end {
-        read_place(disk, 3 + n % RING_BLOCKS, &mut buffer)?;
+        read_place(disk, FRONT_BLOCKS as u64 + n % RING_BLOCKS, &mut buffer)?;
         if !is_block_of(blocks, (n - 2) as usize, &buffer) {
             return Ok(false);
         }

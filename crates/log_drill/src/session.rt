@@ -15,20 +15,24 @@ ghost use Rattle.redo_log.specs.Log.{durable, handed_over};
 ghost use Rattle.redo_log.specs.Recorded.{KeepsItems};
 ghost use Rattle.log_drill.specs.Kept.{drill_key, KeepsJournal, MayBegin, IsBetween};
 ghost use Rattle.crash_image.specs.LogForm.{log_places};
+ghost use Rattle.store_image.specs.View.{most_mtr_blocks};
+ghost use Rattle.page_places.specs.Texts.{page_body_bytes};
 
 use aes_core::Algorithm;
 use cause_core::OutOfMemory;
 use disk_model::{Disk, DiskError, FileName, MemDisk};
+use page_places::PAGE_BODY_AT;
 use redo_log::{BLOCK_BYTES, Log, LogFault, write_first_checkpoint};
 use redo_text::{Change, Mtr, Piece, RedoKey, encode};
 use std::alloc::Global;
+use store_files::FRONT_BLOCKS;
 use thiserror::Error;
 
 /// The ring blocks of the log.
 pub const RING_BLOCKS: u64 = 32;
 
 // The log's file in bytes: a header, two checkpoints and the ring.
-const LOG_BYTES: u64 = (3 + RING_BLOCKS) * BLOCK_BYTES;
+const LOG_BYTES: u64 = (FRONT_BLOCKS as u64 + RING_BLOCKS) * BLOCK_BYTES;
 
 /// Why a session did not come to its end.
 #[derive(Clone, Copy, Debug, PartialEq, Eq, Error)]
@@ -81,17 +85,17 @@ fn bytes_of(alloc: Global, n: usize) -> Result<Vec<u8>, OutOfMemory>
 /// A mini-transaction of one put of so many bytes.
 pub(crate) fn put_of(alloc: Global, n: usize) -> Result<Mtr, OutOfMemory>
     requires some { 0 < n }
-    requires most { n ≤ 16338 }
+    requires most { n ≤ page_body_bytes }
     ensures some { IfOk result (λ m. length m ≡ 1) }
     ensures allowed { IfOk result (λ m. AreAllowed m) }
-    ensures few { IfOk result (λ m. block_count (text_of m) ≤ 16) }
+    ensures few { IfOk result (λ m. block_count (text_of m) ≤ most_mtr_blocks) }
 {
     let bytes = Piece::of(bytes_of(alloc, n)?);
     let mut changes = Vec::new(alloc);
     let Ok(()) = changes.push(Change::Put {
         space: 5,
         page: 1,
-        at: 38,
+        at: PAGE_BODY_AT as u32,
         bytes,
     }) else {
         return Err(OutOfMemory);
@@ -128,7 +132,7 @@ fn write_first<D: Disk>(disk: &mut D) -> Result<(), DrillHalt>
 fn blocks_of(alloc: Global, mtr: &Mtr, first: u64) -> Result<Vec<u8>, DrillHalt>
     requires some { 0 < length mtr.now }
     requires allowed { AreAllowed mtr.now }
-    requires few { block_count (text_of mtr.now) ≤ 16 }
+    requires few { block_count (text_of mtr.now) ≤ most_mtr_blocks }
 {
     if first < 2 || first > 1000 {
         return Err(DrillHalt::OutOfOrder);
@@ -142,7 +146,7 @@ fn blocks_of(alloc: Global, mtr: &Mtr, first: u64) -> Result<Vec<u8>, DrillHalt>
 // Appends a mini-transaction of one put of so many bytes, and its blocks to those of the session.
 fn append_put(alloc: Global, log: &mut Log, blocks: &mut Vec<u8>, n: usize) -> Result<(), DrillHalt>
     requires some { 0 < n }
-    requires most { n ≤ 16338 }
+    requires most { n ≤ page_body_bytes }
     requires ring { log.old.blocks ≡ 32 }
     ensures ring { log.new.blocks ≡ 32 }
     ensures journal { (keys : Keys) (count : ℕ) (es : List Event) → IsStoreKey keys drill_key → KeepsJournal keys count log.old es → OnOk result (KeepsJournal keys (count + 1) log.new es × (durable log.new ≡ durable log.old)) }

@@ -1,7 +1,7 @@
 -- A batch of pages of one space, and the texts of its pages.
 use Rattle.std.specs.Prelude.{◌≡◌, ◌≢◌, ◌↔◌, ◌⊎◌, ℕ, ◌<◌, ◌≤◌, nat_eq, if◌then◌else◌, List, [], ◌∷◌, length, Option, None, IsSome}
 use Rattle.byte_list.specs.Fields.{be16_at}
-use Rattle.page_places.specs.Texts.{page_bytes}
+use Rattle.page_places.specs.Texts.{page_bytes, page_type_at}
 use Rattle.page_text.specs.Text.{Plain, IsText, plain_of}
 use Rattle.page_text.specs.declared.key.PageKey.{PageKey}
 
@@ -58,7 +58,7 @@ AreTextsOfPages space version key (c ∷ cs) (t ∷ ts) = (t.copied ≡ c) × Is
 pub record IsCopiedPage (page : ℕ) (bytes copy : List ℕ) : Type 0 where
   pub long : length bytes ≡ page_bytes
   pub copied : copy ≡ bytes
-  pub typed : HasPageType page (be16_at bytes 24)
+  pub typed : HasPageType page (be16_at bytes page_type_at)
 
 -- What that of a batch keeps: a key is there exactly where the version isn't 0, and there is room.
 pub record IsPageBatch (b : BatchState) (sealed texts : ℕ) : Type 0 where

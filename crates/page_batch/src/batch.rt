@@ -2,7 +2,7 @@
 ghost use Rattle.std.specs.Prelude.{◌≡◌, ◌≢◌, ◌↔◌, ◌<◌, ◌++◌, ◌∷◌, [], length, IsSome, IfOk, OnOk, OnErr};
 ghost use Rattle.byte_list.specs.Fields.{be16_at};
 ghost use Rattle.page_batch.specs.Batch.{HasPageType};
-ghost use Rattle.page_places.specs.Texts.{page_bytes};
+ghost use Rattle.page_places.specs.Texts.{page_bytes, page_type_at};
 ghost use Rattle.page_text.specs.Text.{plain_of};
 
 use crate::SealedPage;
@@ -79,7 +79,7 @@ impl PageBatch {
     pub fn push(&mut self, page: u32, lsn: u64, bytes: &[u8]) -> Result<(), OutOfMemory>
         requires room { length self.old.pages < self.old.room }
         requires long { length bytes.now ≡ page_bytes }
-        requires typed { HasPageType page (be16_at bytes.now 24) }
+        requires typed { HasPageType page (be16_at bytes.now page_type_at) }
         ensures added { OnOk result (self.new ≡ record self.old { pages = self.old.pages ++ (record { page = page; lsn = lsn; plain = plain_of bytes.now }) ∷ [] }) }
         ensures unchanged { OnErr result (self.new ≡ self.old) }
     {

@@ -3,7 +3,7 @@ ghost use Rattle.std.specs.Prelude.{◌≡◌, ◌≢◌, ◌↔◌, ℕ, ◌<�
 ghost use Rattle.std.specs.Vec.{vec_capacity};
 ghost use Rattle.byte_list.specs.Fields.{be16_at};
 ghost use Rattle.page_batch.specs.Batch.{AreTextsOfPages, IsTextOfPage};
-ghost use Rattle.page_places.specs.Texts.{page_bytes};
+ghost use Rattle.page_places.specs.Texts.{page_bytes, page_type_at};
 ghost use Rattle.page_text.specs.Text.{FitsPage, IsText, plain_of};
 
 use crate::PageBatch;
@@ -146,7 +146,7 @@ impl SealedBatch {
 fn seal_text(bytes: &mut [u8], plan: &Seal)
     requires long { length bytes.old ≡ page_bytes }
     requires keyed { IsSome plan.now.local ↔ (plan.now.version ≢ 0) }
-    requires fits { FitsPage plan.now.page (be16_at bytes.old 24) plan.now.version }
+    requires fits { FitsPage plan.now.page (be16_at bytes.old page_type_at) plan.now.version }
     ensures text { IsText page_bytes plan.now.space plan.now.page plan.now.lsn plan.now.version plan.now.local (plain_of bytes.old) bytes.new }
     ensures long { length bytes.new ≡ page_bytes }
 {

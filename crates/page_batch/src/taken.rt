@@ -2,7 +2,7 @@
 ghost use Rattle.std.specs.Prelude.{◌≡◌, length, IfOk};
 ghost use Rattle.byte_list.specs.Fields.{be16_at};
 ghost use Rattle.page_batch.specs.Batch.{HasPageType};
-ghost use Rattle.page_places.specs.Texts.{page_bytes};
+ghost use Rattle.page_places.specs.Texts.{page_bytes, page_type_at};
 ghost use Rattle.page_text.specs.Text.{plain_of};
 
 use cause_core::OutOfMemory;
@@ -37,7 +37,7 @@ impl CopiedBytes {
         bytes: &[u8],
     ) -> Result<CopiedBytes, OutOfMemory>
         requires long { length bytes.now ≡ page_bytes }
-        requires typed { HasPageType page (be16_at bytes.now 24) }
+        requires typed { HasPageType page (be16_at bytes.now page_type_at) }
         ensures { IfOk result (λ p. p ≡ record { page = page; lsn = lsn; plain = plain_of bytes.now }) }
     {
         let own = bytes.to_vec(alloc)?;

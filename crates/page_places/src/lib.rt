@@ -21,3 +21,30 @@ pub const SLOT_HEAD_BYTES: usize = 508;
 
 /// The slots of the doublewrite file.
 pub const SLOTS: usize = 64;
+
+/// Where the key version stands in the text of a page, in bytes.
+pub const PAGE_VERSION_AT: usize = 0;
+
+/// Where the number of the page stands there.
+pub const PAGE_NUMBER_AT: usize = 4;
+
+/// Where the LSN of its last change stands.
+pub const PAGE_LSN_AT: usize = 16;
+
+/// Where its type stands.
+pub const PAGE_TYPE_AT: usize = 24;
+
+/// Where its body begins.
+pub const PAGE_BODY_AT: usize = 38;
+
+/// Where its checksum stands, in the last bytes.
+pub const PAGE_SUM_AT: usize = 16380;
+
+/// Where the id of the space stands in the head of a slot, in bytes.
+pub const SLOT_SPACE_AT: usize = 8;
+
+/// Where the number of the page stands there.
+pub const SLOT_PAGE_AT: usize = 12;
+
+/// Where the zero bytes of the head begin.
+pub const SLOT_ZEROS_AT: usize = 24;

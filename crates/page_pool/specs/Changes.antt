@@ -7,6 +7,7 @@ use Rattle.redo_text.specs.declared.change.Change.{Change}
 use Rattle.redo_text.specs.declared.change.Change.TheVariants.{Put, Kind, Touch, Floor, Encrypt}
 use Rattle.page_places.specs.Texts.{page_bytes}
 use Rattle.space_head.specs.Sizes.{record_place}
+use Rattle.space_head.specs.declared.record.TheConstants.{RECORD_MINIMUM, RECORD_MODE, RECORD_TYPE}
 pub use Rattle.store_model.specs.Fold.{body_written, kind_set}
 use Rattle.store_model.specs.Fold.{used, plain_changed}
 use Rattle.store_model.specs.declared.contents.PlainPage.{PlainPage}
@@ -21,8 +22,8 @@ abbrev pub page_changed_by : Change → PlainPage → PlainPage
 page_changed_by (Put s page at bytes) p = plain_changed (Put s page at bytes) p
 page_changed_by (Kind s page kind) p = plain_changed (Kind s page kind) p
 page_changed_by (Touch s page) p = plain_changed (Touch s page) p
-page_changed_by (Floor s version) p = body_written (record_place page_bytes + 24) (to_be_bytes w32 version) p
-page_changed_by (Encrypt s) p = body_written (record_place page_bytes + 32) (1 ∷ []) (body_written (record_place page_bytes + 6) (1 ∷ []) p)
+page_changed_by (Floor s version) p = body_written (record_place page_bytes + RECORD_MINIMUM) (to_be_bytes w32 version) p
+page_changed_by (Encrypt s) p = body_written (record_place page_bytes + RECORD_MODE) (1 ∷ []) (body_written (record_place page_bytes + RECORD_TYPE) (1 ∷ []) p)
 
 -- the page that a change names, page 0 for a change of the space itself
 abbrev pub page_of_change : Change → PageName

@@ -7,10 +7,11 @@ use Rattle.byte_list.specs.Fields.{be16_at}
 use Rattle.store_model.specs.declared.contents.PlainPage.{PlainPage}
 use Rattle.page_pool.specs.declared.names.DirtyPage.{DirtyPage}
 use Rattle.page_pool.specs.declared.names.PageName.{PageName}
+use Rattle.page_places.specs.Texts.{page_type_at, page_body_at, page_body_bytes}
 
 -- the plain page in a page's bytes: its type and its body
 unfoldable pub plain_page : List ℕ → PlainPage
-plain_page bytes = record { kind = be16_at bytes 24; body = range 38 16338 bytes }
+plain_page bytes = record { kind = be16_at bytes page_type_at; body = range page_body_at page_body_bytes bytes }
 
 -- two names of one page
 abbrev pub is_name : PageName → PageName → Bool

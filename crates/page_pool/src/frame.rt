@@ -19,7 +19,7 @@ use std::alloc::Global;
 use std::marker::Model;
 
 // Where the type of a page stands in it.
-const KIND_PLACE: usize = 24;
+const KIND_PLACE: usize = page_places::PAGE_TYPE_AT;
 
 // The bytes of a held page. Contracts see its type and its body.
 #[derive(Drop)]

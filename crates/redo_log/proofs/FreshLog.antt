@@ -10,7 +10,8 @@ use Rattle.byte_list.specs.Fields.{be64_at}
 use Rattle.places.specs.Places.{place, May}
 use Rattle.places.proofs.Apart.{before}
 use Rattle.places.proofs.Steps.{places_make}
-use Rattle.ring_log.specs.Ring.{place_in_ring, HasNoBlockFrom, IsBehind, IsSynced, IsOther, RingReady}
+use Rattle.ring_log.specs.Blocks.{place_in_ring}
+use Rattle.ring_log.specs.Ring.{HasNoBlockFrom, IsBehind, IsSynced, IsOther, RingReady}
 use Rattle.store_files.proofs.RingBlocks.{block_number}
 use Rattle.redo_log.specs.Blocks.{Keys, redo_form}
 use Rattle.redo_log.specs.Events.{CheckSettled}
@@ -75,7 +76,7 @@ module _ (keys : Keys) (blocks : ℕ) (least : 32 ≤ blocks) (s m : List Event)
             let q = (check_is 1 (zero_place 1) p.0).some in
             omega (arith, q, second_zero 1 (omega arith))));
         front = λ n x low high may. absurd (omega (arith, low, high));
-        rest = λ n x low high may. subst (IsBehind blocks (redo_form keys) (fresh_ring blocks) n) (sym (others (place_in_ring blocks (redo_form keys) n) (λ e. omega (arith, e)) x may)) (inr (none_there n (place_in_ring blocks (redo_form keys) n) low (omega (arith, least))));
+        rest = λ n x low high may. subst (IsBehind blocks (redo_form keys) (fresh_ring blocks) n) (sym (others (place_in_ring blocks n) (λ e. omega (arith, e)) x may)) (inr (none_there n (place_in_ring blocks n) low (omega (arith, least))));
       };
     };
     settled = t.settled;

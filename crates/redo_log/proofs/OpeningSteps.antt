@@ -2,7 +2,7 @@
 use Rattle.std.proofs.Common.{◌≡◌, ℕ, ◌+◌, ◌^◌, ◌<◌, ◌≤◌, List, Some, sym, subst, ◌∙◌, arith}
 use Rattle.disk_model.specs.Event.{Event}
 use Rattle.ring_log.specs.Opening.{IsFound}
-use Rattle.ring_log.specs.Ring.{Form, RingReady}
+use Rattle.ring_log.specs.Ring.{Form, RingReady, ring_at_start}
 use Rattle.disk_model.specs.declared.names.FileName.TheVariants.{Log as LogFile}
 use Rattle.places.specs.Places.{shown}
 use Rattle.places.proofs.Left.{image_size}
@@ -15,7 +15,7 @@ use Rattle.redo_text.specs.declared.change.Change.{Change}
 use Rattle.redo_log.specs.Blocks.{Keys, redo_form}
 use Rattle.redo_log.specs.Check.{check_bytes}
 use Rattle.redo_log.specs.Events.{CheckWriting, CheckSettled}
-use Rattle.redo_log.specs.Opening.{HasHeaderBlock, IsOpening, IsOpenedLog, opened_ring}
+use Rattle.redo_log.specs.Opening.{HasHeaderBlock, IsOpening, IsOpenedLog}
 use Rattle.redo_log.proofs.CheckLaws.{made_check}
 use Rattle.redo_log.proofs.FormLaws.{form_laws}
 use Rattle.crash_image.specs.LogForm.{log_places}
@@ -52,5 +52,5 @@ module _ (keys : Keys) (N sequence end : ℕ) (found : LogView (List Change)) (i
           size = t.wrote.writing.places.size;
           header_is = block0;
           log = opening_moved N F (form_laws keys) some sequence found (bytes found.end) check_is s m at here;
-          ready = λ block. subst (λ (b : List ℕ). RingReady N F (opened_ring N sequence found.end b block) m) block0 (opening_ready N F (form_laws keys) some sequence found (bytes found.end) check_is s m at here block);
+          ready = λ block. subst (λ (b : List ℕ). RingReady N F (ring_at_start b (sequence + 1) (found.end + N) block) m) block0 (opening_ready N F (form_laws keys) some sequence found (bytes found.end) check_is s m at here block);
         }

@@ -1,13 +1,11 @@
 -- The store's ring blocks and checkpoints as the form of a ring, its file, and the keys.
-use Rattle.std.specs.Prelude.{◌≡◌, ℕ, ◌+◌, ◌%◌, List, Some}
+use Rattle.std.specs.Prelude.{◌≡◌, List, Some}
 use Rattle.crash_image.specs.LogForm.{log_form}
 use Rattle.key_ring.specs.Local.{local_key}
 use Rattle.key_ring.specs.Ring.{RingEntry}
-use Rattle.places.specs.Places.{place}
 use Rattle.ring_log.specs.Ring.{Form}
 use Rattle.redo_text.specs.declared.change.Change.{Change}
 use Rattle.redo_text.specs.declared.key.RedoKey.{RedoKey}
-use Rattle.store_image.specs.View.{block_bytes}
 use Rattle.store_files.specs.Header.{HeldHeader}
 
 -- what tells the log's key of each version: the store's header, which has the salt and the algorithm, and the keys of its ring
@@ -23,7 +21,3 @@ redo_form keys = log_form keys.header keys.ring
 pub record IsStoreKey (keys : Keys) (key : RedoKey) : Type 0 where
   pub algorithm : key.algorithm ≡ keys.header.algorithm
   pub local : local_key keys.ring 1 key.version keys.header.salt ≡ Some key.local
-
--- the bytes at the place of a ring block
-abbrev pub read_at : ℕ → List ℕ → ℕ → List ℕ
-read_at N file n = place block_bytes (3 + n % N) file

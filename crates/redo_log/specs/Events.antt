@@ -1,22 +1,24 @@
 -- The events of a write out and of a checkpoint, and what is known of the disk while they come.
-use Rattle.std.specs.Prelude.{ℕ, zero, suc, ◌+◌, ◌*◌, ◌%◌, List, [], ◌∷◌}
+use Rattle.std.specs.Prelude.{ℕ, zero, suc, ◌+◌, ◌*◌, List, [], ◌∷◌}
 use Rattle.disk_model.specs.Event.{Event, Write, Sync}
 use Rattle.disk_model.specs.declared.names.FileName.TheVariants.{Log as LogFile}
 use Rattle.places.specs.Batches.{Batch, Writing, Wrote, BatchSettled, IsOf}
 use Rattle.places.specs.Writes.{writes_of}
+use Rattle.ring_log.specs.Blocks.{place_in_ring}
 use Rattle.redo_log.specs.State.{LogState}
 use Rattle.redo_log.specs.Check.{check_bytes}
+use Rattle.store_image.specs.Checkpoint.{side_of}
 use Rattle.store_image.specs.View.{block_bytes}
 use Rattle.redo_log.specs.Log.{durable, pending_at, pending_count}
 use Rattle.crash_image.specs.LogForm.{log_places}
 
 -- the writes of the pending blocks
 abbrev pub block_batch : LogState → Batch
-block_batch log = record { place = λ j. 3 + (durable log + j) % log.blocks; bytes = λ j. pending_at log j }
+block_batch log = record { place = λ j. place_in_ring log.blocks (durable log + j); bytes = λ j. pending_at log j }
 
 -- the write of a checkpoint
 abbrev pub side_batch : ℕ → ℕ → Batch
-side_batch sequence from = record { place = λ j. 1 + sequence % 2; bytes = λ j. check_bytes sequence from }
+side_batch sequence from = record { place = λ j. side_of sequence; bytes = λ j. check_bytes sequence from }
 
 -- pending blocks are being written, so many of them were, and all are durable
 abbrev pub BlocksWriting : LogState → List Event → List Event → Type 0
@@ -57,4 +59,4 @@ IsAny m = Unit {0}
 
 -- the write itself
 abbrev pub check_event : ℕ → ℕ → Event
-check_event sequence from = Write LogFile ((1 + sequence % 2) * block_bytes) (check_bytes sequence from) (check_bytes sequence from)
+check_event sequence from = Write LogFile (side_of sequence * block_bytes) (check_bytes sequence from) (check_bytes sequence from)

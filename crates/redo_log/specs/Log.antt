@@ -6,6 +6,7 @@ use Rattle.ring_log.specs.Batches.{checkpointed}
 use Rattle.redo_log.specs.State.{LogState}
 use Rattle.store_image.specs.View.{block_bytes}
 use Rattle.store_files.specs.RingBlock.{is_ring_block}
+use Rattle.store_files.specs.Header.{least_ring_blocks, most_ring_blocks}
 
 -- how many blocks are pending
 abbrev pub pending_count : LogState → ℕ
@@ -21,8 +22,8 @@ pending_at log j = place block_bytes j log.pending
 
 -- the numbers are those of a ring, each durable block was handed to the disk, and each pending block is valid under its number
 pub record IsOpen (log : LogState) : Type 0 where
-  pub least : 32 ≤ log.blocks
-  pub most : log.blocks ≤ 4096
+  pub least : least_ring_blocks ≤ log.blocks
+  pub most : log.blocks ≤ most_ring_blocks
   pub low : 2 ≤ log.from
   pub high : log.next ≤ 2 ^ 50
   pub some : 1 ≤ log.sequence

@@ -4,6 +4,7 @@ use Rattle.std.specs.List.{Contains}
 use Rattle.ring_log.specs.Scans.{IsScanned}
 use Rattle.redo_text.specs.Reading.{block_version}
 use Rattle.redo_log.specs.Blocks.{Keys, redo_form}
+use Rattle.store_image.specs.View.{most_mtr_blocks}
 
 -- the versions of k blocks from a number on, in order
 abbrev pub versions_up : (ℕ → List ℕ) → ℕ → ℕ → List ℕ
@@ -20,4 +21,4 @@ pub record IsReadOnce (N : ℕ) (read : ℕ → List ℕ) (from end before now :
   pub stop : ℕ
   pub scanned : (keys : Keys) → IsScanned N (redo_form keys) read from end stop
   pub calls : now + from ≤ before + (stop + 1)
-  pub few : now + from ≤ before + (end + 16)
+  pub few : now + from ≤ before + (end + most_mtr_blocks)

@@ -11,7 +11,7 @@ ghost use Rattle.redo_log.specs.Blocks.{Keys, redo_form};
 ghost use Rattle.redo_log.specs.Log.{IsOpen, pending_at, pending_count, FitsRing};
 ghost use Rattle.redo_log.specs.Append.{appended, taken_back, with_pending, IsRedoKey, IsLogRefusal, IsEntry, HasLast, HasRoomFor, JournalGrows, JournalShrinks};
 ghost use Rattle.redo_log.specs.Recorded.{BlocksOnce};
-ghost use Rattle.store_image.specs.View.{block_bytes};
+ghost use Rattle.store_image.specs.View.{block_bytes, most_mtr_blocks};
 
 use crate::layout::{BLOCK, BLOCK_BYTES};
 use crate::{Log, LogFault};
@@ -32,7 +32,7 @@ impl Log {
         requires some { 0 < length mtr.now }
         requires many { length mtr.now ≤ 65536 }
         requires allowed { AreAllowed mtr.now }
-        requires most { block_count (text_of mtr.now) ≤ 16 }
+        requires most { block_count (text_of mtr.now) ≤ most_mtr_blocks }
         requires version { 1 ≤ key.now.version }
         ensures lsn { IfOk result (λ lsn. lsn ≡ (self.old.next + block_count (text_of mtr.now)) * block_bytes) }
         ensures room { OnOk result (HasRoomFor self.old (block_count (text_of mtr.now))) }

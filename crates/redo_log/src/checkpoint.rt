@@ -10,7 +10,7 @@ ghost use Rattle.places.specs.Places.{HasFile, HasPlaces};
 ghost use Rattle.ring_log.specs.Batches.{checking};
 ghost use Rattle.ring_log.specs.Ring.{RingState, Ringed, RingReady, IsBound, IsRingJournal, AllRingStand};
 ghost use Rattle.ring_log.specs.Opening.{IsFound};
-ghost use Rattle.store_files.specs.Header.{HeldHeader};
+ghost use Rattle.store_files.specs.Header.{HeldHeader, least_ring_blocks, most_ring_blocks};
 ghost use Rattle.store_image.specs.Places.{LogView};
 ghost use Rattle.store_image.specs.View.{block_bytes, Logged};
 ghost use Rattle.redo_text.specs.declared.change.Change.{Change};
@@ -91,8 +91,8 @@ fn settle_check<D: Disk>(
 /// # Errors
 /// As the disk gives them.
 pub fn write_first_checkpoint<D: Disk>(disk: &mut D, blocks: u64) -> Result<(), DiskError>
-    requires least { 32 ≤ blocks }
-    requires most { blocks ≤ 4096 }
+    requires least { least_ring_blocks ≤ blocks }
+    requires most { blocks ≤ most_ring_blocks }
     requires made { At (IsFresh blocks) (D.past disk.old) }
     ensures ready { (keys : Keys) → OnOk result (At (RingReady blocks (redo_form keys) (fresh_ring blocks)) (D.past disk.new)) }
     ensures exact { OnOk result (D.past disk.new ≡ grow (Sync LogFile) (grow (check_event 1 2) (D.past disk.old))) }
@@ -123,8 +123,8 @@ pub fn write_opening_checkpoint<D: Disk>(
     sequence: u64,
     end: u64,
 ) -> Result<(), DiskError>
-    requires least { 32 ≤ blocks }
-    requires most { blocks ≤ 4096 }
+    requires least { least_ring_blocks ≤ blocks }
+    requires most { blocks ≤ most_ring_blocks }
     requires order { sequence < end }
     requires high { end + blocks ≤ 2 ^ 50 }
     requires places { At (HasFile LogFile (log_places blocks)) (D.past disk.old) }

@@ -6,6 +6,7 @@ ghost use Rattle.ring_log.specs.Ring.{RingState, IsRingJournal};
 ghost use Rattle.redo_log.specs.Blocks.{Keys, redo_form};
 ghost use Rattle.redo_log.specs.Log.{IsOpen, durable, empty_log, free_of, pending_at, pending_count, FitsRing};
 ghost use Rattle.redo_log.specs.Recorded.{AreBlocksOnce, AreBlocksBelow, BlocksOnce};
+ghost use Rattle.store_files.specs.Header.{least_ring_blocks, most_ring_blocks};
 
 use crate::layout::BLOCK;
 use cause_core::OutOfMemory;
@@ -63,8 +64,8 @@ impl Log {
     /// # Errors
     /// None: it takes no memory before the first append.
     pub fn new(alloc: Global, blocks: u64, from: u64, sequence: u64) -> Result<Log, OutOfMemory>
-        requires least { 32 ≤ blocks }
-        requires most { blocks ≤ 4096 }
+        requires least { least_ring_blocks ≤ blocks }
+        requires most { blocks ≤ most_ring_blocks }
         requires low { 2 ≤ from }
         requires high { from ≤ 2 ^ 50 }
         requires some { 1 ≤ sequence }

@@ -7,6 +7,7 @@ ghost use Rattle.store_image.specs.View.{block_bytes};
 use crate::layout::SUM_AT;
 use byte_list::fields::{be32_at, be64_at};
 use bytes_core::crc32c;
+use store_files::{CHECKPOINT_FROM_AT, CHECKPOINT_SEQUENCE_AT};
 
 /// What a checkpoint says: how many were written up to it, and the block from which the run begins.
 #[derive(Clone, Copy, Debug, PartialEq, Eq)]
@@ -53,8 +54,8 @@ pub fn read_checkpoint(block: &[u8], place: u64) -> Option<Checkpoint>
     if !has_magic(block) {
         return None;
     }
-    let sequence = be64_at(block, 8);
-    let from = be64_at(block, 16);
+    let sequence = be64_at(block, CHECKPOINT_SEQUENCE_AT);
+    let from = be64_at(block, CHECKPOINT_FROM_AT);
     if place != 1 + sequence % 2 {
         return None;
     }

@@ -6,12 +6,14 @@ ghost use Rattle.disk_model.specs.Event.{reads};
 ghost use Rattle.disk_model.specs.Image.{InFile};
 ghost use Rattle.disk_model.specs.Past.{At, HasDiskCause};
 ghost use Rattle.disk_model.specs.declared.names.FileName.TheVariants.{Log as LogFile};
-ghost use Rattle.ring_log.specs.Ring.{read_in};
+ghost use Rattle.ring_log.specs.Blocks.{block_at};
 ghost use Rattle.ring_log.specs.Scans.{IsRingRun, Goes, Stops};
 ghost use Rattle.redo_text.specs.Reading.{block_version};
-ghost use Rattle.redo_log.specs.Blocks.{Keys, redo_form, read_at};
+ghost use Rattle.redo_log.specs.Blocks.{Keys, redo_form};
 ghost use Rattle.redo_log.specs.Runs.{versions_up, AreVersions, IsReadOnce};
-ghost use Rattle.store_image.specs.View.{block_bytes};
+ghost use Rattle.store_image.specs.View.{block_bytes, most_mtr_blocks};
+ghost use Rattle.store_files.specs.Header.{least_ring_blocks, most_ring_blocks};
+ghost use Rattle.store_image.specs.Checkpoint.{front_blocks};
 
 use crate::layout::{BLOCK, BLOCK_BYTES, MOST_BLOCKS, RING_BEGINS};
 use disk_model::{Disk, DiskError, FileName};
@@ -93,7 +95,7 @@ fn next_of(block: &[u8], number: u64, end: u64) -> Option<Next>
     requires size { length block.now ≡ block_bytes }
     requires small { number + 1 ≤ 2 ^ 63 }
     requires order { end ≤ number }
-    requires few { number < end + 16 }
+    requires few { number < end + most_mtr_blocks }
     ensures some { IfSome result (λ next. (keys : Keys) → (N : ℕ) → Goes N (redo_form keys) number end block.now next.end) }
     ensures bounds { IfSome result (λ next. (end ≤ next.end) × (next.end ≤ number + 1)) }
     ensures version { IfSome result (λ next. next.version ≡ block_version block.now) }
@@ -120,11 +122,11 @@ fn read_number<D: Disk>(
     number: u64,
     buffer: &mut [u8],
 ) -> Result<(), DiskError>
-    requires least { 32 ≤ blocks }
-    requires most { blocks ≤ 4096 }
-    requires inside { At (InFile LogFile 0 ((3 + blocks) * block_bytes)) (D.past disk.old) }
+    requires least { least_ring_blocks ≤ blocks }
+    requires most { blocks ≤ most_ring_blocks }
+    requires inside { At (InFile LogFile 0 ((front_blocks + blocks) * block_bytes)) (D.past disk.old) }
     requires size { length buffer.old ≡ block_bytes }
-    ensures block { OnOk result (At (λ es. buffer.new ≡ read_at blocks (reads LogFile es) number) (D.past disk.old)) }
+    ensures block { OnOk result (At (λ es. buffer.new ≡ block_at blocks (reads LogFile es) number) (D.past disk.old)) }
     ensures same { D.past disk.new ≡ D.past disk.old }
     ensures later { D.is_later disk.old disk.new }
     ensures once { D.clock disk.new ≤ D.clock disk.old + 1 }
@@ -147,19 +149,19 @@ fn scan_into<D: Disk>(
     buffer: &mut [u8],
     versions: &mut Vec<u32>,
 ) -> Result<u64, DiskError>
-    requires least { 32 ≤ blocks }
-    requires most { blocks ≤ 4096 }
+    requires least { least_ring_blocks ≤ blocks }
+    requires most { blocks ≤ most_ring_blocks }
     requires high { from ≤ 2 ^ 50 }
-    requires inside { At (InFile LogFile 0 ((3 + blocks) * block_bytes)) (D.past disk.old) }
+    requires inside { At (InFile LogFile 0 ((front_blocks + blocks) * block_bytes)) (D.past disk.old) }
     requires size { length buffer.old ≡ block_bytes }
     requires none { versions.old.items ≡ [] }
     ensures low { IfOk result (λ end. (from ≤ end) × (end ≤ from + length versions.new.items)) }
-    ensures run { IfOk result (λ end. At (λ es. (keys : Keys) → IsRingRun blocks (redo_form keys) (read_at blocks (reads LogFile es)) from end) (D.past disk.old)) }
-    ensures versions { OnOk result (At (λ es. versions.new.items ≡ versions_up (read_at blocks (reads LogFile es)) from (length versions.new.items)) (D.past disk.old)) }
+    ensures run { IfOk result (λ end. At (λ es. (keys : Keys) → IsRingRun blocks (redo_form keys) (block_at blocks (reads LogFile es)) from end) (D.past disk.old)) }
+    ensures versions { OnOk result (At (λ es. versions.new.items ≡ versions_up (block_at blocks (reads LogFile es)) from (length versions.new.items)) (D.past disk.old)) }
     ensures same { D.past disk.new ≡ D.past disk.old }
     ensures later { D.is_later disk.old disk.new }
     ensures calls { D.clock disk.new ≤ D.clock disk.old + blocks }
-    ensures once { IfOk result (λ end. At (λ es. IsReadOnce blocks (read_at blocks (reads LogFile es)) from end (D.clock disk.old) (D.clock disk.new)) (D.past disk.old)) }
+    ensures once { IfOk result (λ end. At (λ es. IsReadOnce blocks (block_at blocks (reads LogFile es)) from end (D.clock disk.old) (D.clock disk.new)) (D.past disk.old)) }
     ensures cause { HasDiskCause (D.faults disk.old) (D.faults disk.new) result }
     ensures memory_refusals { D.memory_refusals disk.old ≤ D.memory_refusals disk.new }
     ensures no_fault { OnOk result (D.faults disk.new ≡ D.faults disk.old) }
@@ -191,20 +193,20 @@ fn scan_into<D: Disk>(
 /// # Errors
 /// As the disk gives them, and `NoMemory` also where the versions find no room.
 pub fn scan<D: Disk>(alloc: Global, disk: &mut D, blocks: u64, from: u64) -> Result<Run, DiskError>
-    requires least { 32 ≤ blocks }
-    requires most { blocks ≤ 4096 }
+    requires least { least_ring_blocks ≤ blocks }
+    requires most { blocks ≤ most_ring_blocks }
     requires low { 2 ≤ from }
     requires high { from ≤ 2 ^ 50 }
-    requires inside { At (InFile LogFile 0 ((3 + blocks) * block_bytes)) (D.past disk.old) }
+    requires inside { At (InFile LogFile 0 ((front_blocks + blocks) * block_bytes)) (D.past disk.old) }
     ensures low { IfOk result (λ run. from ≤ run.last + 1) }
-    ensures run { IfOk result (λ run. At (λ es. (keys : Keys) → IsRingRun blocks (redo_form keys) (read_at blocks (reads LogFile es)) from (run.last + 1)) (D.past disk.old)) }
-    ensures versions { IfOk result (λ run. At (λ es. AreVersions (read_at blocks (reads LogFile es)) from (run.last + 1) run.versions) (D.past disk.old)) }
+    ensures run { IfOk result (λ run. At (λ es. (keys : Keys) → IsRingRun blocks (redo_form keys) (block_at blocks (reads LogFile es)) from (run.last + 1)) (D.past disk.old)) }
+    ensures versions { IfOk result (λ run. At (λ es. AreVersions (block_at blocks (reads LogFile es)) from (run.last + 1) run.versions) (D.past disk.old)) }
     ensures ascending { IfOk result (λ run. IsStrictlyIncreasing run.versions) }
     ensures same { D.past disk.new ≡ D.past disk.old }
     ensures later { D.is_later disk.old disk.new }
     // Each block of the ring is read once at most; at Ok those of the run are, and those behind it up to the first that doesn't go on with it.
     ensures calls { D.clock disk.new ≤ D.clock disk.old + blocks }
-    ensures once { IfOk result (λ run. At (λ es. IsReadOnce blocks (read_at blocks (reads LogFile es)) from (run.last + 1) (D.clock disk.old) (D.clock disk.new)) (D.past disk.old)) }
+    ensures once { IfOk result (λ run. At (λ es. IsReadOnce blocks (block_at blocks (reads LogFile es)) from (run.last + 1) (D.clock disk.old) (D.clock disk.new)) (D.past disk.old)) }
     ensures cause { HasDiskCause (D.faults disk.old) (D.faults disk.new) result }
     ensures memory_refusals { D.memory_refusals disk.old ≤ D.memory_refusals disk.new }
     ensures no_fault { OnOk result (D.faults disk.new ≡ D.faults disk.old) }

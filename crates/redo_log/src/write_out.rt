@@ -1,5 +1,5 @@
 // The pending blocks are written out: device calls, one to a function.
-ghost use Rattle.std.specs.Prelude.{◌≡◌, ℕ, ◌+◌, ◌*◌, ◌%◌, ◌<◌, ◌≤◌, List, length, OnOk, OnErr, Ok, IsErrOf};
+ghost use Rattle.std.specs.Prelude.{◌≡◌, ℕ, ◌+◌, ◌*◌, ◌<◌, ◌≤◌, List, length, OnOk, OnErr, Ok, IsErrOf};
 ghost use Rattle.disk_model.specs.Does.{Does};
 ghost use Rattle.disk_model.specs.Event.{Write};
 ghost use Rattle.disk_model.specs.Past.{Past, At, Throughout, MayGrow, IsWrite, grow, HasDiskCause, HasDiskMemoryCause};
@@ -18,6 +18,7 @@ ghost use Rattle.redo_log.specs.Events.{block_batch, BlocksWriting, BlocksWrote,
 ghost use Rattle.redo_log.specs.Log.{IsOpen, durable, pending_at, pending_count, handed_over, written_out, FitsRing};
 ghost use Rattle.redo_log.specs.Recorded.{BlocksOnce, IsRecordOnce, AreBlocksSettled};
 ghost use Rattle.crash_image.specs.LogForm.{log_places};
+ghost use Rattle.ring_log.specs.Blocks.{place_in_ring};
 
 use crate::Log;
 use crate::layout::{BLOCK_BYTES, RING_BEGINS};
@@ -29,8 +30,8 @@ impl Log {
         requires more { i < pending_count self.now }
         requires places { At (HasPlaces LogFile (log_places self.now.blocks)) (D.past disk.old) }
         ensures does { (first : Past) → At (From (BlocksWrote self.now i) first) (D.past disk.old) → Does (From (BlocksWriting self.now) first) (IsBlockEvent self.now) (From (BlocksWrote self.now (i + 1)) first) (D.past disk.old) (D.past disk.new) result }
-        ensures ok { OnOk result (D.past disk.new ≡ grow (Write LogFile ((3 + (durable self.now + i) % self.now.blocks) * block_bytes) (pending_at self.now i) (pending_at self.now i)) (D.past disk.old)) }
-        ensures err { OnErr result (MayGrow (IsWrite LogFile ((3 + (durable self.now + i) % self.now.blocks) * block_bytes) (pending_at self.now i)) (D.past disk.old) (D.past disk.new)) }
+        ensures ok { OnOk result (D.past disk.new ≡ grow (Write LogFile (place_in_ring self.now.blocks (durable self.now + i) * block_bytes) (pending_at self.now i) (pending_at self.now i)) (D.past disk.old)) }
+        ensures err { OnErr result (MayGrow (IsWrite LogFile (place_in_ring self.now.blocks (durable self.now + i) * block_bytes) (pending_at self.now i)) (D.past disk.old) (D.past disk.new)) }
         ensures later { D.is_later disk.old disk.new }
         ensures calls { D.clock disk.new ≤ D.clock disk.old + 1 }
         ensures cause { HasDiskCause (D.faults disk.old) (D.faults disk.new) result }

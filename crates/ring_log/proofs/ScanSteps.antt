@@ -3,7 +3,8 @@ use Rattle.std.proofs.Common.{◌≡◌, ◌≢◌, ℕ, zero, suc, ◌+◌, ◌
 use Rattle.std.proofs.lemmas.Bool.{cases_lt, cases_eq, eq-eqb, ne_eqb}
 use Rattle.store_image.specs.View.{Logged}
 use Rattle.store_image.specs.Places.{LogView}
-use Rattle.ring_log.specs.Ring.{Form, IsWholeMtr, AreWholeEntries, read_in, IsRingLog}
+use Rattle.ring_log.specs.Blocks.{block_at}
+use Rattle.ring_log.specs.Ring.{Form, IsWholeMtr, AreWholeEntries, IsRingLog}
 use Rattle.ring_log.specs.Scans.{AreWholeMtrs, IsRingRun, IsScanned, Goes, Stops}
 use Rattle.ring_log.proofs.Entries.{same_end, number_up}
 
@@ -112,5 +113,5 @@ module _ {M : Type 0} (N : ℕ) (F : Form M) (read : ℕ → List ℕ) (from : �
       one_end_of z x y parts es more (subst (λ (i : ℕ). AreWholeEntries N F read i es y) same rest) lx ly nx ny
 
 -- The run that is read from the newest checkpoint on ends where what the file says ends.
-pub run_of_log : {M : Type 0} (N : ℕ) (F : Form M) (file : List ℕ) (l : LogView M) (end : ℕ) → IsRingLog N F file l → IsRingRun N F (read_in N F file) l.from end → end ≡ l.end
-run_of_log N F file l end is run = one_end_of N F (read_in N F file) l.from l.from end l.end run.parts l.run run.whole is.run run.few is.few run.longest is.longest
+pub run_of_log : {M : Type 0} (N : ℕ) (F : Form M) (file : List ℕ) (l : LogView M) (end : ℕ) → IsRingLog N F file l → IsRingRun N F (block_at N file) l.from end → end ≡ l.end
+run_of_log N F file l end is run = one_end_of N F (block_at N file) l.from l.from end l.end run.parts l.run run.whole is.run run.few is.few run.longest is.longest

@@ -7,12 +7,13 @@ use Rattle.places.specs.Batches.{Batch, IsFileSettled}
 use Rattle.store_image.specs.Checkpoint.{side_of}
 use Rattle.store_image.specs.Places.{LogView}
 use Rattle.store_image.specs.View.{block_bytes}
-use Rattle.ring_log.specs.Ring.{Form, layout, IsRingLog, IsRingClear}
+use Rattle.ring_log.specs.Blocks.{ring_layout}
+use Rattle.ring_log.specs.Ring.{Form, IsRingLog, IsRingClear}
 
 module _ {M : Type 0} (N : ℕ) (F : Form M) where
   -- An opening finds this log: nothing of it is pending, its newest checkpoint has this sequence, and no ring block has a number that the blocks behind its run could meet.
   pub record IsFound (sequence : ℕ) (l : LogView M) (es : List Event) : Type 0 where
-    pub places : HasPlaces Log (layout N F) es
+    pub places : HasPlaces Log (ring_layout N F.passes) es
     pub settled : IsFileSettled Log block_bytes es
     pub log : IsRingLog N F (reads Log es) l
     pub is_newest : log.sequence ≡ sequence

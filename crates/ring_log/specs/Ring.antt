@@ -1,14 +1,15 @@
 -- The log's file as a ring of numbered blocks behind a header and two checkpoints, over any form of block.
-use Rattle.std.specs.Prelude.{◌≡◌, ◌⊎◌, ℕ, zero, suc, ◌+◌, ◌*◌, ◌%◌, ◌<◌, ◌≤◌, Bool, true, false, List, [], ◌∷◌, ◌++◌, length, Option, Some, None}
+use Rattle.std.specs.Prelude.{◌≡◌, ◌⊎◌, ℕ, zero, suc, ◌+◌, ◌*◌, ◌<◌, ◌≤◌, Bool, true, false, List, [], ◌∷◌, ◌++◌, length, Option, Some, None}
 use Rattle.disk_model.specs.Event.{Event}
 use Rattle.disk_model.specs.Image.{Image, IsImage, IsLucky}
 use Rattle.disk_model.specs.declared.names.FileName.{FileName}
 use Rattle.disk_model.specs.declared.names.FileName.TheVariants.{Log}
-use Rattle.places.specs.Places.{place, May, Layout, HasPlaces}
+use Rattle.places.specs.Places.{place, May, HasPlaces}
 use Rattle.places.specs.Batches.{IsFileSettled}
-use Rattle.store_image.specs.Checkpoint.{HeldCheckpoint, side_of}
-use Rattle.store_image.specs.View.{block_bytes, Logged}
+use Rattle.store_image.specs.Checkpoint.{HeldCheckpoint, front_blocks, side_of}
+use Rattle.store_image.specs.View.{block_bytes, most_mtr_blocks, Logged}
 use Rattle.store_image.specs.Places.{LogView}
+use Rattle.ring_log.specs.Blocks.{ring_layout, place_in_ring, block_at}
 
 -- What is told of the blocks' form, M being what is read of a mini-transaction. The real one has the redo keys in it, and reads deciphered texts.
 pub record Form (M : Type 0) : Type 1 where
@@ -43,15 +44,12 @@ pub record RingState : Type 0 where
   -- the bytes of each block, also of those that aren't written yet
   pub block : ℕ → List ℕ
 
+-- the ring of a session that begins at a number, behind the checkpoint of this sequence, with nothing written
+abbrev pub ring_at_start : List ℕ → ℕ → ℕ → (ℕ → List ℕ) → RingState
+ring_at_start header sequence next block = record { header = header; sequence = sequence; from = next; newer = None; settled = next; written = next; block = block }
+
 module _ {M : Type 0} (N : ℕ) (F : Form M) where
   open F use {is_block, starts, ends, IsMtr, checkpoint, passes}
-
-  -- the log's file: header, two checkpoints and N ring blocks
-  abbrev pub layout : Layout
-  layout = record { size = block_bytes; count = 3 + N; passes = passes }
-
-  abbrev pub place_in_ring : ℕ → ℕ
-  place_in_ring n = 3 + n % N
 
   -- no valid block of this number or a later one
   abbrev pub HasNoBlockFrom : ℕ → List ℕ → Type 0
@@ -88,12 +86,12 @@ module _ {M : Type 0} (N : ℕ) (F : Form M) where
     pub header : (x : Option (List ℕ)) → may 0 x → x ≡ Some r.header
     pub check : (x : Option (List ℕ)) → may (side_of r.sequence) x → IsSynced r x
     pub other : (x : Option (List ℕ)) → may (side_of (r.sequence + 1)) x → IsOther r x
-    pub front : (n : ℕ) (x : Option (List ℕ)) → r.from ≤ n → n < r.settled → may (place_in_ring n) x → x ≡ Some (r.block n)
-    pub rest : (n : ℕ) (x : Option (List ℕ)) → r.settled ≤ n → n < r.from + N → may (place_in_ring n) x → IsBehind r n x
+    pub front : (n : ℕ) (x : Option (List ℕ)) → r.from ≤ n → n < r.settled → may (place_in_ring N n) x → x ≡ Some (r.block n)
+    pub rest : (n : ℕ) (x : Option (List ℕ)) → r.settled ≤ n → n < r.from + N → may (place_in_ring N n) x → IsBehind r n x
 
   -- What holds at each moment, also after a call that failed.
   pub record Ringed (r : RingState) (es : List Event) : Type 0 where
-    pub places : HasPlaces Log layout es
+    pub places : HasPlaces Log (ring_layout N passes) es
     pub at : RingAt r (λ i x. May Log block_bytes i es x)
 
   -- Between two calls that were answered Ok nothing is pending on the disk.
@@ -108,7 +106,7 @@ module _ {M : Type 0} (N : ℕ) (F : Form M) where
   -- The blocks from n up to end are those of one mini-transaction: 1 to 16 of them, valid, only the first begins one, and only the last ends one.
   pub record IsWholeMtr (read : ℕ → List ℕ) (n end : ℕ) : Type 0 where
     pub some : n < end
-    pub most : end ≤ n + 16
+    pub most : end ≤ n + most_mtr_blocks
     pub valid : (m : ℕ) → n ≤ m → m < end → is_block m (read m) ≡ true
     pub first : starts (read n) ≡ true
     pub others : (m : ℕ) → n < m → m < end → starts (read m) ≡ false
@@ -126,18 +124,14 @@ module _ {M : Type 0} (N : ℕ) (F : Form M) where
   AreWholeEntries read n (e ∷ es) end =
       (k : ℕ) × IsWholeMtr read n (n + k) × IsMtr n (listed_blocks read n k) e.mtr × (e.first ≡ n) × (e.lsn ≡ (n + k) * block_bytes) × AreWholeEntries read (n + k) es end
 
-  -- the ring block of a number in a file
-  abbrev pub read_in : List ℕ → ℕ → List ℕ
-  read_in file n = place block_bytes (place_in_ring n) file
-
   -- What a log's file says: the newest checkpoint, and from it the longest run of whole mini-transactions.
   pub record IsRingLog (file : List ℕ) (l : LogView M) : Type 0 where
     pub sequence : ℕ
     pub check : checkpoint (side_of sequence) (place block_bytes (side_of sequence) file) ≡ Some (record { sequence = sequence; from = l.from })
     pub newest : (i : ℕ) (c : HeldCheckpoint) → checkpoint i (place block_bytes i file) ≡ Some c → c.sequence ≤ sequence
-    pub run : AreWholeEntries (read_in file) l.from l.run l.end
+    pub run : AreWholeEntries (block_at N file) l.from l.run l.end
     pub few : l.end ≤ l.from + N
-    pub longest : (end : ℕ) → IsWholeMtr (read_in file) l.end end → end ≤ l.from + N → ⊥
+    pub longest : (end : ℕ) → IsWholeMtr (block_at N file) l.end end → end ≤ l.from + N → ⊥
 
   -- ---- the journal
 
@@ -170,11 +164,11 @@ module _ {M : Type 0} (N : ℕ) (F : Form M) where
 
   -- no ring block has a number that the blocks behind the run could meet
   abbrev pub IsRingClear : List ℕ → ℕ → Type 0
-  IsRingClear file end = (i m : ℕ) → i < N → end + N ≤ m → is_block m (place block_bytes (3 + i) file) ≡ true → ⊥
+  IsRingClear file end = (i m : ℕ) → i < N → end + N ≤ m → is_block m (place block_bytes (front_blocks + i) file) ≡ true → ⊥
 
   -- What an image of the log stands for.
   pub record RingStands (r : RingState) (start : ℕ) (journal : List (Logged M)) (next : ℕ) (file : List ℕ) : Type 0 where
-    pub size : length file ≡ (3 + N) * block_bytes
+    pub size : length file ≡ (front_blocks + N) * block_bytes
     pub header : place block_bytes 0 file ≡ r.header
     -- it says one thing, of the journal
     pub log : LogView M

@@ -1,5 +1,6 @@
 -- The longest run of whole mini-transactions, by its blocks alone.
 use Rattle.std.specs.Prelude.{◌≡◌, ℕ, ◌+◌, ◌<◌, ◌≤◌, true, false, nat_eq, if◌then◌else◌, List, [], ◌∷◌}
+use Rattle.store_image.specs.View.{most_mtr_blocks}
 use Rattle.ring_log.specs.Ring.{Form, IsWholeMtr}
 
 module _ {M : Type 0} (N : ℕ) (F : Form M) where
@@ -30,8 +31,8 @@ module _ {M : Type 0} (N : ℕ) (F : Form M) where
 
   -- a block goes on with what was read, and the whole ones then end there
   abbrev pub Goes : ℕ → ℕ → List ℕ → ℕ → Type 0
-  Goes number end block next = (number < end + 16) × (is_block number block ≡ true) × (starts block ≡ nat_eq end number) × (next ≡ (if ends block then number + 1 else end))
+  Goes number end block next = (number < end + most_mtr_blocks) × (is_block number block ≡ true) × (starts block ≡ nat_eq end number) × (next ≡ (if ends block then number + 1 else end))
 
   -- or it doesn't
   abbrev pub Stops : ℕ → ℕ → List ℕ → Type 0
-  Stops number end block = number < end + 16 → is_block number block ≡ true → starts block ≡ nat_eq end number → ⊥
+  Stops number end block = number < end + most_mtr_blocks → is_block number block ≡ true → starts block ≡ nat_eq end number → ⊥

@@ -16,7 +16,7 @@ use Rattle.page_places.specs.Views.{view}
 use Rattle.page_places.proofs.Placed.{placed_image}
 use Rattle.page_places.proofs.Stages.{session_image}
 use Rattle.page_places.proofs.Views.{is_view}
-use Rattle.ring_log.specs.Ring.{Form, IsForm, RingState, RingAt, RingStands, read_in, HasNoBlockFrom}
+use Rattle.ring_log.specs.Ring.{Form, IsForm, RingState, RingAt, RingStands, HasNoBlockFrom}
 use Rattle.ring_log.proofs.Entries.{number_up}
 use Rattle.ring_log.proofs.Images.{lucky_ring}
 use Rattle.ring_log.proofs.SessionLog.{session_log}
@@ -102,7 +102,7 @@ module _ (store : SessionStore) where
     low : 2 ≤ log.end
     low =
         let from = (from_bounds (side_of ring.is.sequence) (place 4096 (side_of ring.is.sequence) file) (record { sequence = ring.is.sequence; from = log.from }) ring.is.check).0 in
-        let up = number_up N F (read_in N F file) log.from log.end log.run ring.is.run in
+        let up = number_up N F (block_at N file) log.from log.end log.run ring.is.run in
         omega (arith, from, up)
 
     high : log.end ≤ w.next
@@ -137,19 +137,15 @@ module _ (store : SessionStore) where
         by (inr newer) = (at.is.later log.from newer).0
 
     -- each block of the run is that of the ring
-    in_ring : (n : ℕ) → r.from ≤ n → n < log.end → is_ring_block n (read_in N F file n) ≡ true → read_in N F file n ≡ r.block n
+    in_ring : (n : ℕ) → r.from ≤ n → n < log.end → is_ring_block n (block_at N file n) ≡ true → block_at N file n ≡ r.block n
     in_ring n from below valid = ⊎_elim
-        (λ (front : n < r.settled). same_Some _ _ (at.front n (Some (read_in N F file n)) from front refl))
-        (λ (behind : r.settled ≤ n). by (at.rest n (Some (read_in N F file n)) behind (let within = ring.run.within in let room = at.is.room in omega (arith, below, within, room)) refl))
+        (λ (front : n < r.settled). same_Some _ _ (at.front n (Some (block_at N file n)) from front refl))
+        (λ (behind : r.settled ≤ n). by (at.rest n (Some (block_at N file n)) behind (let within = ring.run.within in let room = at.is.room in omega (arith, below, within, room)) refl))
         (cases_lt n r.settled)
       where
-        by : ((n < r.written) × (read_in N F file n ≡ r.block n)) ⊎ HasNoBlockFrom N F n (read_in N F file n) → read_in N F file n ≡ r.block n
+        by : ((n < r.written) × (block_at N file n ≡ r.block n)) ⊎ HasNoBlockFrom N F n (block_at N file n) → block_at N file n ≡ r.block n
         by (inl block) = block.1
         by (inr none) = absurd (none n (omega arith) valid)
-
-    read_block : (n : ℕ) → block_at N file n ≡ read_in N F file n
-    unfolding block_at
-    read_block n = refl
 
     -- ---- what it recovers to
 
@@ -229,7 +225,7 @@ module _ (store : SessionStore) where
         let up = from_up in
         let low_enough : r.from ≤ n = omega (arith, from, up) in
         let within = high in
-        let block : block_at N file n ≡ r.block n = read_block n ∙ in_ring n low_enough below (ap (is_ring_block n) (sym (read_block n)) ∙ valid_in store.header store.book file log.from log.run log.end reading.run.entries n from below) in
+        let block : block_at N file n ≡ r.block n = in_ring n low_enough below (valid_in store.header store.book file log.from log.run log.end reading.run.entries n from below) in
         subst (Contains store.named) (λ i. (sym same_id i, (ap block_version (sym block) ∙ sym same) i)) (moment.versions n low_enough (omega (arith, below, within)))
     keyed active named id version (OfLog same_id same) = subst (Contains store.named) (λ i. (sym same_id i, sym same i)) named.log
     keyed active named id version (OfSpace s there same_id same) = subst (Contains store.named) (λ i. (sym same_id i, sym same i)) (named.spaces s there)

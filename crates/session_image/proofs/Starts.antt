@@ -19,7 +19,8 @@ use Rattle.places.specs.Places.{place, shown}
 use Rattle.page_places.specs.Views.{view, IsReadAs}
 use Rattle.page_places.proofs.Stages.{read_within}
 use Rattle.redo_text.specs.declared.change.Change.{Change}
-use Rattle.ring_log.specs.Ring.{Form, RingReady, place_in_ring, HasNoBlockFrom}
+use Rattle.ring_log.specs.Blocks.{place_in_ring}
+use Rattle.ring_log.specs.Ring.{Form, RingReady, HasNoBlockFrom}
 use Rattle.ring_log.proofs.Numbers.{two_sides}
 use Rattle.ring_log.proofs.Rests.{ready_start as ring_begins}
 use Rattle.store_image.specs.Checkpoint.{HeldCheckpoint, side_of}
@@ -120,7 +121,7 @@ module _ (store : SessionStore) where
     pub clear : IsClear N file next
     clear = subst (λ (h : HeldHeader). IsClear h.blocks file next) b.header_is b.rests.clear
 
-    none_from : (n : ℕ) → next ≤ n → n < next + N → HasNoBlockFrom N F n (shown Log 4096 (place_in_ring N F n) es)
+    none_from : (n : ℕ) → next ≤ n → n < next + N → HasNoBlockFrom N F n (shown Log 4096 (place_in_ring N n) es)
     none_from n low high m le is = let pos = some in clear (n % N) m (omega (arith, pos)) (omega (arith, low, le)) is
 
     ring_ready : RingReady N F (begun_ring store next sequence es) es

@@ -10,7 +10,7 @@ use Rattle.places.specs.Batches.{IsFileSettled}
 use Rattle.page_places.specs.Texts.{page_bytes, slot_size, slots, pages}
 use Rattle.page_places.specs.Placed.{MayBePlaced}
 use Rattle.page_places.specs.Views.{places_by}
-use Rattle.ring_log.specs.Ring.{Form, RingState, Ringed, RingReady, IsBound, IsRingJournal}
+use Rattle.ring_log.specs.Ring.{Form, RingState, ring_at_start, Ringed, RingReady, IsBound, IsRingJournal}
 use Rattle.store_image.specs.LifeStages.{InSession, Failed}
 use Rattle.store_image.specs.Places.{Places}
 use Rattle.store_image.specs.Record.{IsAmongTexts, IsAmongBlocks}
@@ -18,7 +18,7 @@ use Rattle.store_image.specs.RecordKept.{IsLifeMoment}
 use Rattle.store_image.specs.Recovers.{Theory}
 use Rattle.store_image.specs.Session.{Session, Dirty, KeepsSession, IsLogOfSession, fresh}
 use Rattle.store_image.specs.SessionPhases.{IsPutStored, Ready}
-use Rattle.store_image.specs.View.{Logged, Text, Held, Holds, Zero, Bad}
+use Rattle.store_image.specs.View.{block_bytes, Logged, Text, Held, Holds, Zero, Bad}
 use Rattle.redo_text.specs.declared.change.Change.{Change}
 use Rattle.redo_text.specs.Reading.{block_version}
 use Rattle.store_model.specs.declared.contents.SpaceContents.{SpaceContents}
@@ -170,15 +170,7 @@ module _ (store : SessionStore) where
 
   -- and its ring, on a disk that has this header and newest checkpoint
   abbrev pub begun_ring : ℕ → ℕ → List Event → RingState
-  begun_ring next sequence es = record {
-    header = place 4096 0 (reads Log es);
-    sequence = sequence;
-    from = next;
-    newer = None;
-    settled = next;
-    written = next;
-    block = λ n. [];
-  }
+  begun_ring next sequence es = ring_at_start (place block_bytes 0 (reads Log es)) sequence next (λ n. [])
 
   -- ---- what it promises
 

@@ -1,10 +1,11 @@
 -- The run of a log: from the newest checkpoint on the longest list of ring blocks that are valid at their places and make whole mini-transactions, and the texts that they have under the keys.
-use Rattle.std.specs.Prelude.{◌≡◌, ℕ, zero, suc, ◌+◌, ◌*◌, ◌%◌, ◌<◌, ◌≤◌, true, nat_eq, List, [], ◌∷◌, ◌++◌, Some}
+use Rattle.std.specs.Prelude.{◌≡◌, ℕ, zero, suc, ◌+◌, ◌*◌, ◌<◌, ◌≤◌, true, nat_eq, List, [], ◌∷◌, ◌++◌, Some}
 use Rattle.key_ring.specs.Ring.{RingEntry}
 use Rattle.key_ring.specs.Local.{local_key}
 use Rattle.places.specs.Places.{place}
+pub use Rattle.ring_log.specs.Blocks.{block_at}
 use Rattle.store_image.specs.Places.{LogView}
-use Rattle.store_image.specs.View.{Logged, block_bytes}
+use Rattle.store_image.specs.View.{Logged, block_bytes, most_mtr_blocks}
 use Rattle.redo_text.specs.declared.change.Change.{Change}
 use Rattle.redo_text.specs.Reading.{block_version}
 use Rattle.store_files.specs.Checkpoint.{IsNewestCheckpoint}
@@ -12,15 +13,11 @@ use Rattle.store_files.specs.Header.{HeldHeader}
 use Rattle.store_files.specs.RingBlock.{is_ring_block, begins_mtr, ends_mtr, block_text, IsMtrText}
 use Rattle.store_image.specs.Checkpoint.{front_blocks}
 
--- the block at the place of number n, in a ring of so many blocks
-unfoldable pub block_at : ℕ → List ℕ → ℕ → List ℕ
-block_at blocks file n = place block_bytes (front_blocks + n % blocks) file
-
 module _ (blocks : ℕ) (file : List ℕ) where
   -- The k blocks from n on make one whole mini-transaction: 1 to 16 valid blocks, the first of which alone begins it, and the last of which alone ends it.
   pub record MakeWholeMtr (n k : ℕ) : Type 0 where
     pub some : 0 < k
-    pub few : k ≤ 16
+    pub few : k ≤ most_mtr_blocks
     pub valid : (i : ℕ) → i < k → is_ring_block (n + i) (block_at blocks file (n + i)) ≡ true
     pub first : (i : ℕ) → i < k → begins_mtr (block_at blocks file (n + i)) ≡ nat_eq i 0
     pub last : (i : ℕ) → i < k → ends_mtr (block_at blocks file (n + i)) ≡ nat_eq (i + 1) k

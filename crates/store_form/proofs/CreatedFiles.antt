@@ -157,7 +157,6 @@ module _ (header : HeldHeader) (w : IsWritableHeader header) where
       zero_ring_block m 4096 (omega (arith, some, le)) (omega arith) (ap (λ (b : List ℕ). is_ring_block m b) (sym (made_other (3 + i) (omega arith) (λ e. omega (arith, e)) (omega (arith, lt)))) ∙ is)
 
   no_mtr : (n k : ℕ) → 1 ≤ n → MakeWholeMtr header.blocks (log_made header) n k → ⊥
-  unfolding block_at
   no_mtr n k some mtr =
       let valid = mtr.valid 0 mtr.some in
       let low : (n + 0) % header.blocks < header.blocks = omega (arith, least_blocks) in

@@ -14,7 +14,7 @@ use Rattle.store_image.specs.View.{block_bytes, slot_count}
 
 -- the LSN of the log's first block, which the pages 0 are made at
 abbrev pub first_lsn : ℕ
-first_lsn = 8192
+first_lsn = 2 * block_bytes
 
 -- the text of page 0 of a space as it is made: its head in clear, at the LSN of the log's first block
 unfoldable pub first_text : SpaceInfo → List ℕ

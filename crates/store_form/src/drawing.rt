@@ -6,6 +6,7 @@ ghost use Rattle.space_head.specs.declared.space.Home.TheVariants.{Unused, Clean
 ghost use Rattle.store_form.specs.Made.{AreMadeInfos, IsMadeInfo};
 ghost use Rattle.store_form.specs.Plan.{held_plan, homes_made, info_made, infos_drawn};
 ghost use Rattle.store_form.specs.Said.{header_said, space_said};
+ghost use Rattle.store_files.specs.Header.{most_spaces};
 
 use crate::first_page::known_info;
 use crate::space_list::MOST_SPACES;
@@ -82,7 +83,7 @@ fn header_space(plan: &SpacePlan) -> HeaderSpace
 }
 
 fn header_spaces(plans: &[SpacePlan]) -> [HeaderSpace; MOST_SPACES]
-    requires { length plans.now ≤ 16 }
+    requires { length plans.now ≤ most_spaces }
     ensures { map space_said (take (length plans.now) result) ≡ map held_plan plans.now }
 {
     let mut spaces = [HeaderSpace {
@@ -98,9 +99,9 @@ fn header_spaces(plans: &[SpacePlan]) -> [HeaderSpace; MOST_SPACES]
 
 // The header of a store of this plan, its spaces being in order.
 pub(crate) fn header_of(plan: &StorePlan, plans: &[SpacePlan], salt: [u8; 16]) -> Header
-    requires { length plans.now ≤ 16 }
+    requires { length plans.now ≤ most_spaces }
     ensures said { header_said result ≡ record { algorithm = plan.now.algorithm; blocks = plan.now.blocks; salt = salt; spaces = map held_plan plans.now } }
-    ensures count { result.count ≤ 16 }
+    ensures count { result.count ≤ most_spaces }
     ensures blocks { result.blocks ≡ plan.now.blocks }
 {
     Header {

@@ -2,18 +2,19 @@
 ghost use Rattle.std.specs.Prelude.{◌≡◌, ℕ, ◌+◌, ◌<◌, ◌^◌, length, Ok, None, [], ◌∷◌};
 ghost use Rattle.byte_list.specs.Bytes.{put, zeros};
 ghost use Rattle.byte_list.specs.Fields.{be16_at};
-ghost use Rattle.page_places.specs.Texts.{page_bytes};
+ghost use Rattle.page_places.specs.Texts.{page_bytes, page_type_at};
 ghost use Rattle.page_text.specs.Text.{IsText, plain_of};
 ghost use Rattle.space_head.specs.Head.{head_of, with_head};
 ghost use Rattle.store_files.specs.Pages.{IsTypedInfo, head_of_space, head_page};
 ghost use Rattle.store_form.specs.Creation.{first_lsn};
 
 use byte_list::fields::put;
+use page_places::PAGE_TYPE_AT;
 use page_text::{PageMut, Seal, seal};
 use space_head::{CryptRecord, SpaceHead, SpaceInfo, write_head};
 
-// The LSN of a page 0 as it is created: 4096 times the number of the log's first block.
-const FIRST_LSN: u64 = 8192;
+// The LSN of a page 0 as it is created: that of the log's first block, whose number is 2.
+const FIRST_LSN: u64 = 2 * store_files::BLOCK_BYTES as u64;
 
 // What page 0 says of its space.
 fn head_of_space(info: &SpaceInfo) -> SpaceHead
@@ -55,16 +56,16 @@ pub(crate) fn clear(page: &mut [u8])
 // A page in clear with the head of a space, and the type of a page 0.
 fn write_fields(page: &mut [u8], info: &SpaceInfo)
     requires { length page.old ≡ page_bytes }
-    ensures { page.new ≡ put 24 (0 ∷ 8 ∷ []) (with_head (head_of_space info.now) (zeros page_bytes)) }
+    ensures { page.new ≡ put page_type_at (0 ∷ 8 ∷ []) (with_head (head_of_space info.now) (zeros page_bytes)) }
 {
     clear(page);
     write_head(&head_of_space(info), page);
-    put(page, 24, &[0, 8]);
+    put(page, PAGE_TYPE_AT, &[0, 8]);
 }
 
 fn seal_first(page: &mut [u8], space: u32)
     requires long { length page.old ≡ page_bytes }
-    requires kind { be16_at page.old 24 ≡ 8 }
+    requires kind { be16_at page.old page_type_at ≡ 8 }
     ensures text { IsText page_bytes space 0 first_lsn 0 None (plain_of page.old) page.new }
     ensures long { length page.new ≡ page_bytes }
 {

@@ -1,7 +1,7 @@
 // The block of a store's header.
 ghost use Rattle.std.specs.Prelude.{◌≡◌, ℕ, List, ◌+◌, ◌-◌, ◌*◌, ◌≤◌, ◌<◌, ◌++◌, [], ◌∷◌, length, map};
 ghost use Rattle.byte_list.specs.Bytes.{put, zeros};
-ghost use Rattle.store_files.specs.Header.{algorithm_code, header_bytes, space_words};
+ghost use Rattle.store_files.specs.Header.{algorithm_code, header_bytes, space_words, header_spaces_at, held_space_bytes, most_ring_blocks, most_spaces};
 ghost use Rattle.store_image.specs.View.{block_bytes};
 ghost use Rattle.store_form.specs.HeaderParts.{first_words, with_checksum, space_part};
 ghost use Rattle.store_form.specs.Said.{header_said, space_said};
@@ -11,6 +11,7 @@ use crate::{Header, HeaderSpace};
 use aes_core::Algorithm;
 use byte_list::fields::{put, put_be32};
 use bytes_core::crc32c;
+use store_files::{HEADER_ALGORITHM_AT, HEADER_SALT_AT, HEADER_SPACES_AT, HELD_SPACE_BYTES};
 
 // AES_CBC has the number 1, AES_CTR the number 2.
 #[tactic(auto, unfolding(store_files::specs::Header::algorithm_code))]
@@ -48,18 +49,22 @@ fn space_part(space: &HeaderSpace) -> [u8; 12]
 
 fn fill_space(block: &mut [u8], i: usize, space: &HeaderSpace)
     requires long { length block.old ≡ block_bytes }
-    requires few { i < 16 }
-    ensures part { block.new ≡ put (40 + 12 * i) (space_part (space_said space.now)) block.old }
+    requires few { i < most_spaces }
+    ensures part { block.new ≡ put (header_spaces_at + held_space_bytes * i) (space_part (space_said space.now)) block.old }
     ensures long { length block.new ≡ block_bytes }
 {
-    put(block, 40 + 12 * i, &space_part(space));
+    put(
+        block,
+        HEADER_SPACES_AT + HELD_SPACE_BYTES * i,
+        &space_part(space),
+    );
 }
 
-// The spaces behind the first 40 bytes of a block, the rest of which is zero bytes.
+// The spaces at their place in a block, the rest of which is zero bytes.
 fn fill_spaces(block: &mut [u8], spaces: &[HeaderSpace])
     requires long { length block.old ≡ block_bytes }
-    requires few { length spaces.now ≤ 16 }
-    ensures words { (w : List ℕ) → length w ≡ 40 → block.old ≡ w ++ zeros 4056 → block.new ≡ (w ++ space_words (map space_said spaces.now)) ++ zeros (4056 - 12 * length spaces.now) }
+    requires few { length spaces.now ≤ most_spaces }
+    ensures words { (w : List ℕ) → length w ≡ header_spaces_at → block.old ≡ w ++ zeros (block_bytes - header_spaces_at) → block.new ≡ (w ++ space_words (map space_said spaces.now)) ++ zeros (block_bytes - header_spaces_at - held_space_bytes * length spaces.now) }
     ensures long { length block.new ≡ block_bytes }
 {
     for i in 0..spaces.len() {
@@ -80,8 +85,8 @@ fn fill_sum(block: &mut [u8])
 // Makes of 4096 bytes the block of a header.
 pub(crate) fn fill_header(block: &mut [u8], header: &Header)
     requires long { length block.old ≡ block_bytes }
-    requires blocks { header.now.blocks ≤ 4096 }
-    requires count { header.now.count ≤ 16 }
+    requires blocks { header.now.blocks ≤ most_ring_blocks }
+    requires count { header.now.count ≤ most_spaces }
     ensures { block.new ≡ header_bytes (header_said header.now) }
 {
     clear(block);
@@ -92,8 +97,8 @@ pub(crate) fn fill_header(block: &mut [u8], header: &Header)
         &first_words(header.blocks as u32, spaces.len() as u32),
     );
     let salt = header.salt;
-    put(block, 24, &salt);
+    put(block, HEADER_SALT_AT, &salt);
     fill_spaces(block, spaces);
-    put_be32(block, 240, code_of(header.algorithm));
+    put_be32(block, HEADER_ALGORITHM_AT, code_of(header.algorithm));
     fill_sum(block);
 }

@@ -11,6 +11,7 @@ ghost use Rattle.store_form.specs.Created.{AreAbsent, HasNoFile, HaveFirstPlaces
 ghost use Rattle.store_form.specs.Creation.{IsStopped, creation, files_begun, first_pages_written, first_text, header_written, past_after, spaces_begun};
 ghost use Rattle.store_form.specs.Made.{AreMadeInfos, CanBeMade, DifferInId, IsMadeInfo};
 ghost use Rattle.store_form.specs.Said.{header_said};
+ghost use Rattle.store_files.specs.Header.{least_ring_blocks, most_ring_blocks, most_spaces};
 
 use crate::Header;
 use crate::first_page::fill_first_page;
@@ -54,7 +55,7 @@ fn begin_files<D: Disk>(
     header: &Header,
     spaces: &[SpaceInfo],
 ) -> Result<(), DiskError>
-    requires most { header.now.blocks ≤ 4096 }
+    requires most { header.now.blocks ≤ most_ring_blocks }
     requires absent { At (HasNoFile spaces.now) (D.past disk.old) }
     requires differ { DifferInId spaces.now }
     ensures ok { OnOk result (D.past disk.new ≡ past_after (files_begun (header_said header.now) spaces.now) (D.past disk.old)) }
@@ -123,8 +124,8 @@ fn write_first_pages<D: Disk>(disk: &mut D, spaces: &[SpaceInfo]) -> Result<(), 
 
 // Writes the header, and syncs the log.
 fn write_header<D: Disk>(disk: &mut D, header: &Header) -> Result<(), DiskError>
-    requires most { header.now.blocks ≤ 4096 }
-    requires count { header.now.count ≤ 16 }
+    requires most { header.now.blocks ≤ most_ring_blocks }
+    requires count { header.now.count ≤ most_spaces }
     requires inside { At (InFile Log 0 block_bytes) (D.past disk.old) }
     ensures ok { OnOk result (D.past disk.new ≡ past_after (header_written (header_said header.now)) (D.past disk.old)) }
     ensures err { OnErr result (IsStopped (header_written (header_said header.now)) (D.past disk.old) (D.past disk.new)) }
@@ -148,9 +149,9 @@ pub(crate) fn write_store<D: Disk>(
     header: &Header,
     spaces: &[SpaceInfo],
 ) -> Result<(), DiskError>
-    requires least { 32 ≤ header.now.blocks }
-    requires most { header.now.blocks ≤ 4096 }
-    requires count { header.now.count ≤ 16 }
+    requires least { least_ring_blocks ≤ header.now.blocks }
+    requires most { header.now.blocks ≤ most_ring_blocks }
+    requires count { header.now.count ≤ most_spaces }
     requires can { CanBeMade (header_said header.now) spaces.now }
     requires absent { At (HasNoFile spaces.now) (D.past disk.old) }
     ensures ok { OnOk result (D.past disk.new ≡ past_after (creation (header_said header.now) spaces.now) (D.past disk.old)) }

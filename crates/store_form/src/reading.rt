@@ -6,7 +6,7 @@ ghost use Rattle.disk_model.specs.Image.{InFile};
 ghost use Rattle.disk_model.specs.Past.{At};
 ghost use Rattle.disk_model.specs.declared.names.FileName.TheVariants.{Space};
 ghost use Rattle.key_ring.specs.Local.{local_key};
-ghost use Rattle.page_places.specs.Texts.{page_bytes};
+ghost use Rattle.page_places.specs.Texts.{page_bytes, page_lsn_at, page_version_at};
 ghost use Rattle.page_text.specs.Opening.{opening};
 ghost use Rattle.page_text.specs.Text.{IsText, Plain, key_lent, plain_of};
 ghost use Rattle.places.specs.Places.{shown};
@@ -20,6 +20,7 @@ use aes_core::Algorithm;
 use byte_list::fields::be32_at;
 use disk_model::{Disk, DiskError, FileName};
 use key_ring::Ring;
+use page_places::PAGE_VERSION_AT;
 use page_text::{OpenFault, PageKey, PageMut, unseal};
 use space_head::{Home, SpaceInfo};
 
@@ -90,7 +91,7 @@ fn take_apart(
     requires long { length bytes.old ≡ page_bytes }
     requires keyed { be32_at bytes.old 0 ≢ 0 → IsSome key }
     ensures value { result ≡ opening space page (key_lent key.entry) bytes.old }
-    ensures accepted { result ≡ Ok tt → IsText page_bytes space page (be64_at bytes.old 16) (be32_at bytes.old 0) (key_lent key.entry) (plain_of bytes.new) bytes.old }
+    ensures accepted { result ≡ Ok tt → IsText page_bytes space page (be64_at bytes.old page_lsn_at) (be32_at bytes.old page_version_at) (key_lent key.entry) (plain_of bytes.new) bytes.old }
     ensures taken { (lsn : ℕ) (plain : Plain) → IsText page_bytes space page lsn (be32_at bytes.old 0) (key_lent key.entry) plain bytes.old → (result ≡ Ok tt) × (plain_of bytes.new ≡ plain) }
 {
     let mut text = PageMut::of(bytes);
@@ -146,7 +147,7 @@ pub fn open_home_with(
     if are_zero(into) {
         return Ok(Home::Unused);
     }
-    let version = be32_at(into, 0);
+    let version = be32_at(into, PAGE_VERSION_AT);
     open_text(info, page, version, key, into)
 }
 
@@ -162,7 +163,7 @@ pub(crate) fn open_home(
     ensures opened { IsHomeOpened info.now.space page info.now.key_id (option_map (λ local. record { local = local; algorithm = algorithm }) (local_key ring.now info.now.key_id (be32_at into.old 0) info.now.salt)) into.old into.new result }
     ensures taken { TakesTexts info.now.space page (option_map (λ local. record { local = local; algorithm = algorithm }) (local_key ring.now info.now.key_id (be32_at into.old 0) info.now.salt)) into.old into.new result }
 {
-    let version = be32_at(into, 0);
+    let version = be32_at(into, PAGE_VERSION_AT);
     let key = page_key(ring, algorithm, info, version);
     open_home_with(info, page, key, into)
 }

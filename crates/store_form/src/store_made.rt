@@ -8,6 +8,7 @@ ghost use Rattle.store_form.specs.Made.{CanBeMade};
 ghost use Rattle.store_form.specs.Plan.{HasNeededKeys, IsCreatable, first_file_there, header_made, homes_made, in_id_order, spaces_made};
 ghost use Rattle.store_form.specs.Said.{header_said};
 ghost use Rattle.store_form.specs.declared.create_fault.CreateFault.TheVariants.{DiskFault, OutOfMemory};
+ghost use Rattle.store_files.specs.Header.{most_spaces};
 
 use crate::checks::{first_made, missing_key};
 use crate::drawing::{draw_salt, draw_spaces, header_of, homes_of, known_bytes};
@@ -72,7 +73,7 @@ fn draw_store<R: Rng>(
     ensures spaces { IfOk result (λ made. made.spaces ≡ spaces_made plan.now (R.stream rng.old)) }
     ensures homes { IfOk result (λ made. made.homes ≡ homes_made (spaces_made plan.now (R.stream rng.old))) }
     ensures can { IfOk result (λ made. CanBeMade (header_made plan.now (R.stream rng.old)) (spaces_made plan.now (R.stream rng.old))) }
-    ensures count { IfOk result (λ made. made.header.count ≤ 16) }
+    ensures count { IfOk result (λ made. made.header.count ≤ most_spaces) }
     ensures blocks { IfOk result (λ made. made.header.blocks ≡ plan.now.blocks) }
     ensures few { IfOk result (λ made. length made.spaces ≡ length plan.now.spaces) }
 {
