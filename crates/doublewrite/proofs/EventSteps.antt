@@ -1,5 +1,5 @@
 -- The events of homes that are restored, one after another.
-use Rattle.std.proofs.Common.{◌≡◌, ℕ, zero, suc, ◌+◌, ◌*◌, ◌<◌, ◌≤◌, ◌≢◌, ◌⊎◌, inl, inr, ⊎_elim, Bool, true, false, is_some, if◌then◌else◌, List, [], ◌∷◌, ◌++◌, length, Option, Some, None, refl, sym, ap, subst, ◌∙◌, append_assoc, arith, Result, Ok, Err, OnOk, OnErr}
+use Rattle.std.proofs.Common.{◌≡◌, ℕ, zero, suc, ◌+◌, ◌*◌, ◌<◌, ◌≤◌, ◌≢◌, ◌⊎◌, inl, inr, ⊎_elim, Bool, true, false, is_some, if◌then◌else◌, List, [], ◌∷◌, ◌++◌, length, Option, Some, None, refl, sym, ap, subst, ◌∙◌, append_assoc, length-append, arith, Result, Ok, Err, OnOk, OnErr}
 use Rattle.std.proofs.lemmas.Bool.{cases_eq}
 use Rattle.std.proofs.lemmas.List.{append-nil}
 use Rattle.std.proofs.lemmas.Bool.Decides.{nat_tests}
@@ -18,7 +18,7 @@ use Rattle.places.proofs.LeftAlone.{shown_left_alone}
 use Rattle.page_places.specs.Texts.{pages}
 use Rattle.space_head.specs.declared.space.SpaceInfo.{SpaceInfo}
 use Rattle.doublewrite.specs.Restore.{wanted, space_at, AreSpacesApart, HasSpaceFile, HaveFiles, PagesStay}
-use Rattle.doublewrite.specs.Events.{page_write, page_writes, synced, is_any, space_events, spaces_events, calls_to, AreFirstEvents, Done, Failed}
+use Rattle.doublewrite.specs.Events.{page_write, page_writes, synced, is_any, space_events, spaces_events, calls_to, homes_to, AreFirstEvents, Done, Failed}
 use Rattle.doublewrite.specs.declared.listing.Copied.{Copied}
 use Rattle.doublewrite.proofs.SpaceSteps.{same_want}
 
@@ -184,6 +184,16 @@ module _ (copies : List Copied) (info : SpaceInfo) (k : ℕ) (first mid : Past) 
       (subst (λ (l : List Event). AreFirstEvents l s new) (sym (pages_more copies z s k)) (front_behind (page_write z k (wanted copies s z k)) (page_writes copies s z k) s new front)))
       (behind_pages (λ o es. AreFirstEvents (page_write z k o) es new) now)
 
+  -- the calls for the pages so far, and for the next one
+  pub next_calls : (c0 c1 c2 : ℕ) → At (λ s. c1 ≤ c0 + (k + length (page_writes copies s z k))) first → At (λ es. c2 ≤ c1 + (1 + length (page_write z k (wanted copies es z k)))) mid
+      → At (λ s. c2 ≤ c0 + (k + 1 + length (page_writes copies s z (k + 1)))) first
+  next_calls c0 c1 c2 earlier now = record {
+    here = λ s is.
+        let sum : length (page_writes copies s z (k + 1)) ≡ length (page_write z k (wanted copies s z k)) + length (page_writes copies s z k) =
+        ap length (pages_more copies z s k) ∙ length-append (page_write z k (wanted copies s z k)) (page_writes copies s z k) in
+        omega (arith, earlier.here s is, (behind_pages (λ o es. c2 ≤ c1 + (1 + length (page_write z k o))) now).here s is, sum);
+  }
+
   pub next_told : (w before after : Bool) → after ≡ (if w then true else before) → At (λ s. before ≡ is_any (page_writes copies s z k)) first → At (λ es. w ≡ is_some (wanted copies es z k)) mid
       → At (λ s. after ≡ is_any (page_writes copies s z (k + 1))) first
   next_told w before after after_is earlier now = record {
@@ -218,6 +228,22 @@ module _ (copies : List Copied) (y : ℕ) (info : SpaceInfo) (differs : info.spa
 
   space_leaves : AllAre (LeavesFile (Space y)) (space_events copies s info)
   space_leaves = synced_leaves (page_writes copies s info.space info.pages) (pages_leave info.pages)
+
+pub homes_none : (spaces : List SpaceInfo) → homes_to spaces 0 ≡ 0
+unfolding homes_to
+homes_none spaces = refl
+
+pub homes_more : (spaces : List SpaceInfo) (k : ℕ) → homes_to spaces (k + 1) ≡ homes_to spaces k + (space_at spaces k).pages
+unfolding homes_to
+homes_more spaces k = let e : k + 1 ≡ suc k = omega arith in ap (homes_to spaces) e
+
+pub homes_below : (spaces : List SpaceInfo) (j n : ℕ) → j ≤ n → homes_to spaces j ≤ homes_to spaces n
+unfolding homes_to
+homes_below spaces j zero le = let e : j ≡ 0 = omega (arith, le) in subst (λ (k : ℕ). homes_to spaces k ≤ homes_to spaces 0) (sym e) (omega arith)
+homes_below spaces j (suc n) le = ⊎_elim
+    (λ (e : j ≡ suc n). subst (λ (k : ℕ). homes_to spaces k ≤ homes_to spaces (suc n)) (sym e) (omega arith))
+    (λ (ne : j ≢ suc n). let earlier = homes_below spaces j n (omega (arith, le, ne)) in omega (arith, earlier))
+    (cases_eq j (suc n))
 
 module _ (copies : List Copied) (spaces : List SpaceInfo) where
   pub spaces_none : (s : List Event) → spaces_events copies s spaces 0 ≡ []
@@ -278,11 +304,54 @@ module _ (copies : List Copied) (spaces : List SpaceInfo) where
         (λ s is. is ∙ ap (λ (l : List Event). Some l) (sym (append_assoc (space_events copies s info) (spaces_events copies s spaces k) s) ∙ ap (λ (l : List Event). l ++ s) (sym (spaces_more s k))))
         (behind_spaces (λ l es. new ≡ Some (l ++ es)) now)
 
+    -- the calls for the spaces so far, and for the next one
+    pub next_space_calls : (c0 c1 c2 : ℕ) → At (λ s. c1 ≤ c0 + (homes_to spaces k + length (spaces_events copies s spaces k))) first → At (λ es. c2 ≤ c1 + (info.pages + length (space_events copies es info))) mid
+        → At (λ s. c2 ≤ c0 + (homes_to spaces (k + 1) + length (spaces_events copies s spaces (k + 1)))) first
+    next_space_calls c0 c1 c2 earlier now = record {
+      here = λ s is.
+          let sum : length (spaces_events copies s spaces (k + 1)) ≡ length (space_events copies s info) + length (spaces_events copies s spaces k) =
+          ap length (spaces_more s k) ∙ length-append (space_events copies s info) (spaces_events copies s spaces k) in
+          omega (arith, earlier.here s is, (behind_spaces (λ l es. c2 ≤ c1 + (info.pages + length l)) now).here s is, sum, homes_more spaces k);
+    }
+
     pub next_space_part : (new : Past) → At (λ es. AreFirstEvents (space_events copies es info) es new) mid → At (λ s. AreFirstEvents (spaces_events copies s spaces (length spaces)) s new) first
     next_space_part new now = at_each
         (λ s front. front_of (spaces_events copies s spaces (length spaces)) (spaces_events copies s spaces (k + 1)) s new (spaces_begin_with s (k + 1) (length spaces) (omega (arith, more)))
         (subst (λ (l : List Event). AreFirstEvents l s new) (sym (spaces_more s k)) (front_behind (space_events copies s info) (spaces_events copies s spaces k) s new front)))
         (behind_spaces (λ l es. AreFirstEvents l es new) now)
+
+-- ---- the calls
+
+-- those of some pages of a space are among those of more
+pub pages_calls : (copies : List Copied) (z j n : ℕ) (s : List Event) → j ≤ n → length (page_writes copies s z j) ≤ length (page_writes copies s z n)
+unfolding page_writes
+pages_calls copies z j zero s le = let e : j ≡ 0 = omega (arith, le) in subst (λ (k : ℕ). length (page_writes copies s z k) ≤ length (page_writes copies s z 0)) (sym e) (omega arith)
+pages_calls copies z j (suc n) s le = ⊎_elim
+    (λ (e : j ≡ suc n). subst (λ (k : ℕ). length (page_writes copies s z k) ≤ length (page_writes copies s z (suc n))) (sym e) (omega arith))
+    (λ (ne : j ≢ suc n).
+    let earlier = pages_calls copies z j n s (omega (arith, le, ne)) in
+    omega (arith, earlier, length-append (page_write z n (wanted copies s z n)) (page_writes copies s z n)))
+    (cases_eq j (suc n))
+
+-- a sync is one more
+pub synced_calls : (f : FileName) (es : List Event) → length es ≤ length (synced f es)
+synced_calls f [] = omega arith
+synced_calls f (e ∷ es) = omega arith
+
+pub synced_one : (f : FileName) (es : List Event) → true ≡ is_any es → length (synced f es) ≡ length es + 1
+synced_one f [] some = absurd (cc)
+synced_one f (e ∷ es) some = omega arith
+
+-- those of some spaces are among those of more
+pub spaces_calls : (copies : List Copied) (spaces : List SpaceInfo) (j n : ℕ) (s : List Event) → j ≤ n → length (spaces_events copies s spaces j) ≤ length (spaces_events copies s spaces n)
+unfolding spaces_events
+spaces_calls copies spaces j zero s le = let e : j ≡ 0 = omega (arith, le) in subst (λ (k : ℕ). length (spaces_events copies s spaces k) ≤ length (spaces_events copies s spaces 0)) (sym e) (omega arith)
+spaces_calls copies spaces j (suc n) s le = ⊎_elim
+    (λ (e : j ≡ suc n). subst (λ (k : ℕ). length (spaces_events copies s spaces k) ≤ length (spaces_events copies s spaces (suc n))) (sym e) (omega arith))
+    (λ (ne : j ≢ suc n).
+    let earlier = spaces_calls copies spaces j n s (omega (arith, le, ne)) in
+    omega (arith, earlier, length-append (space_events copies s (space_at spaces n)) (spaces_events copies s spaces n)))
+    (cases_eq j (suc n))
 
 pub calls_none : (spaces : List SpaceInfo) → calls_to spaces 0 ≡ 0
 unfolding calls_to

@@ -47,6 +47,15 @@ unfoldable pub calls_to : List SpaceInfo → ℕ → ℕ
 calls_to spaces zero = 0
 calls_to spaces (suc k) = calls_to spaces k + ((space_at spaces k).pages * 2 + 1)
 
+-- how many homes the first k spaces have
+unfoldable pub homes_to : List SpaceInfo → ℕ → ℕ
+homes_to spaces zero = 0
+homes_to spaces (suc k) = homes_to spaces k + (space_at spaces k).pages
+
+-- How many calls it takes to restore what stands at s: each slot and each home is read once, and each event is a call.
+abbrev pub restore_calls : List SpaceInfo → List Event → ℕ
+restore_calls spaces s = slot_count + (homes_to spaces (length spaces) + length (restore_events spaces s))
+
 -- Of all these events those that come first were done since s, and no other. The one behind them, where it is a write, may have failed.
 pub data AreFirstEvents (all s : List Event) (new : Past) : Type 0 where
   Done : (rest done : List Event) → all ≡ rest ++ done → new ≡ Some (done ++ s) → AreFirstEvents all s new

@@ -8,7 +8,7 @@ ghost use Rattle.disk_model.specs.declared.names.FileName.TheVariants.{Double};
 ghost use Rattle.places.specs.Batches.{From};
 ghost use Rattle.places.specs.Places.{HasFile};
 ghost use Rattle.page_places.specs.Texts.{slots, page_bytes};
-ghost use Rattle.doublewrite.specs.Events.{space_events, spaces_events, restore_events, calls_to, AreFirstEvents};
+ghost use Rattle.doublewrite.specs.Events.{space_events, spaces_events, restore_calls, restore_events, calls_to, homes_to, AreFirstEvents};
 ghost use Rattle.doublewrite.specs.Restore.{AreSpacesApart, AreRestored, HasSpaceFile, HaveAll, HaveFiles, IsRestoreEvent, HomesRestored, HomesRestoring, SpacesFilling, SpacesRestored, space_at};
 ghost use Rattle.store_image.specs.Places.{log_of};
 ghost use Rattle.store_image.specs.View.{View, slot_count};
@@ -44,6 +44,7 @@ fn restore_next<D: Disk>(
     ensures untold { D.past disk.old ≡ None → D.past disk.new ≡ None }
     ensures later { D.is_later disk.old disk.new }
     ensures calls { D.clock disk.new ≤ D.clock disk.old + ((space_at spaces.now i).pages * 2 + 1) }
+    ensures told_calls { At (λ s. D.clock disk.new ≤ D.clock disk.old + ((space_at spaces.now i).pages + length (space_events copies.now s (space_at spaces.now i)))) (D.past disk.old) }
     ensures cause { HasDiskCause (D.faults disk.old) (D.faults disk.new) result }
     ensures memory { HasDiskMemoryCause (D.memory_refusals disk.old) (D.memory_refusals disk.new) result }
     ensures no_fault { OnOk result (D.faults disk.new ≡ D.faults disk.old) }
@@ -68,6 +69,7 @@ fn restore_spaces<D: Disk>(
     ensures untold { D.past disk.old ≡ None → D.past disk.new ≡ None }
     ensures later { D.is_later disk.old disk.new }
     ensures calls { D.clock disk.new ≤ D.clock disk.old + calls_to spaces.now (length spaces.now) }
+    ensures told_calls { At (λ s. D.clock disk.new ≤ D.clock disk.old + (homes_to spaces.now (length spaces.now) + length (spaces_events copies.now s spaces.now (length spaces.now)))) (D.past disk.old) }
     ensures cause { HasDiskCause (D.faults disk.old) (D.faults disk.new) result }
     ensures memory { HasDiskMemoryCause (D.memory_refusals disk.old) (D.memory_refusals disk.new) result }
     ensures no_fault { OnOk result (D.faults disk.new ≡ D.faults disk.old) }
@@ -95,6 +97,7 @@ fn restore_from_copies<D: Disk>(
     ensures untold { D.past disk.old ≡ None → D.past disk.new ≡ None }
     ensures later { D.is_later disk.old disk.new }
     ensures calls { D.clock disk.new ≤ D.clock disk.old + (slot_count + calls_to spaces.now (length spaces.now)) }
+    ensures told_calls { At (λ s. D.clock disk.new ≤ D.clock disk.old + restore_calls spaces.now s) (D.past disk.old) }
     ensures cause { HasDiskCause (D.faults disk.old) (D.faults disk.new) result }
     ensures memory { D.memory_refusals disk.old ≤ D.memory_refusals disk.new }
     ensures no_fault { OnOk result (D.faults disk.new ≡ D.faults disk.old) }
@@ -122,6 +125,7 @@ fn restore_or_refuse<D: Disk>(
     ensures untold { D.past disk.old ≡ None → D.past disk.new ≡ None }
     ensures later { D.is_later disk.old disk.new }
     ensures calls { D.clock disk.new ≤ D.clock disk.old + (slot_count + calls_to spaces.now (length spaces.now)) }
+    ensures told_calls { At (λ s. D.clock disk.new ≤ D.clock disk.old + restore_calls spaces.now s) (D.past disk.old) }
     ensures cause { HasCauseOf DiskFault (D.faults disk.old) (D.faults disk.new) result }
     ensures memory { D.memory_refusals disk.old ≤ D.memory_refusals disk.new }
     ensures no_fault { OnOk result (D.faults disk.new ≡ D.faults disk.old) }
@@ -138,7 +142,8 @@ fn restore_or_refuse<D: Disk>(
 /// Writes each home that holds no text of its page from the newest copy of the page in the
 /// doublewrite file, where there is one: the spaces in order, the pages of each in order, and one
 /// sync of each space that was written, before the next one is. Each slot and each home is read once
-/// at most.
+/// at most; a disk that tells what was done on it is called for these reads, the writes and the syncs
+/// alone.
 ///
 /// # Errors
 /// [`OpenRefuse::DiskFault`] only where the disk's count of faults rose, [`OpenRefuse::OutOfMemory`]
@@ -157,6 +162,7 @@ pub fn restore<D: Disk>(alloc: Global, disk: &mut D, spaces: &[SpaceInfo]) -> Re
     ensures untold { D.past disk.old ≡ None → D.past disk.new ≡ None }
     ensures later { D.is_later disk.old disk.new }
     ensures calls { D.clock disk.new ≤ D.clock disk.old + (slot_count + calls_to spaces.now (length spaces.now)) }
+    ensures told_calls { At (λ s. D.clock disk.new ≤ D.clock disk.old + restore_calls spaces.now s) (D.past disk.old) }
     ensures cause { HasCauseOf DiskFault (D.faults disk.old) (D.faults disk.new) result }
     ensures memory { D.memory_refusals disk.old ≤ D.memory_refusals disk.new }
     ensures no_fault { OnOk result (D.faults disk.new ≡ D.faults disk.old) }

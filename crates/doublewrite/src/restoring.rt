@@ -88,6 +88,7 @@ fn restore_page<D: Disk>(
     ensures untold { D.past disk.old ≡ None → D.past disk.new ≡ None }
     ensures later { D.is_later disk.old disk.new }
     ensures calls { D.clock disk.new ≤ D.clock disk.old + 2 }
+    ensures told_calls { At (λ s. D.clock disk.new ≤ D.clock disk.old + (1 + length (page_write info.now.space number (wanted copies.now s info.now.space number)))) (D.past disk.old) }
     ensures cause { HasDiskCause (D.faults disk.old) (D.faults disk.new) result }
     ensures memory { HasDiskMemoryCause (D.memory_refusals disk.old) (D.memory_refusals disk.new) result }
     ensures no_fault { OnOk result (D.faults disk.new ≡ D.faults disk.old) }
@@ -124,6 +125,7 @@ fn restore_pages<D: Disk>(
     ensures untold { D.past disk.old ≡ None → D.past disk.new ≡ None }
     ensures later { D.is_later disk.old disk.new }
     ensures calls { D.clock disk.new ≤ D.clock disk.old + info.now.pages * 2 }
+    ensures told_calls { At (λ s. D.clock disk.new ≤ D.clock disk.old + (info.now.pages + length (page_writes copies.now s info.now.space info.now.pages))) (D.past disk.old) }
     ensures cause { HasDiskCause (D.faults disk.old) (D.faults disk.new) result }
     ensures memory { HasDiskMemoryCause (D.memory_refusals disk.old) (D.memory_refusals disk.new) result }
     ensures no_fault { OnOk result (D.faults disk.new ≡ D.faults disk.old) }
@@ -171,6 +173,7 @@ pub(crate) fn restore_space<D: Disk>(
     ensures untold { D.past disk.old ≡ None → D.past disk.new ≡ None }
     ensures later { D.is_later disk.old disk.new }
     ensures calls { D.clock disk.new ≤ D.clock disk.old + (info.now.pages * 2 + 1) }
+    ensures told_calls { At (λ s. D.clock disk.new ≤ D.clock disk.old + (info.now.pages + length (space_events copies.now s info.now))) (D.past disk.old) }
     ensures cause { HasDiskCause (D.faults disk.old) (D.faults disk.new) result }
     ensures memory { HasDiskMemoryCause (D.memory_refusals disk.old) (D.memory_refusals disk.new) result }
     ensures no_fault { OnOk result (D.faults disk.new ≡ D.faults disk.old) }

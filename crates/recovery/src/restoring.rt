@@ -8,7 +8,7 @@ ghost use Rattle.places.specs.Batches.{From};
 ghost use Rattle.places.specs.Places.{HasFile};
 ghost use Rattle.page_places.specs.Texts.{slots};
 ghost use Rattle.store_image.specs.View.{slot_count};
-ghost use Rattle.doublewrite.specs.Events.{AreFirstEvents, calls_to, restore_events};
+ghost use Rattle.doublewrite.specs.Events.{AreFirstEvents, calls_to, restore_calls, restore_events};
 ghost use Rattle.doublewrite.specs.Refuse.{IsDiskRefuse};
 ghost use Rattle.doublewrite.specs.Restore.{AreSpacesApart, HaveFiles, IsRestoreEvent};
 ghost use Rattle.doublewrite.specs.declared.refuse.OpenRefuse.TheVariants.{DiskFault, OutOfMemory};
@@ -42,6 +42,7 @@ pub fn restore_homes<D: Disk>(
     ensures untold { D.past disk.old ≡ None → D.past disk.new ≡ None }
     ensures later { D.is_later disk.old disk.new }
     ensures calls { D.clock disk.new ≤ D.clock disk.old + (slot_count + calls_to spaces.now (length spaces.now)) }
+    ensures told_calls { At (λ s. D.clock disk.new ≤ D.clock disk.old + restore_calls spaces.now s) (D.past disk.old) }
     ensures cause { HasCauseOf DiskFault (D.faults disk.old) (D.faults disk.new) result }
     ensures memory { D.memory_refusals disk.old ≤ D.memory_refusals disk.new }
     ensures no_fault { OnOk result (D.faults disk.new ≡ D.faults disk.old) }

@@ -1,11 +1,11 @@
-use Rattle.std.proofs.Common.{◌≡◌, ◌++◌, ◌∙◌, List, Some, length, ap, sym, subst}
+use Rattle.std.proofs.Common.{◌≡◌, ◌++◌, ◌∙◌, List, Some, length, ap, sym, subst, arith, ◌+◌, ◌≤◌}
 use Rattle.std.proofs.lemmas.Result.{on_ok_weaker, on_err_weaker}
 use Rattle.disk_model.specs.Past.{Past, At}
 use Rattle.disk_model.proofs.Moments.{at_both}
 use Rattle.disk_model.specs.Does.{Does}
 use Rattle.places.specs.Batches.{From}
 use Rattle.places.proofs.Batches.{does_failed, from_known}
-use Rattle.doublewrite.specs.Events.{spaces_events, restore_events, AreFirstEvents}
+use Rattle.doublewrite.specs.Events.{homes_to, spaces_events, restore_events, AreFirstEvents}
 use Rattle.doublewrite.proofs.EventSteps.{at_error, front_none}
 use Rattle.doublewrite.specs.Restore.{HaveAll, SpacesFilling, SpacesRestored, IsRestoreEvent}
 use Rattle.doublewrite.specs.declared.listing.Copied.{Copied}
@@ -53,3 +53,14 @@ returns-clause-part g c =
     at_both (λ s listed front. subst (λ (cs : List Copied). AreFirstEvents (spaces_events cs s spaces (length spaces)) s new) listed front) c.in_ok-copies.ensures.copies
     (subst (At (λ s. AreFirstEvents (spaces_events copies s spaces (length spaces)) s new)) c.in_ok-copies.ensures.same part))
     c.restore_spaces.ensures.part
+
+pub returns-in_err-copies-clause-told_calls : goal.returns-in_err-copies-clause-told_calls
+returns-in_err-copies-clause-told_calls g c = record { here = λ s is. omega (arith, c.copies.ensures.calls) }
+
+pub returns-clause-told_calls : goal.returns-clause-told_calls
+returns-clause-told_calls g c =
+    let spaces = c.args.spaces.now in
+    let copies = c.in_ok-copies.copies in
+    at_both (λ s listed sum. omega (arith, sum, c.copies.ensures.calls, ap (λ (cs : List Copied). length (spaces_events cs s spaces (length spaces))) listed)) c.in_ok-copies.ensures.copies
+    (subst (At (λ s. g.D.Disk.clock c.restore_spaces.new.disk ≤ g.D.Disk.clock c.copies.new.disk + (homes_to spaces (length spaces) + length (spaces_events copies s spaces (length spaces))))) c.in_ok-copies.ensures.same
+    c.restore_spaces.ensures.told_calls)

@@ -2,7 +2,7 @@ use Rattle.std.proofs.Common.{◌≡◌, ◌+◌, ◌≤◌, ◌++◌, Some, Non
 use Rattle.disk_model.specs.Past.{At}
 use Rattle.disk_model.specs.Does.{SoFar}
 use Rattle.places.specs.Batches.{From}
-use Rattle.doublewrite.specs.Events.{spaces_events, calls_to}
+use Rattle.doublewrite.specs.Events.{spaces_events, calls_to, homes_to}
 use Rattle.doublewrite.specs.Restore.{HaveAll, IsRestoreEvent, SpacesFilling, AreRestored}
 use Rattle.doublewrite.proofs.recovery.restore_spaces.Given as goal
 
@@ -12,6 +12,7 @@ invariant-loop-i g l = record {
   untold : g.D.Disk.past l.fn.disk ≡ None → g.D.Disk.past l.disk ≡ None;
   exact : At (λ s. g.D.Disk.past l.disk ≡ Some (spaces_events l.copies s l.spaces l.i ++ s)) (g.D.Disk.past l.fn.disk);
   calls : g.D.Disk.clock l.disk ≤ g.D.Disk.clock l.fn.disk + calls_to l.spaces l.i;
+  told_calls : At (λ s. g.D.Disk.clock l.disk ≤ g.D.Disk.clock l.fn.disk + (homes_to l.spaces l.i + length (spaces_events l.copies s l.spaces l.i))) (g.D.Disk.past l.fn.disk);
   size : length l.page ≡ 16384;
   faults : g.D.Disk.faults l.disk ≡ g.D.Disk.faults l.fn.disk;
   memory : g.D.Disk.memory_refusals l.disk ≡ g.D.Disk.memory_refusals l.fn.disk;

@@ -1,11 +1,11 @@
-use Rattle.std.proofs.Common.{◌≡◌, ◌++◌, ◌∙◌, Ok, Some, List, true, if◌then◌else◌, ap, sym, refl, subst, arith, true≢false}
+use Rattle.std.proofs.Common.{◌≡◌, ◌+◌, ◌++◌, ◌∙◌, Ok, Some, List, length, true, if◌then◌else◌, ap, sym, refl, subst, arith, true≢false}
 use Rattle.disk_model.specs.Event.{Event}
 use Rattle.disk_model.proofs.Moments.{at_each}
 use Rattle.disk_model.proofs.Layers.{does_err, so_far_none, so_far_more, so_far_then, so_far_done}
 use Rattle.places.specs.Batches.{From}
 use Rattle.doublewrite.specs.Restore.{PagesFilled, PagesStay}
 use Rattle.doublewrite.specs.Events.{page_writes, is_any}
-use Rattle.doublewrite.proofs.EventSteps.{at_error, at_behind, pages_none, next_page, next_part, next_told}
+use Rattle.doublewrite.proofs.EventSteps.{at_error, at_behind, pages_none, next_calls, next_page, next_part, next_told, pages_calls}
 use Rattle.doublewrite.proofs.RestoreSteps.{pages_begin, pages_now, stays_begin}
 use Rattle.doublewrite.proofs.restoring.restore_pages.Goals as goal
 use Rattle.doublewrite.proofs.restoring.restore_pages.Goals.{then-branch, else-branch}
@@ -22,6 +22,7 @@ loop-number-init g c =
       exact = record { here = λ s is. is ∙ ap (λ (l : List Event). Some (l ++ s)) (sym (pages_none copies info.space s)) };
       told = record { here = λ s is. sym (ap is_any (pages_none copies info.space s)) };
       calls = omega arith;
+      told_calls = record { here = λ s is. omega arith };
       clean = λ is. refl;
       size = c.requires.size;
       faults = refl;
@@ -62,6 +63,7 @@ loop-number-preserved g c =
         | else-branch w ↦ told _ before _ (w.is_written-is ∙ ap (λ b. if b then true else before) (sym w.if-branch.false)) c.loop-number.invariant.told c.in_ok-restore_page.ensures.told
       ];
       calls = omega (arith, c.loop-number.invariant.calls, c.in_ok-restore_page.ensures.calls);
+      told_calls = next_calls copies info k first mid c.loop-number.invariant.exact c.loop-number.invariant.stays _ _ _ c.loop-number.invariant.told_calls c.in_ok-restore_page.ensures.told_calls;
       so_far = λ has. let so_far = c.loop-number.invariant.so_far has in so_far_more so_far (c.in_ok-restore_page.ensures.does first so_far.at);
       stays = c.in_ok-restore_page.ensures.stays first c.loop-number.invariant.stays;
       untold = λ none. c.in_ok-restore_page.ensures.untold (c.loop-number.invariant.untold none);
@@ -95,3 +97,21 @@ returns-clause-told g c =
     let info = c.args.info.now in
     let all : c.loop-number.number ≡ info.pages = omega (arith, c.loop-number.auto.number-end, c.loop-number-test.false) in
     at_each (λ s is. is ∙ ap (λ n. is_any (page_writes copies s info.space n)) all) c.loop-number.invariant.told
+
+-- ---- the calls
+
+pub returns-in_err-restore_page-clause-told_calls : goal.returns-in_err-restore_page-clause-told_calls
+returns-in_err-restore_page-clause-told_calls g c =
+    let copies = c.args.copies.now in
+    let info = c.args.info.now in
+    let k = c.loop-number.number in
+    at_each (λ s sum. omega (arith, sum, pages_calls copies info.space (k + 1) info.pages s (omega (arith, c.loop-number-test.true)), c.loop-number-test.true))
+    (next_calls copies info k (g.D.Disk.past c.args.disk.now) (g.D.Disk.past c.loop-number.disk) c.loop-number.invariant.exact c.loop-number.invariant.stays _ _ _ c.loop-number.invariant.told_calls
+    c.restore_page.ensures.told_calls)
+
+pub returns-clause-told_calls : goal.returns-clause-told_calls
+returns-clause-told_calls g c =
+    let copies = c.args.copies.now in
+    let info = c.args.info.now in
+    let all : c.loop-number.number ≡ info.pages = omega (arith, c.loop-number.auto.number-end, c.loop-number-test.false) in
+    at_each (λ s sum. omega (arith, sum, all, ap (λ n. length (page_writes copies s info.space n)) all)) c.loop-number.invariant.told_calls

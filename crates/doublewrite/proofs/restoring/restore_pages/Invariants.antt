@@ -14,6 +14,7 @@ invariant-loop-number g l = record {
   exact : At (λ s. g.D.Disk.past l.disk ≡ Some (page_writes l.copies s l.info.space l.number ++ s)) (g.D.Disk.past l.fn.disk);
   told : At (λ s. l.is_written ≡ is_any (page_writes l.copies s l.info.space l.number)) (g.D.Disk.past l.fn.disk);
   calls : g.D.Disk.clock l.disk ≤ g.D.Disk.clock l.fn.disk + l.number * 2;
+  told_calls : At (λ s. g.D.Disk.clock l.disk ≤ g.D.Disk.clock l.fn.disk + (l.number + length (page_writes l.copies s l.info.space l.number))) (g.D.Disk.past l.fn.disk);
   clean : l.is_written ≡ false → g.D.Disk.past l.disk ≡ g.D.Disk.past l.fn.disk;
   size : length l.page ≡ 16384;
   faults : g.D.Disk.faults l.disk ≡ g.D.Disk.faults l.fn.disk;
