@@ -6,3 +6,13 @@ pub mod Answered
 pub mod HeadSteps
 pub mod PutGroups
 pub mod RestoredHomes
+pub mod RestoredFiles
+pub mod RoundSteps
+pub mod HomeTexts
+pub mod PoolSteps
+pub mod LoadSteps
+pub mod ChangeSteps
+pub mod SealSteps
+pub mod SealedPages
+pub mod GroupSteps
+pub mod RunSteps

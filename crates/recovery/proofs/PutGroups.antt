@@ -178,16 +178,24 @@ module _ (batch : Texts) (texts : ArePageTexts batch.pages) (few : length batch.
   pub double_stored : (es : List Event) → HasFile Double slots es → HasFile Double slots (slot_events batch ++ es)
   double_stored es has = file_sync Double Double slots (writes_of Double 16896 (slot_batch batch) (length batch.pages) ++ es) (writes_fit Double Double slots 16896 (slot_batch batch) (length batch.pages) slot_fits es has)
 
+  -- what is beside the doublewrite file
+  pub left_stored : (g : FileName) → same_file g Double ≡ false → (layout : Layout) (es : List Event) → HasFile g layout es → HasFile g layout (slot_events batch ++ es)
+  left_stored g apart layout es has =
+      file_left_alone g layout es (slot_events batch ++ es) (record { news = slot_events batch; is = refl; all = (apart, writes_leave Double g apart 16896 (slot_batch batch) (length batch.pages)) }) has
+
+  -- and beside the space
+  pub left_homed : (g : FileName) → same_file g (Space batch.space) ≡ false → (layout : Layout) (es : List Event) → HasFile g layout es → HasFile g layout (home_events batch ++ es)
+  left_homed g apart layout es has =
+      file_left_alone g layout es (home_events batch ++ es) (record { news = home_events batch; is = refl; all = (apart, writes_leave (Space batch.space) g apart 16384 (home_batch batch) (length batch.pages)) }) has
+
   pub space_stored : (y count : ℕ) (es : List Event) → HasFile (Space y) (pages count) es → HasFile (Space y) (pages count) (slot_events batch ++ es)
-  space_stored y count es has =
-      file_left_alone (Space y) (pages count) es (slot_events batch ++ es) (record { news = slot_events batch; is = refl; all = (refl, writes_leave Double (Space y) refl 16896 (slot_batch batch) (length batch.pages)) }) has
+  space_stored y count es has = left_stored (Space y) refl (pages count) es has
 
   pub fits_stored : (es : List Event) → (count : ℕ) × FitsSpace batch count es → (count : ℕ) × FitsSpace batch count (slot_events batch ++ es)
   fits_stored es (count, fits) = (count, record { file = space_stored batch.space count es fits.file; within = fits.within })
 
   pub double_homed : (es : List Event) → HasFile Double slots es → HasFile Double slots (home_events batch ++ es)
-  double_homed es has =
-      file_left_alone Double slots es (home_events batch ++ es) (record { news = home_events batch; is = refl; all = (refl, writes_leave (Space batch.space) Double refl 16384 (home_batch batch) (length batch.pages)) }) has
+  double_homed es has = left_homed Double refl slots es has
 
   pub space_homed : (y count : ℕ) (es : List Event) → (n : ℕ) × FitsSpace batch n es → HasFile (Space y) (pages count) es → HasFile (Space y) (pages count) (home_events batch ++ es)
   space_homed y count es (n, fits) has = ⊎_elim

@@ -5,3 +5,9 @@ pub mod Notes
 pub mod Heads
 pub mod Putting
 pub mod Restoring
+pub mod Rounds
+pub mod Loading
+pub mod Changing
+pub mod Sealing
+pub mod Groups
+pub mod Applying

@@ -16,31 +16,48 @@
 //! Behind them stand the parts that write to homes: [`restore_homes`] writes the torn ones from
 //! their copies, and [`put_group`] a group of sealed pages. Each lucky image of each moment of theirs
 //! recovers to what was opened.
+//!
+//! Of what applies the run's later changes between these two, a round of pages at a time: [`next_range`]
+//! finds the pages that a round takes, [`load_pages`] loads them from their homes into a pool, and
+//! [`apply_text`] makes the changes of a mini-transaction there; [`seal_range`] seals pages of it, and
+//! [`write_group`] puts a group of them.
 #![tactic(auto)]
 
+mod changing;
 mod checkpoint;
 mod floors;
+mod groups;
 mod header;
 mod heads;
 mod layout;
 mod lengths;
+mod loading;
 mod notes;
 mod pages;
 mod putting;
 mod reading;
 mod restoring;
+mod rounds;
+mod sealing;
 
+pub use changing::apply_text;
 pub use checkpoint::find_checkpoint;
 pub use floors::{check_floors, check_numbers};
+pub use groups::write_group;
 pub use header::find_header;
 pub use heads::{HeadField, Width, find_heads};
 pub use lengths::check_lengths;
+pub use loading::{Loaded, load_pages};
 pub use notes::{NoteSource, PageNote, PageNotes, SpaceNotes};
 pub use pages::find_pages;
 pub use putting::put_group;
 pub use restoring::restore_homes;
+pub use rounds::{Round, next_range};
+pub use sealing::{SealKey, seal_range};
 
 #[cfg(test)]
 mod fixture;
+#[cfg(test)]
+mod round_tests;
 #[cfg(test)]
 mod tests;

@@ -4,7 +4,7 @@ ghost use Rattle.disk_model.specs.Does.{Does};
 ghost use Rattle.disk_model.specs.Event.{Event};
 ghost use Rattle.disk_model.specs.Past.{At, Throughout, HasDiskCause, HasDiskMemoryCause};
 ghost use Rattle.disk_model.specs.declared.names.DiskError.TheVariants.{NoMemory};
-ghost use Rattle.disk_model.specs.declared.names.FileName.TheVariants.{Double, Space};
+ghost use Rattle.disk_model.specs.declared.names.FileName.TheVariants.{Double, Log, Space};
 ghost use Rattle.places.specs.Batches.{From};
 ghost use Rattle.places.specs.Places.{HasFile};
 ghost use Rattle.places.specs.Writes.{grows};
@@ -12,6 +12,7 @@ ghost use Rattle.page_places.specs.Texts.{pages, slots};
 ghost use Rattle.store_image.specs.View.{slot_count};
 ghost use Rattle.doublewrite.specs.Batch.{home_events, slot_events};
 ghost use Rattle.doublewrite.specs.Layer.{ArePagesDistinct, FitsSpace};
+ghost use Rattle.crash_image.specs.LogForm.{log_places};
 ghost use Rattle.crash_image.specs.Opened.{StoreOpened, IsOpenedAt};
 ghost use Rattle.recovery.specs.Putting.{BetweenGroups, ImagesRecover, IsGroupApplied, IsGroupEvent, IsGroupPart, IsSealedBatch, MayApplyGroups};
 
@@ -39,6 +40,7 @@ pub fn put_group<D: Disk>(disk: &mut D, batch: &Texts) -> Result<(), DiskError>
     ensures part { OnErr result (IsGroupPart batch.now (D.past disk.old) (D.past disk.new)) }
     ensures double { OnOk result (At (HasFile Double slots) (D.past disk.new)) }
     ensures spaces { OnOk result ((z count : ℕ) → At (HasFile (Space z) (pages count)) (D.past disk.old) → At (HasFile (Space z) (pages count)) (D.past disk.new)) }
+    ensures log { OnOk result ((n : ℕ) → At (HasFile Log (log_places n)) (D.past disk.old) → At (HasFile Log (log_places n)) (D.past disk.new)) }
     ensures later { D.is_later disk.old disk.new }
     ensures calls { D.clock disk.new ≤ D.clock disk.old + (length batch.now.pages + 1) * 2 }
     ensures cause { HasDiskCause (D.faults disk.old) (D.faults disk.new) result }

@@ -3,15 +3,19 @@ ghost use Rattle.std.specs.Prelude.{◌≡◌, ◌+◌, ◌≤◌, ◌++◌, ℕ
 ghost use Rattle.cause_core.specs.Cause.{HasCauseOf};
 ghost use Rattle.disk_model.specs.Does.{Does};
 ghost use Rattle.disk_model.specs.Past.{At};
-ghost use Rattle.disk_model.specs.declared.names.FileName.TheVariants.{Double};
+ghost use Rattle.disk_model.specs.declared.names.FileName.TheVariants.{Double, Log};
 ghost use Rattle.places.specs.Batches.{From};
 ghost use Rattle.places.specs.Places.{HasFile};
 ghost use Rattle.page_places.specs.Texts.{slots};
-ghost use Rattle.store_image.specs.View.{slot_count};
+ghost use Rattle.page_places.specs.Views.{IsReadAs};
+ghost use Rattle.store_image.specs.Places.{log_of};
+ghost use Rattle.store_image.specs.View.{View, slot_count};
+ghost use Rattle.doublewrite.specs.Chosen.{ChosenHold, ChosenMay};
 ghost use Rattle.doublewrite.specs.Events.{AreFirstEvents, calls_to, restore_calls, restore_events};
 ghost use Rattle.doublewrite.specs.Refuse.{IsDiskRefuse};
-ghost use Rattle.doublewrite.specs.Restore.{AreSpacesApart, HaveFiles, IsRestoreEvent};
+ghost use Rattle.doublewrite.specs.Restore.{AreSpacesApart, HaveAll, HaveFiles, HomesRestored, HomesRestoring, IsRestoreEvent};
 ghost use Rattle.doublewrite.specs.declared.refuse.OpenRefuse.TheVariants.{DiskFault, OutOfMemory};
+ghost use Rattle.crash_image.specs.LogForm.{log_places};
 ghost use Rattle.crash_image.specs.Opened.{StoreOpened, IsOpenedAt};
 ghost use Rattle.recovery.specs.Putting.{BetweenGroups, ImagesRecover};
 ghost use Rattle.recovery.specs.Restoring.{AreAllListed};
@@ -36,9 +40,14 @@ pub fn restore_homes<D: Disk>(
     requires double { At (HasFile Double slots) (D.past disk.old) }
     requires places { At (HaveFiles spaces.now) (D.past disk.old) }
     ensures restores { (o : StoreOpened) (last : ℕ) → At (IsOpenedAt o last) (D.past disk.old) → AreAllListed o.header.spaces spaces.now → Does (ImagesRecover o last) (IsRestoreEvent spaces.now) (From (BetweenGroups o) (D.past disk.old)) (D.past disk.old) (D.past disk.new) result }
+    ensures does { At (HaveAll spaces.now) (D.past disk.old) → Does (From (HomesRestoring spaces.now) (D.past disk.old)) (IsRestoreEvent spaces.now) (From (HomesRestored spaces.now) (D.past disk.old)) (D.past disk.old) (D.past disk.new) result }
+    ensures chosen { At (HaveAll spaces.now) (D.past disk.old) → (v : View (Unit {0})) → At (IsReadAs (λ l. l ≡ log_of v) v) (D.past disk.old) → Does (ChosenMay v) (IsRestoreEvent spaces.now) (ChosenHold v spaces.now) (D.past disk.old) (D.past disk.new) result }
     ensures refuses { IfErr result IsDiskRefuse }
     ensures exact { OnOk result (At (λ s. D.past disk.new ≡ Some (restore_events spaces.now s ++ s)) (D.past disk.old)) }
     ensures part { OnErr result (At (λ s. AreFirstEvents (restore_events spaces.now s) s (D.past disk.new)) (D.past disk.old)) }
+    ensures double { OnOk result (At (HasFile Double slots) (D.past disk.new)) }
+    ensures files { OnOk result (At (HaveFiles spaces.now) (D.past disk.new)) }
+    ensures log { OnOk result ((n : ℕ) → At (HasFile Log (log_places n)) (D.past disk.old) → At (HasFile Log (log_places n)) (D.past disk.new)) }
     ensures untold { D.past disk.old ≡ None → D.past disk.new ≡ None }
     ensures later { D.is_later disk.old disk.new }
     ensures calls { D.clock disk.new ≤ D.clock disk.old + (slot_count + calls_to spaces.now (length spaces.now)) }

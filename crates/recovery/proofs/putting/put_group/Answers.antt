@@ -1,7 +1,7 @@
-use Rattle.std.proofs.Common.{◌≡◌, ℕ, ◌<◌, ◌^◌, ◌∙◌, Some, length, ap, subst, inl, inr, rules}
+use Rattle.std.proofs.Common.{◌≡◌, ℕ, ◌<◌, ◌^◌, ◌∙◌, Some, length, refl, ap, subst, inl, inr, rules}
 use Rattle.std.proofs.lemmas.Result.{on_ok_weaker, on_err_weaker}
 use Rattle.disk_model.specs.Past.{Past, At}
-use Rattle.disk_model.specs.declared.names.FileName.TheVariants.{Double, Space}
+use Rattle.disk_model.specs.declared.names.FileName.TheVariants.{Double, Log, Space}
 use Rattle.disk_model.proofs.Layers.{does_err, does_then}
 use Rattle.disk_model.proofs.Moments.{at_both, at_each, weaker}
 use Rattle.places.specs.Batches.{From}
@@ -9,11 +9,12 @@ use Rattle.places.specs.Places.{HasFile}
 use Rattle.places.specs.Writes.{IsPart, grows}
 use Rattle.places.proofs.Batches.{lift_from}
 use Rattle.page_places.specs.Texts.{pages, slots}
+use Rattle.crash_image.specs.LogForm.{log_places}
 use Rattle.doublewrite.specs.Layer.{FitsSpace}
 use Rattle.doublewrite.specs.Batch.{home_batch, home_events, slot_events}
 use Rattle.doublewrite.proofs.EventSteps.{at_error}
 use Rattle.recovery.specs.Putting.{BetweenGroups, StillDone, InSlots, InHomes}
-use Rattle.recovery.proofs.PutGroups.{IsGroupStored, at_grown, done_stored, double_homed, double_places, double_stored, fits_stored, from_start, group_applied, group_homed, group_homing, group_stored, group_storing, groups_recover, space_homed, space_stored}
+use Rattle.recovery.proofs.PutGroups.{IsGroupStored, at_grown, done_stored, double_homed, double_places, double_stored, fits_stored, from_start, group_applied, group_homed, group_homing, group_stored, group_storing, groups_recover, left_homed, left_stored, space_homed, space_stored}
 use Rattle.recovery.proofs.putting.put_group.Goals as goal
 
 pub home-requires-clause-inside : goal.home-requires-clause-inside
@@ -84,6 +85,16 @@ returns-clause-spaces g c =
     let fits = at_grown (slot_events batch) (fits_stored batch texts most) old mid c.in_ok-store.ensures.exact c.requires.inside in
     on_ok_weaker c.home.result (λ e. λ y count has.
     at_grown {P = λ es. ((n : ℕ) × FitsSpace batch n es) × HasFile (Space y) (pages count) es} (home_events batch) (λ es k. space_homed batch texts most y count es k.0 k.1) mid _ e (at_both (λ es f h. (f, h)) fits (at_grown (slot_events batch) (space_stored batch texts most y count) old mid c.in_ok-store.ensures.exact has))) c.home.ensures.exact
+
+pub returns-clause-log : goal.returns-clause-log
+returns-clause-log g c =
+    let batch = c.args.batch.now in
+    let texts = c.are_texts.ensures in
+    let most = c.requires.most in
+    let old = g.D.Disk.past c.args.disk.now in
+    let mid = g.D.Disk.past c.store.new.disk in
+    on_ok_weaker c.home.result (λ e. λ n has.
+    at_grown (home_events batch) (left_homed batch texts most Log refl (log_places n)) mid _ e (at_grown (slot_events batch) (left_stored batch texts most Log refl (log_places n)) old mid c.in_ok-store.ensures.exact has)) c.home.ensures.exact
 
 pub returns-in_err-store-clause-recovers : goal.returns-in_err-store-clause-recovers
 returns-in_err-store-clause-recovers g c = λ o last s opened between sealed. weaker (λ m may. groups_recover o last s opened m may) (returns-in_err-store-clause-applies g c o s between sealed).moments
