@@ -40,6 +40,11 @@ module _ (ring : List RingEntry) (files : Option Files) (name : List ℕ) (old n
       stands_next old.stage event new.stage end
       (subst (λ (x : Result (Option BinlogEvent) BinlogFault). IfOk x (λ found. IfSome found (λ e. IsBehindEvent old.stage e new.stage))) is advances.behind) ends
 
+  -- the reader isn't at its start any more
+  pub not_start : (event : BinlogEvent) → r ≡ Ok (Some event) → new.stage ≡ Start → ⊥
+  not_start event is at =
+      subst (λ (s : Stage). IsBehindEvent old.stage event s) at (subst (λ (x : Result (Option BinlogEvent) BinlogFault). IfOk x (λ found. IfSome found (λ e. IsBehindEvent old.stage e new.stage))) is advances.behind)
+
   read_event : (event : BinlogEvent) (events : List BinlogEvent) → r ≡ Ok (Some event) → (fs : Files) → files ≡ Some fs → ReadTo ring (fs name) old.stage events → ReadTo ring (fs name) new.stage (events ++ event ∷ [])
   read_event event events is fs told read =
       let next = answer_some event is fs told in

@@ -8,3 +8,4 @@ pub mod WordsListings
 pub mod WordsMatches
 pub mod Reached
 pub mod FirstStops
+pub mod Counted

@@ -49,6 +49,29 @@ IsListStop (Log fault) = ⊥
 IsListStop Usage = ⊥
 IsListStop (Key fault) = ⊥
 
+-- each status but that of a file that isn't there
+abbrev pub IsStatusOfPresent : ListStatus → Type 0
+IsStatusOfPresent Done = Unit {0}
+IsStatusOfPresent (Log log.Missing) = ⊥
+IsStatusOfPresent (Log log.BadMagic) = Unit {0}
+IsStatusOfPresent (Log (log.ShortEvent at wanted found)) = Unit {0}
+IsStatusOfPresent (Log (log.BadLength at length)) = Unit {0}
+IsStatusOfPresent (Log (log.NoFormat kind)) = Unit {0}
+IsStatusOfPresent (Log (log.Algorithm number)) = Unit {0}
+IsStatusOfPresent (Log (log.Scheme number)) = Unit {0}
+IsStatusOfPresent (Log (log.MissingKey version)) = Unit {0}
+IsStatusOfPresent (Log (log.Checksum at stored computed)) = Unit {0}
+IsStatusOfPresent (Log log.FileFault) = Unit {0}
+IsStatusOfPresent (Log log.OutOfMemory) = Unit {0}
+IsStatusOfPresent Usage = Unit {0}
+IsStatusOfPresent (Key (key.Missing name)) = ⊥
+IsStatusOfPresent (Key (key.KeyFile index fault)) = Unit {0}
+IsStatusOfPresent (Key key.FileFault) = Unit {0}
+IsStatusOfPresent (Key key.OutOfMemory) = Unit {0}
+IsStatusOfPresent FileFault = Unit {0}
+IsStatusOfPresent OutFault = Unit {0}
+IsStatusOfPresent OutOfMemory = Unit {0}
+
 -- how the loading of the keys may stop, and how the listing of the log may
 abbrev pub IsKeyStop : ListStatus → Type 0
 IsKeyStop FileFault = Unit {0}

@@ -1,12 +1,12 @@
 // The listing of one log.
 
-ghost use Rattle.std.specs.Prelude.{◌≡◌, ◌≢◌, ◌⊎◌, ◌++◌, [], ℕ, List, Ok, Err, Option, IfErr, IsErrAnd, IsErrOf, MatchResult, string_bytes};
+ghost use Rattle.std.specs.Prelude.{◌≡◌, ◌≢◌, ◌≤◌, ◌⊎◌, ◌++◌, [], ℕ, List, Ok, Err, Option, IfErr, IsErrAnd, IsErrOf, OnOk, MatchResult, string_bytes};
 ghost use Rattle.io_core.specs.Told.{Told};
 ghost use Rattle.io_core.specs.Stream.{IsPartlyGiven, extended};
 ghost use Rattle.binlog_cli.specs.EventLines.{end_line};
 ghost use Rattle.binlog_cli.specs.Printed.{IsPrinted};
 ghost use Rattle.binlog_cli.specs.Listing.{HasLogListing, IsStoppedAt, refused_place};
-ghost use Rattle.binlog_cli.specs.Stops.{FileCauses, IsListStop, IsLogStop, PrintCauses, first_stop, list_status_of, log_stop};
+ghost use Rattle.binlog_cli.specs.Stops.{FileCauses, IsListStop, IsLogStop, IsStatusOfPresent, PrintCauses, first_stop, list_status_of, log_stop};
 
 use crate::ListStatus;
 use crate::lines::{end_line, event_lines};
@@ -32,6 +32,8 @@ fn end_of_log<K: Sink>(
     ensures stop { IfErr result IsListStop }
     ensures cause { PrintCauses (K.faults out.old) (K.faults out.new) result }
     ensures no_out_fault { list_status_of result ≢ ListStatus.OutFault → K.faults out.new ≡ K.faults out.old }
+    ensures refusals_later { K.memory_refusals out.old ≤ K.memory_refusals out.new }
+    ensures no_refusal { OnOk result (K.memory_refusals out.new ≡ K.memory_refusals out.old) }
     ensures inside { result ≢ Err ListStatus.FileFault }
 {
     let line = end_line(alloc, length)?;
@@ -52,6 +54,9 @@ fn end_by_fault<K: Sink>(
     ensures answer { ((result ≡ Err (log_stop fault)) × (reached.new ≡ refused_place reached.old fault)) ⊎ (((result ≡ Err ListStatus.OutFault) × (text.now ≢ []) × (reached.new ≡ reached.old)) ⊎ ((result ≡ Err ListStatus.OutOfMemory) × (reached.new ≡ reached.old))) }
     ensures cause { PrintCauses (K.faults out.old) (K.faults out.new) result }
     ensures no_out_fault { list_status_of result ≢ ListStatus.OutFault → list_status_of result ≢ ListStatus.FileFault → K.faults out.new ≡ K.faults out.old }
+    ensures refusals_later { K.memory_refusals out.old ≤ K.memory_refusals out.new }
+    ensures no_refusal { IsListStop (list_status_of result) ⊎ (K.memory_refusals out.new ≡ K.memory_refusals out.old) }
+    ensures whole { text.now ≡ [] → result ≡ Err (log_stop fault) }
     ensures file_first { fault ≡ BinlogFault.FileFault → result ≡ Err ListStatus.FileFault }
 {
     match give_text(out, text) {
@@ -84,6 +89,11 @@ pub(crate) fn list_log<L: Library, K: Sink>(
     ensures sink { PrintCauses (K.faults out.old) (K.faults out.new) result }
     ensures no_file_fault { list_status_of result ≢ ListStatus.FileFault → L.faults files.new ≡ L.faults files.old }
     ensures no_out_fault { list_status_of result ≢ ListStatus.OutFault → list_status_of result ≢ ListStatus.FileFault → K.faults out.new ≡ K.faults out.old }
+    ensures present { IsStatusOfPresent (list_status_of result) → L.absences files.new ≡ L.absences files.old }
+    ensures refusals_later { L.memory_refusals files.old ≤ L.memory_refusals files.new }
+    ensures out_refusals_later { K.memory_refusals out.old ≤ K.memory_refusals out.new }
+    ensures no_refusal { IsListStop (list_status_of result) ⊎ (L.memory_refusals files.new ≡ L.memory_refusals files.old) }
+    ensures no_out_refusal { IsListStop (list_status_of result) ⊎ (K.memory_refusals out.new ≡ K.memory_refusals out.old) }
     ensures due { IsErrOf result ListStatus.FileFault → L.failed_last files.new name.now }
     ensures reached { Told (λ fs. IsStoppedAt ring.now (fs name.now) (list_status_of result) reached.new) (L.files files.old) }
 {

@@ -1,6 +1,6 @@
 // Text that is gathered, and given in pieces.
 
-ghost use Rattle.std.specs.Prelude.{◌≡◌, ◌≢◌, ◌++◌, [], Err, ℕ, List, Option, IfErr, MatchResult, OnOk, OnErr, string_bytes};
+ghost use Rattle.std.specs.Prelude.{◌≡◌, ◌≢◌, ◌≤◌, ◌++◌, [], Err, ℕ, List, Option, IfErr, MatchResult, OnOk, OnErr, string_bytes};
 ghost use Rattle.io_core.specs.Stream.{IsPartlyGiven, extended};
 ghost use Rattle.binlog_cli.specs.Printed.{IsPrinted};
 ghost use Rattle.binlog_cli.specs.Stops.{IsListStop, PrintCauses, list_status_of};
@@ -19,8 +19,11 @@ pub(crate) fn give_text<K: Sink>(out: &mut K, text: &str) -> Result<(), ListStat
     ensures stop { IfErr result IsListStop }
     ensures cause { PrintCauses (K.faults out.old) (K.faults out.new) result }
     ensures no_out_fault { list_status_of result ≢ ListStatus.OutFault → K.faults out.new ≡ K.faults out.old }
+    ensures refusals_later { K.memory_refusals out.old ≤ K.memory_refusals out.new }
+    ensures no_refusal { OnOk result (K.memory_refusals out.new ≡ K.memory_refusals out.old) }
     ensures inside { result ≢ Err ListStatus.FileFault }
     ensures some { result ≡ Err ListStatus.OutFault → text.now ≢ [] }
+    ensures spoken { OnErr result (text.now ≢ []) }
 {
     if text.is_empty() {
         return Ok(());
@@ -43,6 +46,8 @@ pub(crate) fn print_lines<K: Sink>(
     ensures stop { IfErr result IsListStop }
     ensures cause { PrintCauses (K.faults out.old) (K.faults out.new) result }
     ensures no_out_fault { list_status_of result ≢ ListStatus.OutFault → K.faults out.new ≡ K.faults out.old }
+    ensures refusals_later { K.memory_refusals out.old ≤ K.memory_refusals out.new }
+    ensures no_refusal { OnOk result (K.memory_refusals out.new ≡ K.memory_refusals out.old) }
     ensures inside { result ≢ Err ListStatus.FileFault }
     ensures some { result ≡ Err ListStatus.OutFault → string_bytes text.old ++ lines.now ≢ [] }
 {

@@ -5,7 +5,7 @@ ghost use Rattle.cause_core.specs.Counts.{Rose};
 ghost use Rattle.io_core.specs.Told.{Told};
 ghost use Rattle.clap.specs.Words.{fault_of, kind_of, takes};
 ghost use Rattle.binlog_cli.specs.Listing.{HasLogListing, IsOnlyListing, IsStoppedAt, Listing, ListsOne};
-ghost use Rattle.binlog_cli.specs.Stops.{FileCauses, PrintCauses};
+ghost use Rattle.binlog_cli.specs.Stops.{FileCauses, IsListStop, IsStatusOfPresent, PrintCauses};
 ghost use Rattle.binlog_cli.specs.Words.{IsAskedBy, IsDueAt, IsEndedAt, IsWordsListing, ListValues, is_within_limits, list_command, list_values_in};
 
 use crate::keys::load_ring;
@@ -32,6 +32,11 @@ fn list_keyed<L: Library, K: Sink>(
     ensures sink { PrintCauses {T = Unit {0}} (K.faults out.old) (K.faults out.new) (Err result.status) }
     ensures no_file_fault { result.status ≢ ListStatus.FileFault → L.faults files.new ≡ L.faults files.old }
     ensures no_out_fault { result.status ≢ ListStatus.OutFault → result.status ≢ ListStatus.FileFault → K.faults out.new ≡ K.faults out.old }
+    ensures present { IsStatusOfPresent result.status → L.absences files.new ≡ L.absences files.old }
+    ensures refusals_later { L.memory_refusals files.old ≤ L.memory_refusals files.new }
+    ensures out_refusals_later { K.memory_refusals out.old ≤ K.memory_refusals out.new }
+    ensures no_refusal { IsListStop result.status ⊎ (L.memory_refusals files.new ≡ L.memory_refusals files.old) }
+    ensures no_out_refusal { IsListStop result.status ⊎ (K.memory_refusals out.new ≡ K.memory_refusals out.old) }
     ensures due { result.status ≡ ListStatus.FileFault → L.failed_last files.new asked.now.name.now }
     ensures reached { (place : ℕ) × (result.reached ≡ Some place) × Told (λ fs. IsStoppedAt ring.now (fs asked.now.name.now) result.status place) (L.files files.old) }
 {
@@ -70,6 +75,11 @@ fn list_asked<L: Library, K: Sink>(
     ensures sink { PrintCauses {T = Unit {0}} (K.faults out.old) (K.faults out.new) (Err result.status) }
     ensures no_file_fault { result.status ≢ ListStatus.FileFault → L.faults files.new ≡ L.faults files.old }
     ensures no_out_fault { result.status ≢ ListStatus.OutFault → result.status ≢ ListStatus.FileFault → K.faults out.new ≡ K.faults out.old }
+    ensures present { IsStatusOfPresent result.status → L.absences files.new ≡ L.absences files.old }
+    ensures refusals_later { L.memory_refusals files.old ≤ L.memory_refusals files.new }
+    ensures out_refusals_later { K.memory_refusals out.old ≤ K.memory_refusals out.new }
+    ensures no_refusal { IsListStop result.status ⊎ (L.memory_refusals files.new ≡ L.memory_refusals files.old) }
+    ensures no_out_refusal { IsListStop result.status ⊎ (K.memory_refusals out.new ≡ K.memory_refusals out.old) }
     ensures due { (values : ListValues) → IsAskedBy values asked.now → result.status ≡ ListStatus.FileFault → Told (λ fs. (due : List ℕ) × IsDueAt values fs result.reached due × L.failed_last files.new due) (L.files files.old) }
     ensures reached { (values : ListValues) → IsAskedBy values asked.now → Told (λ fs. IsEndedAt values fs result.status result.reached) (L.files files.old) }
     ensures words { result.status ≢ ListStatus.Usage }
@@ -115,6 +125,13 @@ pub fn list_binlog<L: Library, K: Sink>(
     // sink only where it is `OutFault`, or where the file failed first.
     ensures no_file_fault { result.status ≢ ListStatus.FileFault → L.faults files.new ≡ L.faults files.old }
     ensures no_out_fault { result.status ≢ ListStatus.OutFault → result.status ≢ ListStatus.FileFault → K.faults out.new ≡ K.faults out.old }
+    // The count of absences of the library rises only where a file that is asked for is missing, and its count of refused memory, as
+    // that of the sink, only where the status is a fault of one of them or want of memory.
+    ensures present { IsStatusOfPresent result.status → L.absences files.new ≡ L.absences files.old }
+    ensures refusals_later { L.memory_refusals files.old ≤ L.memory_refusals files.new }
+    ensures out_refusals_later { K.memory_refusals out.old ≤ K.memory_refusals out.new }
+    ensures no_refusal { IsListStop result.status ⊎ (L.memory_refusals files.new ≡ L.memory_refusals files.old) }
+    ensures no_out_refusal { IsListStop result.status ⊎ (K.memory_refusals out.new ≡ K.memory_refusals out.old) }
     // A fault of the library is that of a file that was due.
     ensures due { result.status ≡ ListStatus.FileFault → Told (λ fs. (due : List ℕ) × IsDueAt (list_values_in words.now) fs result.reached due × L.failed_last files.new due) (L.files files.old) }
     // Where the log was reached: at its end, at the event that is refused, or behind those that were read. Bytes of the log
@@ -158,6 +175,13 @@ pub fn binlog<L: Library, K: Sink>(
     // sink only where it is `OutFault`, or where the file failed first.
     ensures no_file_fault { result ≢ ListStatus.FileFault → L.faults files.new ≡ L.faults files.old }
     ensures no_out_fault { result ≢ ListStatus.OutFault → result ≢ ListStatus.FileFault → K.faults out.new ≡ K.faults out.old }
+    // The count of absences of the library rises only where a file that is asked for is missing, and its count of refused memory, as
+    // that of the sink, only where the status is a fault of one of them or want of memory.
+    ensures present { IsStatusOfPresent result → L.absences files.new ≡ L.absences files.old }
+    ensures refusals_later { L.memory_refusals files.old ≤ L.memory_refusals files.new }
+    ensures out_refusals_later { K.memory_refusals out.old ≤ K.memory_refusals out.new }
+    ensures no_refusal { IsListStop result ⊎ (L.memory_refusals files.new ≡ L.memory_refusals files.old) }
+    ensures no_out_refusal { IsListStop result ⊎ (K.memory_refusals out.new ≡ K.memory_refusals out.old) }
     // How far the log was reached, if at all, is one place for both: the listing stopped there, where bytes of the log were due at a
     // fault of it and text at one of the output; and a fault of the library is that of a file that was due there.
     ensures ends { Told (λ fs. (reached : Option ℕ) × IsEndedAt (list_values_in words.now) fs result reached

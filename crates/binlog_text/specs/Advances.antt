@@ -11,21 +11,20 @@ use Rattle.binlog_text.specs.Sealed.{StandsStored}
 use Rattle.binlog_text.specs.declared.fault.BinlogFault.{BinlogFault}
 use Rattle.binlog_text.specs.declared.fault.BinlogFault.TheVariants.{FileFault, Missing}
 use Rattle.binlog_text.specs.declared.reader.LogReader.{LogReader}
-use Rattle.binlog_text.specs.declared.stage.Position.{Position}
 use Rattle.binlog_text.specs.declared.stage.Stage.{Stage}
-use Rattle.binlog_text.specs.declared.stage.Stage.TheVariants.{Events, Refused}
+use Rattle.binlog_text.specs.declared.stage.Stage.TheVariants.{Refused}
 
 -- Unless it comes from outside, the answer is the definition's where the library tells its files, and what the reader rests
 -- on holds at its new stage. An event is the one at the old stage, over any library, and the new one stands behind it; the
 -- file has it at the old stage's place, in clear or enciphered. The buffer grows to one piece of the file, or to what the file has of the event that is due, where the library tells its files;
 -- over any library to the most bytes of an event. After a fault of the file or want of memory the reader stands where it stood,
--- and holds the bytes that it held behind the events before; at the start it holds none that it looks at.
+-- and holds the bytes that it held; at the start these are none.
 pub record Advances (ring : List RingEntry) (files : Option Files) (name : List ℕ) (old new : LogReader) (result : Result (Option BinlogEvent) BinlogFault) : Type 0 where
   pub answer : Told (λ fs. is_outside_fault result ≡ false → IsAnswer (answered ring (fs name) old.stage) new.stage result) files
   pub sealed : Told (λ fs. IfOk result (λ found. IfSome found (StandsStored ring (fs name) (placed (fs name) old.stage)))) files
   pub keeps : Told (λ fs. Keeps (fs name) new.stage new.buffer.rest) files
   pub stage : IsStage old.stage new.stage result
-  pub held : (position : Position) → old.stage ≡ Events position → is_outside_fault result ≡ true → new.buffer.rest ≡ old.buffer.rest
+  pub held : is_outside_fault result ≡ true → new.buffer.rest ≡ old.buffer.rest
   pub behind : IfOk result (λ found. IfSome found (λ event. IsBehindEvent old.stage event new.stage))
   pub room : new.buffer.room ≤ max old.buffer.room 16777216
   pub grown : Told (λ fs. new.buffer.room ≤ max old.buffer.room (max 65536 (due_at (fs name) old.stage))) files

@@ -148,6 +148,9 @@ impl EventBuffer {
         ensures causes { HasBinlogCauses (L.faults files.old) (L.faults files.new) (L.absences files.old) (L.absences files.new) result }
         ensures no_fault { is_outside_fault result ≡ false → L.faults files.new ≡ L.faults files.old }
         ensures no_fault_at_want { IsErrOf result BinlogFault.OutOfMemory → L.faults files.new ≡ L.faults files.old }
+        ensures absences { L.absences files.new ≡ L.absences files.old }
+        ensures refusals_later { L.memory_refusals files.old ≤ L.memory_refusals files.new }
+        ensures no_refusal { is_outside_fault result ≡ false → L.memory_refusals files.new ≡ L.memory_refusals files.old }
         ensures failed { IsErrOf result BinlogFault.FileFault → L.failed_last files.new name.now }
         ensures outside { IfErr result (λ fault. is_outside fault ≡ true) }
     {
@@ -195,6 +198,9 @@ impl EventBuffer {
         ensures causes { HasBinlogCauses (L.faults files.old) (L.faults files.new) (L.absences files.old) (L.absences files.new) result }
         ensures no_fault { is_outside_fault result ≡ false → L.faults files.new ≡ L.faults files.old }
         ensures no_fault_at_want { IsErrOf result BinlogFault.OutOfMemory → L.faults files.new ≡ L.faults files.old }
+        ensures absences { L.absences files.new ≡ L.absences files.old }
+        ensures refusals_later { L.memory_refusals files.old ≤ L.memory_refusals files.new }
+        ensures no_refusal { is_outside_fault result ≡ false → L.memory_refusals files.new ≡ L.memory_refusals files.old }
         ensures failed { IsErrOf result BinlogFault.FileFault → L.failed_last files.new name.now }
         ensures outside { IfErr result (λ fault. is_outside fault ≡ true) }
         ensures wanted { IsErrOf result BinlogFault.FileFault → length self.old.rest < need }

@@ -10,11 +10,12 @@
 //!    values.
 //! 3. An event that is given is the bytes of the file at its place, or enciphers to them under the key
 //!    and nonce that the start encryption before it names (`StandsStored`).
-//! 4. After a fault of the file or want of memory the reader stands where it stood, with the bytes that
-//!    it had read ahead; after every other refusal it answers the same again. A fault of the file is one
-//!    of the log's name, and comes only where bytes of the next event, or of its header, are to be read
-//!    that the reader doesn't hold (`WantsFile`). A fault is never dropped: at every other answer the
-//!    library's count of faults stood still.
+//! 4. After a fault of the file or want of memory the reader stands where it stood, and holds the bytes
+//!    of the file that it held; after every other refusal it answers the same again. A fault of the file
+//!    is one of the log's name, and comes only where bytes of the next event, or of its header, are to
+//!    be read that the reader doesn't hold (`WantsFile`). A fault is never dropped: at every other answer
+//!    the library's count of faults stood still. So did its count of refused memory at each answer but a
+//!    fault of the file or want of memory, and its count of absences but where the file is missing.
 //! 5. An [`EventView`] lends the plain event from the reader's buffer. The buffer has no bytes at
 //!    first. A call makes it no longer than one piece of the file, 65536 bytes, or what the file has
 //!    of the event that is due (`due_at`), where it isn't longer already; over a library that doesn't
@@ -23,6 +24,7 @@
 //! Numbers in a binary log have their lowest byte first. No body is decoded.
 #![tactic(auto)]
 
+mod answering;
 mod buffer;
 mod cipher;
 mod fault;

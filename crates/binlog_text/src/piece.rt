@@ -23,6 +23,9 @@ fn read_piece<L: Library>(
     ensures causes { HasBinlogCauses (L.faults files.old) (L.faults files.new) (L.absences files.old) (L.absences files.new) result }
     ensures no_fault { is_outside_fault result ≡ false → L.faults files.new ≡ L.faults files.old }
     ensures no_fault_at_want { IsErrOf result BinlogFault.OutOfMemory → L.faults files.new ≡ L.faults files.old }
+    ensures absences { L.absences files.new ≡ L.absences files.old }
+    ensures refusals_later { L.memory_refusals files.old ≤ L.memory_refusals files.new }
+    ensures no_refusal { is_outside_fault result ≡ false → L.memory_refusals files.new ≡ L.memory_refusals files.old }
     ensures failed { IsErrOf result BinlogFault.FileFault → L.failed_last files.new name.now }
     ensures outside { IfErr result (λ fault. is_outside fault ≡ true) }
 {
@@ -53,6 +56,9 @@ fn read_behind<L: Library>(
     ensures causes { HasBinlogCauses (L.faults files.old) (L.faults files.new) (L.absences files.old) (L.absences files.new) result }
     ensures no_fault { is_outside_fault result ≡ false → L.faults files.new ≡ L.faults files.old }
     ensures no_fault_at_want { IsErrOf result BinlogFault.OutOfMemory → L.faults files.new ≡ L.faults files.old }
+    ensures absences { L.absences files.new ≡ L.absences files.old }
+    ensures refusals_later { L.memory_refusals files.old ≤ L.memory_refusals files.new }
+    ensures no_refusal { is_outside_fault result ≡ false → L.memory_refusals files.new ≡ L.memory_refusals files.old }
     ensures failed { IsErrOf result BinlogFault.FileFault → L.failed_last files.new name.now }
     ensures outside { IfErr result (λ fault. is_outside fault ≡ true) }
 {
@@ -120,6 +126,9 @@ pub(crate) fn read_on<L: Library>(
     ensures causes { HasBinlogCauses (L.faults files.old) (L.faults files.new) (L.absences files.old) (L.absences files.new) result }
     ensures no_fault { is_outside_fault result ≡ false → L.faults files.new ≡ L.faults files.old }
     ensures no_fault_at_want { IsErrOf result BinlogFault.OutOfMemory → L.faults files.new ≡ L.faults files.old }
+    ensures absences { L.absences files.new ≡ L.absences files.old }
+    ensures refusals_later { L.memory_refusals files.old ≤ L.memory_refusals files.new }
+    ensures no_refusal { is_outside_fault result ≡ false → L.memory_refusals files.new ≡ L.memory_refusals files.old }
     ensures failed { IsErrOf result BinlogFault.FileFault → L.failed_last files.new name.now }
     ensures outside { IfErr result (λ fault. is_outside fault ≡ true) }
 {

@@ -3,11 +3,10 @@
 ghost use Rattle.std.specs.Prelude.{◌≡◌, ⊤, true};
 ghost use Rattle.binlog_text.specs.Stages.{holds_within, is_settled};
 
+use crate::answering::{answer, forget_start};
 use crate::buffer::EventBuffer;
 use crate::fault::is_outside;
-use crate::reading::read_event;
-use crate::stage::{Position, Stage, StageStep};
-use crate::start::start;
+use crate::stage::{Position, Stage};
 use crate::view::EventMark;
 use crate::{BinlogFault, EventView};
 use io_core::Library;
@@ -24,85 +23,25 @@ pub struct LogReader {
 }
 
 impl LogReader {
-    ghost use Rattle.std.specs.Prelude.{◌<◌, ◌≤◌, ◌-◌, ◌⊎◌, max, Ok, Err, None, length, IfOk, IfSome, IsErrOf, OnErr, false};
+    ghost use Rattle.std.specs.Prelude.{◌≢◌, ◌≤◌, [], Ok, Err, IfOk, IfSome, IsErrOf, false};
     ghost use Rattle.std.specs.Borrow.{sem, follows_so};
     ghost use mathlib.Core.Option.{none};
     ghost use Rattle.io_core.specs.Told.{Told};
-    ghost use Rattle.binlog_text.specs.Faults.{HasBinlogCauses, is_outside_fault};
-    ghost use Rattle.binlog_text.specs.Events.{answered, placed};
-    ghost use Rattle.binlog_text.specs.Sealed.{StandsStored};
-    ghost use Rattle.binlog_text.specs.Reading.{FitsMark, IsBehindEvent, Keeps, StandsAt, WantsFile, due_at, left_at, marked, shown_step, viewed};
+    ghost use Rattle.binlog_text.specs.Faults.{is_outside_fault};
+    ghost use Rattle.binlog_text.specs.Reading.{FitsMark, Keeps, WantsFile, marked, viewed};
     ghost use Rattle.binlog_text.specs.Advances.{Advances, ReaderCauses};
     ghost use Rattle.binlog_text.specs.contracts.reader.LogReader.{the_row};
 
     /// A reader that has read nothing.
     pub fn new(alloc: Global) -> LogReader
         ensures stage { result.stage ≡ Stage.Start }
+        ensures rest { result.buffer.rest ≡ [] }
         ensures room { result.buffer.room ≡ 0 }
     {
         LogReader {
             stage: Stage::Start,
             buffer: EventBuffer::new(alloc),
         }
-    }
-
-    // Where the next event begins.
-    fn position<L: Library>(&mut self, files: &mut L, name: &str) -> Result<Position, BinlogFault>
-        requires { Told (λ fs. Keeps (fs name.now) self.old.stage self.old.buffer.rest) (L.files files.old) }
-        ensures position { Told (λ fs. is_outside_fault result ≡ false → placed (fs name.now) self.old.stage ≡ result) (L.files files.old) }
-        ensures keeps { IfOk result (λ position. Told (λ fs. Keeps (fs name.now) (Stage.Events position) self.new.buffer.rest) (L.files files.old)) }
-        ensures kept { OnErr result (Told (λ fs. Keeps (fs name.now) self.old.stage self.new.buffer.rest) (L.files files.old)) }
-        ensures stage { self.new.stage ≡ self.old.stage }
-        ensures left { IfOk result (λ position. position.size - position.place ≤ left_at self.old.stage) }
-        ensures at { IfOk result (λ position. StandsAt self.old.stage position.place) }
-        ensures held { (position : Position) → self.old.stage ≡ Stage.Events position → (result ≡ Ok position) × (self.new.buffer.rest ≡ self.old.buffer.rest) }
-        ensures within { IfOk result (λ position. length self.new.buffer.rest ≤ position.size - position.place) }
-        ensures room { self.new.buffer.room ≤ max self.old.buffer.room 65536 }
-        ensures again { (fault : BinlogFault) → self.old.stage ≡ Stage.Refused fault → result ≡ Err fault }
-        ensures same { L.files files.new ≡ L.files files.old }
-        ensures causes { ReaderCauses self.old.stage (L.faults files.old) (L.faults files.new) (L.absences files.old) (L.absences files.new) result }
-        ensures no_fault { is_outside_fault result ≡ false → L.faults files.new ≡ L.faults files.old }
-        ensures no_fault_at_want { IsErrOf result BinlogFault.OutOfMemory → L.faults files.new ≡ L.faults files.old }
-        ensures failed { IsErrOf result BinlogFault.FileFault → L.failed_last files.new name.now }
-        ensures wanted { IsErrOf result BinlogFault.FileFault → WantsFile self.old.stage self.old.buffer.rest }
-    {
-        match self.stage {
-            Stage::Start => start(&mut self.buffer, files, name),
-            Stage::Events(position) => Ok(position),
-            Stage::Refused(fault) => Err(fault),
-        }
-    }
-
-    // The next event, not yet passed.
-    fn answer<L: Library>(
-        &mut self,
-        files: &mut L,
-        name: &str,
-        ring: &Ring,
-    ) -> Result<Option<StageStep>, BinlogFault>
-        requires { Told (λ fs. Keeps (fs name.now) self.old.stage self.old.buffer.rest) (L.files files.old) }
-        ensures answer { Told (λ fs. is_outside_fault result ≡ false → answered ring.now (fs name.now) self.old.stage ≡ shown_step self.new.buffer.event result) (L.files files.old) }
-        ensures keeps { IfOk result (λ found. IfSome found (λ step. Told (λ fs. Keeps (fs name.now) (Stage.Events step.next) self.new.buffer.rest) (L.files files.old))) }
-        ensures kept { (is_outside_fault result ≡ true) ⊎ (result ≡ Ok None) → Told (λ fs. Keeps (fs name.now) self.old.stage self.new.buffer.rest) (L.files files.old) }
-        ensures stage { self.new.stage ≡ self.old.stage }
-        ensures held { (position : Position) → self.old.stage ≡ Stage.Events position → is_outside_fault result ≡ true → self.new.buffer.rest ≡ self.old.buffer.rest }
-        ensures within { IfOk result (λ found. IfSome found (λ step. length self.new.buffer.rest ≤ step.next.size - step.next.place)) }
-        ensures left { IfOk result (λ found. IfSome found (λ step. left_at (Stage.Events step.next) < left_at self.old.stage)) }
-        ensures fits { IfOk result (λ found. IfSome found (λ step. FitsMark step.mark self.new.buffer.event)) }
-        ensures sealed { Told (λ fs. IfOk result (λ found. IfSome found (λ step. StandsStored ring.now (fs name.now) (placed (fs name.now) self.old.stage) (record { mark = step.mark; bytes = self.new.buffer.event })))) (L.files files.old) }
-        ensures behind { IfOk result (λ found. IfSome found (λ step. IsBehindEvent self.old.stage (record { mark = step.mark; bytes = self.new.buffer.event }) (Stage.Events step.next))) }
-        ensures room { self.new.buffer.room ≤ max self.old.buffer.room 16777216 }
-        ensures grown { Told (λ fs. self.new.buffer.room ≤ max self.old.buffer.room (max 65536 (due_at (fs name.now) self.old.stage))) (L.files files.old) }
-        ensures again { (fault : BinlogFault) → self.old.stage ≡ Stage.Refused fault → result ≡ Err fault }
-        ensures same { L.files files.new ≡ L.files files.old }
-        ensures causes { ReaderCauses self.old.stage (L.faults files.old) (L.faults files.new) (L.absences files.old) (L.absences files.new) result }
-        ensures no_fault { is_outside_fault result ≡ false → L.faults files.new ≡ L.faults files.old }
-        ensures no_fault_at_want { IsErrOf result BinlogFault.OutOfMemory → L.faults files.new ≡ L.faults files.old }
-        ensures failed { IsErrOf result BinlogFault.FileFault → L.failed_last files.new name.now }
-        ensures wanted { IsErrOf result BinlogFault.FileFault → WantsFile self.old.stage self.old.buffer.rest }
-    {
-        let position = self.position(files, name)?;
-        read_event(&mut self.buffer, &position, files, name, ring)
     }
 
     // The next event, which is passed.
@@ -120,16 +59,24 @@ impl LogReader {
         ensures causes { ReaderCauses self.old.stage (L.faults files.old) (L.faults files.new) (L.absences files.old) (L.absences files.new) result }
         ensures no_fault { is_outside_fault result ≡ false → L.faults files.new ≡ L.faults files.old }
         ensures no_fault_at_want { IsErrOf result BinlogFault.OutOfMemory → L.faults files.new ≡ L.faults files.old }
+        ensures present { (result ≡ Err BinlogFault.Missing → self.old.stage ≡ Stage.Refused BinlogFault.Missing) → L.absences files.new ≡ L.absences files.old }
+        ensures missing_first { (position : Position) → self.old.stage ≡ Stage.Events position → result ≢ Err BinlogFault.Missing }
+        ensures refusals_later { L.memory_refusals files.old ≤ L.memory_refusals files.new }
+        ensures no_refusal { is_outside_fault result ≡ false → L.memory_refusals files.new ≡ L.memory_refusals files.old }
         ensures failed { IsErrOf result BinlogFault.FileFault → L.failed_last files.new name.now }
         ensures wanted { IsErrOf result BinlogFault.FileFault → WantsFile self.old.stage self.old.buffer.rest }
     {
-        match self.answer(files, name, ring) {
+        match answer(&mut self.buffer, self.stage, files, name, ring) {
             Ok(Some(step)) => {
                 self.stage = Stage::Events(step.next);
                 Ok(Some(step.mark))
             }
-            Ok(None) => Ok(None),
+            Ok(None) => {
+                forget_start(&mut self.buffer, self.stage);
+                Ok(None)
+            }
             Err(fault) => {
+                forget_start(&mut self.buffer, self.stage);
                 if !is_outside(fault) {
                     self.stage = Stage::Refused(fault);
                 }
@@ -143,9 +90,9 @@ impl LogReader {
     ///
     /// # Errors
     /// The first refusal in the file, which is answered again from then on; `FileFault` and
-    /// `OutOfMemory`, after which the reader stands where it stood, with the bytes that it had read ahead. A
-    /// fault of the file is one of this name, and comes only where the reader doesn't hold all bytes of the
-    /// next event, or of its header, that the file has.
+    /// `OutOfMemory`, after which the reader stands where it stood, with the bytes that it held: at its start
+    /// it holds none, and reads the file's beginning again. A fault of the file is one of this name, and comes
+    /// only where the reader doesn't hold all bytes of the next event, or of its header, that the file has.
     pub fn next<L: Library>(
         &mut self,
         files: &mut L,
@@ -160,6 +107,10 @@ impl LogReader {
         ensures causes { ReaderCauses self.old.stage (L.faults files.old) (L.faults files.new) (L.absences files.old) (L.absences files.new) result }
         ensures no_fault { is_outside_fault result ≡ false → L.faults files.new ≡ L.faults files.old }
         ensures no_fault_at_want { IsErrOf result BinlogFault.OutOfMemory → L.faults files.new ≡ L.faults files.old }
+        ensures present { (result ≡ Err BinlogFault.Missing → self.old.stage ≡ Stage.Refused BinlogFault.Missing) → L.absences files.new ≡ L.absences files.old }
+        ensures missing_first { (position : Position) → self.old.stage ≡ Stage.Events position → result ≢ Err BinlogFault.Missing }
+        ensures refusals_later { L.memory_refusals files.old ≤ L.memory_refusals files.new }
+        ensures no_refusal { is_outside_fault result ≡ false → L.memory_refusals files.new ≡ L.memory_refusals files.old }
         ensures failed { IsErrOf result BinlogFault.FileFault → L.failed_last files.new name.now }
         ensures wanted { IsErrOf result BinlogFault.FileFault → WantsFile self.old.stage self.old.buffer.rest }
     {

@@ -1,6 +1,6 @@
 // One event read.
 
-ghost use Rattle.std.specs.Prelude.{◌≡◌, ◌+◌, ◌-◌, ◌^◌, ◌<◌, ◌≤◌, ◌⊎◌, ℕ, List, Ok, Some, length, take, drop, min, max, IfOk, IfErr, IfSome, IsErrOf, OnErr, OnOk, false, true};
+ghost use Rattle.std.specs.Prelude.{◌≡◌, ◌≢◌, ◌+◌, ◌-◌, ◌^◌, ◌<◌, ◌≤◌, ◌⊎◌, ℕ, List, Ok, Err, Some, length, take, drop, min, max, IfOk, IfErr, IfSome, IsErrOf, OnErr, OnOk, false, true};
 ghost use Rattle.io_core.specs.Told.{Told};
 ghost use Rattle.io_core.specs.Files.{bytes_from};
 ghost use Rattle.byte_list.specs.Bytes.{part_of};
@@ -90,6 +90,9 @@ fn reach<L: Library>(
     ensures causes { HasBinlogCauses (L.faults files.old) (L.faults files.new) (L.absences files.old) (L.absences files.new) result }
     ensures no_fault { is_outside_fault result ≡ false → L.faults files.new ≡ L.faults files.old }
     ensures no_fault_at_want { IsErrOf result BinlogFault.OutOfMemory → L.faults files.new ≡ L.faults files.old }
+    ensures absences { L.absences files.new ≡ L.absences files.old }
+    ensures refusals_later { L.memory_refusals files.old ≤ L.memory_refusals files.new }
+    ensures no_refusal { is_outside_fault result ≡ false → L.memory_refusals files.new ≡ L.memory_refusals files.old }
     ensures failed { IsErrOf result BinlogFault.FileFault → L.failed_last files.new name.now }
     ensures wanted { IsErrOf result BinlogFault.FileFault → WantsEvent position.now buffer.old.rest }
 {
@@ -196,8 +199,12 @@ pub(crate) fn read_event<L: Library>(
     ensures causes { HasBinlogCauses (L.faults files.old) (L.faults files.new) (L.absences files.old) (L.absences files.new) result }
     ensures no_fault { is_outside_fault result ≡ false → L.faults files.new ≡ L.faults files.old }
     ensures no_fault_at_want { IsErrOf result BinlogFault.OutOfMemory → L.faults files.new ≡ L.faults files.old }
+    ensures absences { L.absences files.new ≡ L.absences files.old }
+    ensures refusals_later { L.memory_refusals files.old ≤ L.memory_refusals files.new }
+    ensures no_refusal { is_outside_fault result ≡ false → L.memory_refusals files.new ≡ L.memory_refusals files.old }
     ensures failed { IsErrOf result BinlogFault.FileFault → L.failed_last files.new name.now }
     ensures wanted { IsErrOf result BinlogFault.FileFault → WantsEvent position.now buffer.old.rest }
+    ensures there { result ≢ Err BinlogFault.Missing }
     ensures sealed { Told (λ fs. IsFront buffer.old.rest (bytes_from position.now.place name.now fs)
         → IfOk result (λ step. IfSome step (λ s. IsStoredEvent ring.now position.now.format position.now.place buffer.new.event (take (length buffer.new.event) (bytes_from position.now.place name.now fs))))) (L.files files.old) }
 {

@@ -1,6 +1,6 @@
 // The beginning of a file: its length, and its first bytes.
 
-ghost use Rattle.std.specs.Prelude.{◌≡◌, ◌-◌, ◌≤◌, max, length, IfOk, IsErrOf, true, false};
+ghost use Rattle.std.specs.Prelude.{◌≡◌, ◌≢◌, ◌-◌, ◌≤◌, max, length, Err, IfOk, IsErrOf, true, false};
 ghost use Rattle.io_core.specs.Told.{Told};
 ghost use Rattle.binlog_text.specs.Events.{first_position, is_log, placed};
 ghost use Rattle.binlog_text.specs.Faults.{HasBinlogCauses, is_outside_fault};
@@ -28,6 +28,9 @@ fn size_of<L: Library>(files: &mut L, name: &str) -> Result<u64, BinlogFault>
     ensures causes { HasBinlogCauses (L.faults files.old) (L.faults files.new) (L.absences files.old) (L.absences files.new) result }
     ensures no_fault { is_outside_fault result ≡ false → L.faults files.new ≡ L.faults files.old }
     ensures no_fault_at_want { IsErrOf result BinlogFault.OutOfMemory → L.faults files.new ≡ L.faults files.old }
+    ensures present { result ≢ Err BinlogFault.Missing → L.absences files.new ≡ L.absences files.old }
+    ensures refusals_later { L.memory_refusals files.old ≤ L.memory_refusals files.new }
+    ensures no_refusal { is_outside_fault result ≡ false → L.memory_refusals files.new ≡ L.memory_refusals files.old }
     ensures failed { IsErrOf result BinlogFault.FileFault → L.failed_last files.new name.now }
 {
     match files.length(name) {
@@ -55,6 +58,9 @@ pub(crate) fn start<L: Library>(
     ensures causes { HasBinlogCauses (L.faults files.old) (L.faults files.new) (L.absences files.old) (L.absences files.new) result }
     ensures no_fault { is_outside_fault result ≡ false → L.faults files.new ≡ L.faults files.old }
     ensures no_fault_at_want { IsErrOf result BinlogFault.OutOfMemory → L.faults files.new ≡ L.faults files.old }
+    ensures present { result ≢ Err BinlogFault.Missing → L.absences files.new ≡ L.absences files.old }
+    ensures refusals_later { L.memory_refusals files.old ≤ L.memory_refusals files.new }
+    ensures no_refusal { is_outside_fault result ≡ false → L.memory_refusals files.new ≡ L.memory_refusals files.old }
     ensures failed { IsErrOf result BinlogFault.FileFault → L.failed_last files.new name.now }
 {
     let size = size_of(files, name)?;

@@ -11,9 +11,9 @@ pub record HasCauses {T : Type 0} (faults faults' absences absences' : ℕ) (res
   pub failed : result ≡ Err FileFault → Rose faults faults'
   pub missing : (name : List ℕ) → result ≡ Err (Missing name) → Rose absences absences'
 
--- A fault that comes without a file that isn't there. Want of memory may be that for the name of one.
+-- Each fault but that of a file that isn't there.
 abbrev pub IsOfPresent : LoadFault → Type 0
 IsOfPresent FileFault = Unit {0}
 IsOfPresent (KeyFile index fault) = Unit {0}
 IsOfPresent (Missing name) = ⊥
-IsOfPresent OutOfMemory = ⊥
+IsOfPresent OutOfMemory = Unit {0}

@@ -21,14 +21,15 @@ use std::alloc::Global;
 // How many bytes a key file and a file with a password may have.
 const LIMIT: usize = 1_048_576;
 
-// The answer for a file that is not there.
-fn missing(alloc: Global, name: &str) -> LoadFault
-    ensures value { (result ≡ LoadFault.Missing name.now) ⊎ (result ≡ LoadFault.OutOfMemory) }
-    ensures absent { IsOfPresent result → ⊥ }
+// A copy of the name of a file, for the answer where it isn't there. It is made before the file is asked for,
+// so that no want of memory stands in place of an absence that the library counted.
+fn name_of(alloc: Global, name: &str) -> Result<Name, LoadFault>
+    ensures value { IfOk result (λ copy. copy ≡ name.now) }
+    ensures memory { IfErr result (λ fault. fault ≡ LoadFault.OutOfMemory) }
 {
     match Name::of(alloc, name) {
-        Ok(name) => LoadFault::Missing(name),
-        Err(_) => LoadFault::OutOfMemory,
+        Ok(copy) => Ok(copy),
+        Err(_) => Err(LoadFault::OutOfMemory),
     }
 }
 
@@ -58,15 +59,19 @@ fn read_named<L: Library>(
     ensures no_fault_at_refusal { IfErr result (λ fault. fault ≢ LoadFault.FileFault → L.faults files.new ≡ L.faults files.old) }
     ensures present { OnOk result (L.absences files.new ≡ L.absences files.old) }
     ensures present_at_refusal { IfErr result (λ fault. IsOfPresent fault → L.absences files.new ≡ L.absences files.old) }
+    ensures refusals_later { L.memory_refusals files.old ≤ L.memory_refusals files.new }
+    ensures no_refusal { OnOk result (L.memory_refusals files.new ≡ L.memory_refusals files.old) }
+    ensures no_refusal_at_fault { IfErr result (λ fault. IsOutside fault ⊎ (L.memory_refusals files.new ≡ L.memory_refusals files.old)) }
     ensures failed { IsErrOf result LoadFault.FileFault → L.failed_last files.new name.now }
 {
+    let copy = name_of(alloc, name)?;
     match read_file(alloc, files, name, LIMIT) {
         Ok(FileContents::Whole(bytes)) => Ok(bytes),
         Ok(FileContents::TooLarge) => Err(LoadFault::KeyFile {
             index,
             fault: too_large,
         }),
-        Ok(FileContents::Missing) => Err(missing(alloc, name)),
+        Ok(FileContents::Missing) => Err(LoadFault::Missing(copy)),
         Err(IoError::Failed) => Err(LoadFault::FileFault),
         Err(IoError::NoMemory) => Err(LoadFault::OutOfMemory),
     }
@@ -115,6 +120,9 @@ fn read_secret<L: Library>(
     ensures no_fault_at_refusal { IfErr result (λ fault. fault ≢ LoadFault.FileFault → L.faults files.new ≡ L.faults files.old) }
     ensures present { OnOk result (L.absences files.new ≡ L.absences files.old) }
     ensures present_at_refusal { IfErr result (λ fault. IsOfPresent fault → L.absences files.new ≡ L.absences files.old) }
+    ensures refusals_later { L.memory_refusals files.old ≤ L.memory_refusals files.new }
+    ensures no_refusal { OnOk result (L.memory_refusals files.new ≡ L.memory_refusals files.old) }
+    ensures no_refusal_at_fault { IfErr result (λ fault. IsOutside fault ⊎ (L.memory_refusals files.new ≡ L.memory_refusals files.old)) }
     ensures failed { IsErrOf result LoadFault.FileFault → (starts_with nat_eq filekey.now (codes "FILE:") ≡ true) × L.failed_last files.new (drop 5 filekey.now) }
 {
     let Some(name) = filekey.strip_prefix("FILE:") else {
@@ -141,6 +149,9 @@ fn read_text<L: Library>(
     ensures no_fault_at_refusal { IfErr result (λ fault. fault ≢ LoadFault.FileFault → L.faults files.new ≡ L.faults files.old) }
     ensures present { OnOk result (L.absences files.new ≡ L.absences files.old) }
     ensures present_at_refusal { IfErr result (λ fault. IsOfPresent fault → L.absences files.new ≡ L.absences files.old) }
+    ensures refusals_later { L.memory_refusals files.old ≤ L.memory_refusals files.new }
+    ensures no_refusal { OnOk result (L.memory_refusals files.new ≡ L.memory_refusals files.old) }
+    ensures no_refusal_at_fault { IfErr result (λ fault. IsOutside fault ⊎ (L.memory_refusals files.new ≡ L.memory_refusals files.old)) }
     ensures failed { IsErrOf result LoadFault.FileFault → (is_salted bytes.items ≡ true) × ((due : List ℕ) × NamesSecret (option_copied filekey.entry) due × L.failed_last files.new due) }
 {
     if !bytes.starts_with(b"Salted__") {
@@ -172,6 +183,9 @@ pub(crate) fn read_keys<L: Library>(
     ensures no_fault_at_refusal { IfErr result (λ fault. fault ≢ LoadFault.FileFault → L.faults files.new ≡ L.faults files.old) }
     ensures present { OnOk result (L.absences files.new ≡ L.absences files.old) }
     ensures present_at_refusal { IfErr result (λ fault. IsOfPresent fault → L.absences files.new ≡ L.absences files.old) }
+    ensures refusals_later { L.memory_refusals files.old ≤ L.memory_refusals files.new }
+    ensures no_refusal { OnOk result (L.memory_refusals files.new ≡ L.memory_refusals files.old) }
+    ensures no_refusal_at_fault { IfErr result (λ fault. IsOutside fault ⊎ (L.memory_refusals files.new ≡ L.memory_refusals files.old)) }
     ensures failed { IsErrOf result LoadFault.FileFault → Told (λ fs. (due : List ℕ) × CallsFor fs index (option_copied filekey.entry) name.now due × L.failed_last files.new due) (L.files files.old) }
 {
     let bytes = read_named(alloc, files, name, index, KeyFault::TooLarge)?;

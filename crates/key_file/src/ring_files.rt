@@ -62,6 +62,9 @@ fn load_in_order<L: Library>(
     ensures no_fault_at_refusal { IfErr result (λ fault. fault ≢ LoadFault.FileFault → L.faults files.new ≡ L.faults files.old) }
     ensures present { OnOk result (L.absences files.new ≡ L.absences files.old) }
     ensures present_at_refusal { IfErr result (λ fault. IsOfPresent fault → L.absences files.new ≡ L.absences files.old) }
+    ensures refusals_later { L.memory_refusals files.old ≤ L.memory_refusals files.new }
+    ensures no_refusal { OnOk result (L.memory_refusals files.new ≡ L.memory_refusals files.old) }
+    ensures no_refusal_at_fault { IfErr result (λ fault. IsOutside fault ⊎ (L.memory_refusals files.new ≡ L.memory_refusals files.old)) }
     ensures failed { IsErrOf result LoadFault.FileFault → Told (λ fs. (due : List ℕ) × IsDue fs (option_copied filekey.entry) digest 0 (map string_bytes names.now) due × L.failed_last files.new due) (L.files files.old) }
 {
     let mut ring = Ring::new(alloc);
@@ -100,12 +103,15 @@ pub fn load<L: Library>(
     ensures same { L.files files.new ≡ L.files files.old }
     ensures causes { HasCauses (L.faults files.old) (L.faults files.new) (L.absences files.old) (L.absences files.new) result }
 
-    // A count of faults rises only where the answer is `FileFault`, one of absences only where it is `Missing`,
-    // or where there was no memory for the name.
+    // The library's count of faults rises only where the answer is `FileFault`, that of absences only where it
+    // is `Missing`, and that of refused memory only where it is one of `FileFault` and `OutOfMemory`.
     ensures no_fault { OnOk result (L.faults files.new ≡ L.faults files.old) }
     ensures no_fault_at_refusal { IfErr result (λ fault. fault ≢ LoadFault.FileFault → L.faults files.new ≡ L.faults files.old) }
     ensures present { OnOk result (L.absences files.new ≡ L.absences files.old) }
     ensures present_at_refusal { IfErr result (λ fault. IsOfPresent fault → L.absences files.new ≡ L.absences files.old) }
+    ensures refusals_later { L.memory_refusals files.old ≤ L.memory_refusals files.new }
+    ensures no_refusal { OnOk result (L.memory_refusals files.new ≡ L.memory_refusals files.old) }
+    ensures no_refusal_at_fault { IfErr result (λ fault. IsOutside fault ⊎ (L.memory_refusals files.new ≡ L.memory_refusals files.old)) }
 
     // A fault of the library is that of a file that was due: the key files before it gave keys, and it is
     // the next, or that one is enciphered and this is the file of the password.

@@ -1,4 +1,4 @@
-use Rattle.std.proofs.Common.{Err, refl, sym, ap, subst, inr, ◌∙◌}
+use Rattle.std.proofs.Common.{Err, refl, sym, ap, subst, inl, inr, ◌∙◌}
 use Rattle.binlog_cli.specs.Stops.{IsListStop}
 use Rattle.binlog_cli.proofs.FirstStops.{file_first, first_answer, first_cause, first_still, first_stops}
 use Rattle.binlog_cli.proofs.Gathered.{gathered_given}
@@ -25,3 +25,9 @@ returns-in-Err-clause-no_out_fault g c = λ out file.
 
 pub returns-in-Err-clause-file_first : goal.returns-in-Err-clause-file_first
 returns-in-Err-clause-file_first g c = λ is. ap Err (c.first_stop.ensures ∙ file_first c.args.fault c.in-Err.stop is)
+
+pub returns-in-Err-clause-no_refusal : goal.returns-in-Err-clause-no_refusal
+returns-in-Err-clause-no_refusal g c = inl (subst IsListStop (sym c.first_stop.ensures) (first_stops c.args.fault c.in-Err.stop c.in-Err.ensures.stop))
+
+pub returns-in-Err-clause-whole : goal.returns-in-Err-clause-whole
+returns-in-Err-clause-whole g c = λ none. absurd (c.in-Err.ensures.spoken none)

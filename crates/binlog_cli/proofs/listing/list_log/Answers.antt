@@ -1,4 +1,4 @@
-use Rattle.std.proofs.Common.{◌≡◌, ℕ, List, ◌++◌, IsErrAnd, rules, refl, sym, ap, subst, ◌∙◌, arith, string_bytes, Ok, Err}
+use Rattle.std.proofs.Common.{◌≡◌, ℕ, List, ◌++◌, IsErrAnd, rules, refl, sym, ap, subst, ◌∙◌, arith, inl, inr, string_bytes, Ok, Err}
 use Rattle.io_core.specs.Told.{Told}
 use Rattle.io_core.specs.Stream.{IsPartlyGiven}
 use Rattle.binlog_text.specs.Reading.{Keeps, StandsAt, viewed}
@@ -13,8 +13,9 @@ use Rattle.binlog_cli.specs.declared.status.ListStatus.TheVariants.{OutOfMemory}
 use Rattle.binlog_cli.proofs.Gathered.{gathered_part}
 use Rattle.binlog_cli.proofs.SoFar.{SoFar, end_length, events_end, events_fault, events_partly, gathered_some, so_far_none}
 use Rattle.binlog_cli.proofs.Reached.{err_out, handed_out, of_err, of_memory, stopped_end, stopped_fault, wants_bytes}
+use Rattle.binlog_cli.proofs.Counted.{ended_still, log_present, log_refusal, stop_status, then_still}
 use Rattle.binlog_cli.proofs.FirstStops.{handed_still, log_still}
-use Rattle.binlog_cli.proofs.Answered.{answer_err, answer_none, partly_event, reached_event, so_far_event, stands_behind}
+use Rattle.binlog_cli.proofs.Answered.{answer_err, answer_none, not_start, partly_event, reached_event, so_far_event, stands_behind}
 use Rattle.binlog_cli.proofs.listing.list_log.Goals as goal
 
 pub events-init : goal.events-init
@@ -35,6 +36,10 @@ events-init g c = record {
   outs = omega arith;
   no_file_fault = refl;
   no_out_fault = refl;
+  present = refl;
+  no_refusal = refl;
+  no_out_refusal = refl;
+  silent = λ start. c.new-text.ensures.bytes;
 }
 
 pub returns-in_err-lines-in-Ok-Some-clause-answer : goal.returns-in_err-lines-in-Ok-Some-clause-answer
@@ -107,6 +112,12 @@ events-preserved g c = record {
   outs = omega (arith, c.events.invariant.outs, c.in_ok-print_lines-in-Ok-Some.ensures.cause.later);
   no_file_fault = c.in-Ok-Some.ensures.no_fault refl ∙ c.events.invariant.no_file_fault;
   no_out_fault = c.in_ok-print_lines-in-Ok-Some.ensures.no_out_fault (λ e. cc) ∙ c.events.invariant.no_out_fault;
+  present = c.in-Ok-Some.ensures.present (λ e. absurd (cc)) ∙ c.events.invariant.present;
+  no_refusal = c.in-Ok-Some.ensures.no_refusal refl ∙ c.events.invariant.no_refusal;
+  no_out_refusal = c.in_ok-print_lines-in-Ok-Some.ensures.no_refusal ∙ c.events.invariant.no_out_refusal;
+  silent = λ start.
+      let answer = ap viewed (c.in-Ok-Some.is ∙ ap Ok c.in-Ok-Some.field-0-is) in
+      absurd (not_start c.args.ring.now _ c.args.name.now c.events.reader _ (viewed c.next.result) c.next.follows.holds-at-none (event_of c.in-Ok-Some.view) answer start);
 }
 
 pub returns-in_err-lines-in-Ok-Some-clause-reached : goal.returns-in_err-lines-in-Ok-Some-clause-reached
@@ -183,3 +194,45 @@ returns-in-Err-clause-no_file_fault g c = λ other.
 
 pub returns-in-Err-clause-no_out_fault : goal.returns-in-Err-clause-no_out_fault
 returns-in-Err-clause-no_out_fault g c = λ out file. c.end_by_fault.ensures.no_out_fault out file ∙ c.events.invariant.no_out_fault
+
+pub returns-in_err-lines-in-Ok-Some-clause-present : goal.returns-in_err-lines-in-Ok-Some-clause-present
+returns-in_err-lines-in-Ok-Some-clause-present g c = λ there. c.in-Ok-Some.ensures.present (λ e. absurd (cc)) ∙ c.events.invariant.present
+
+pub returns-in_err-print_lines-in-Ok-Some-clause-present : goal.returns-in_err-print_lines-in-Ok-Some-clause-present
+returns-in_err-print_lines-in-Ok-Some-clause-present g c = λ there. c.in-Ok-Some.ensures.present (λ e. absurd (cc)) ∙ c.events.invariant.present
+
+pub returns-in-Ok-None-clause-present : goal.returns-in-Ok-None-clause-present
+returns-in-Ok-None-clause-present g c = λ there. c.in-Ok-None.ensures.present (λ e. absurd (cc)) ∙ c.events.invariant.present
+
+pub returns-in-Err-clause-present : goal.returns-in-Err-clause-present
+returns-in-Err-clause-present g c = λ there.
+    let gathered : c.as_str-in-Err.result.now ≡ string_bytes c.events.text = c.as_str-in-Err.ensures.value in
+    log_present c.events.reader.stage c.events.reached c.in-Err.fault c.end_by_fault.result c.events.invariant.stands c.in-Err.ensures.missing_first c.in-Err.ensures.present
+    (λ start. c.end_by_fault.ensures.whole (gathered ∙ c.events.invariant.silent start)) there
+    ∙ c.events.invariant.present
+
+pub returns-in_err-lines-in-Ok-Some-clause-no_refusal : goal.returns-in_err-lines-in-Ok-Some-clause-no_refusal
+returns-in_err-lines-in-Ok-Some-clause-no_refusal g c = inr (c.in-Ok-Some.ensures.no_refusal refl ∙ c.events.invariant.no_refusal)
+
+pub returns-in_err-print_lines-in-Ok-Some-clause-no_refusal : goal.returns-in_err-print_lines-in-Ok-Some-clause-no_refusal
+returns-in_err-print_lines-in-Ok-Some-clause-no_refusal g c = inr (c.in-Ok-Some.ensures.no_refusal refl ∙ c.events.invariant.no_refusal)
+
+pub returns-in-Ok-None-clause-no_refusal : goal.returns-in-Ok-None-clause-no_refusal
+returns-in-Ok-None-clause-no_refusal g c = inr (c.in-Ok-None.ensures.no_refusal refl ∙ c.events.invariant.no_refusal)
+
+pub returns-in-Err-clause-no_refusal : goal.returns-in-Err-clause-no_refusal
+returns-in-Err-clause-no_refusal g c = then_still _ _ _ (log_refusal c.in-Err.fault c.end_by_fault.result c.as_str-in-Err.result.now c.events.reached c.end_by_fault.new.reached c.in-Err.ensures.no_refusal c.end_by_fault.ensures.answer) c.events.invariant.no_refusal
+
+pub returns-in_err-lines-in-Ok-Some-clause-no_out_refusal : goal.returns-in_err-lines-in-Ok-Some-clause-no_out_refusal
+returns-in_err-lines-in-Ok-Some-clause-no_out_refusal g c = inr c.events.invariant.no_out_refusal
+
+pub returns-in_err-print_lines-in-Ok-Some-clause-no_out_refusal : goal.returns-in_err-print_lines-in-Ok-Some-clause-no_out_refusal
+returns-in_err-print_lines-in-Ok-Some-clause-no_out_refusal g c =
+    let stop : IsErrAnd c.from_residual-in_err-print_lines-in-Ok-Some.result IsListStop = search rules in
+    inl (stop_status c.from_residual-in_err-print_lines-in-Ok-Some.result stop)
+
+pub returns-in-Ok-None-clause-no_out_refusal : goal.returns-in-Ok-None-clause-no_out_refusal
+returns-in-Ok-None-clause-no_out_refusal g c = then_still _ _ _ (ended_still c.end_of_log.result c.end_of_log.ensures.stop c.end_of_log.ensures.no_refusal) c.events.invariant.no_out_refusal
+
+pub returns-in-Err-clause-no_out_refusal : goal.returns-in-Err-clause-no_out_refusal
+returns-in-Err-clause-no_out_refusal g c = then_still _ _ _ c.end_by_fault.ensures.no_refusal c.events.invariant.no_out_refusal

@@ -1,6 +1,7 @@
-use Rattle.std.proofs.Common.{◌≡◌, ◌≤◌, string_bytes}
+use Rattle.std.proofs.Common.{◌≡◌, ◌≤◌, [], string_bytes}
 use Rattle.io_core.specs.Told.{Told}
 use Rattle.binlog_text.specs.Reading.{Keeps, StandsAt, left_at}
+use Rattle.binlog_text.specs.declared.stage.Stage.TheVariants.{Start}
 use Rattle.binlog_cli.proofs.SoFar.{SoFar}
 use Rattle.binlog_cli.proofs.listing.list_log.Given as goal
 
@@ -15,6 +16,10 @@ invariant-events g l = record {
   outs : g.K.Sink.faults l.fn.out ≤ g.K.Sink.faults l.out;
   no_file_fault : g.L.Library.faults l.files ≡ g.L.Library.faults l.fn.files;
   no_out_fault : g.K.Sink.faults l.out ≡ g.K.Sink.faults l.fn.out;
+  present : g.L.Library.absences l.files ≡ g.L.Library.absences l.fn.files;
+  no_refusal : g.L.Library.memory_refusals l.files ≡ g.L.Library.memory_refusals l.fn.files;
+  no_out_refusal : g.K.Sink.memory_refusals l.out ≡ g.K.Sink.memory_refusals l.fn.out;
+  silent : l.reader.stage ≡ Start → string_bytes l.text ≡ [];
 }
 
 abbrev pub decreases-events : goal.decreases-events

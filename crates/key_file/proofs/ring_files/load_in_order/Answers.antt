@@ -19,7 +19,7 @@ returns-in_err-keys-clause-loads g c =
     record {
       here = λ fs told. rw (p.1, p.2) (elim (c.in_err-keys.ensures.keys.here fs (c.loop-index.invariant.0 ∙ told)) [
         | inl outside ↦ inl outside
-        | inr keys ↦ inr (c.loop-index.invariant.4.here fs told (Err _)
+        | inr keys ↦ inr (c.loop-index.invariant.5.here fs told (Err _)
             (loads_stop fs (option_copied c.args.filekey) c.args.digest names c.loop-index.index name within at c.loop-index.ring _ keys))
       ]);
     }
@@ -36,7 +36,7 @@ returns-in_err-keys-clause-failed g c is =
       here = λ fs told.
           let said = (c.in_err-keys.ensures.failed (fault_handed c.from_residual.result p.0 _ FileFault p.1 p.2 is)).here fs (c.loop-index.invariant.0 ∙ told) in (
             said.0,
-            c.loop-index.invariant.5.here fs told said.0
+            c.loop-index.invariant.6.here fs told said.0
                 (due_here fs (option_copied c.args.filekey) c.args.digest names c.loop-index.index name within at said.0 said.1),
             said.2,
           );
@@ -54,13 +54,14 @@ loop-index-preserved g c =
       λ id v h. later_version c.loop-index.ring c.add_keys.new.ring c.in_ok-keys.keys _ added id v h (c.loop-index.invariant.1 id v (omega arith)),
       c.in_ok-keys.ensures.no_fault ∙ c.loop-index.invariant.2,
       c.in_ok-keys.ensures.present ∙ c.loop-index.invariant.3,
+      c.in_ok-keys.ensures.no_refusal ∙ c.loop-index.invariant.4,
       record {
-        here = λ fs told r h. c.loop-index.invariant.4.here fs told r
+        here = λ fs told r h. c.loop-index.invariant.5.here fs told r
             (loads_more fs (option_copied c.args.filekey) c.args.digest names c.loop-index.index name within at c.loop-index.ring c.add_keys.new.ring c.in_ok-keys.keys
             (c.in_ok-keys.ensures.keys.here fs (c.loop-index.invariant.0 ∙ told)) added r h);
       },
       record {
-        here = λ fs told due h. c.loop-index.invariant.5.here fs told due
+        here = λ fs told due h. c.loop-index.invariant.6.here fs told due
             (due_later fs (option_copied c.args.filekey) c.args.digest names c.loop-index.index name within at c.in_ok-keys.keys
             (c.in_ok-keys.ensures.keys.here fs (c.loop-index.invariant.0 ∙ told)) due h);
       },

@@ -13,6 +13,7 @@ invariant-loop-index g l =
     × ((id v : ℕ) → l.index < v → IsNone (ring_key l.ring id v))
     × (g.L.Library.faults l.files ≡ g.L.Library.faults l.initial.files)
     × (g.L.Library.absences l.files ≡ g.L.Library.absences l.initial.files)
+    × (g.L.Library.memory_refusals l.files ≡ g.L.Library.memory_refusals l.initial.files)
     × Told
     (λ fs. (r : Result (List RingEntry) LoadFault) → LoadsFrom fs (option_copied l.filekey) l.digest l.index (drop l.index (map string_bytes l.names)) l.ring r
     → LoadsFrom fs (option_copied l.filekey) l.digest 0 (map string_bytes l.names) [] r)
