@@ -3,7 +3,7 @@ ghost use Rattle.std.specs.Prelude.{◌≡◌, ◌+◌, ◌*◌, ◌<◌, ◌≤
 ghost use Rattle.disk_model.specs.Event.{is_there};
 ghost use Rattle.disk_model.specs.Past.{At};
 ghost use Rattle.disk_model.specs.declared.names.FileName.TheVariants.{Log as LogFile};
-ghost use Rattle.places.specs.Places.{HasPlaces};
+ghost use Rattle.places.specs.Places.{HasFile};
 ghost use Rattle.redo_text.specs.Block.{block_count};
 ghost use Rattle.redo_text.specs.Text.{text_of, AreAllowed};
 ghost use Rattle.crash_image.specs.LogForm.{log_places};
@@ -130,8 +130,8 @@ fn measure_blocks(
 
 // A log whose ring is full.
 fn fill_log<D: Disk>(alloc: Global, disk: &mut D) -> Result<()>
-    requires { At (HasPlaces LogFile (log_places 4096)) (D.past disk.old) }
-    ensures { At (HasPlaces LogFile (log_places 4096)) (D.past disk.new) }
+    requires { At (HasFile LogFile (log_places 4096)) (D.past disk.old) }
+    ensures { At (HasFile LogFile (log_places 4096)) (D.past disk.new) }
 {
     let mtr = mtr_of(alloc)?;
     let mut log = Log::new(alloc, RING_BLOCKS, 2, 1)?;
@@ -158,7 +158,7 @@ fn append_all(alloc: Global, log: &mut Log, mtr: &Mtr) -> Result<()>
 
 fn made_log<D: Disk>(disk: &mut D) -> Result<()>
     requires { At (λ es. is_there LogFile es ≡ false) (D.past disk.old) }
-    ensures { OnOk result (At (HasPlaces LogFile (log_places 4096)) (D.past disk.new)) }
+    ensures { OnOk result (At (HasFile LogFile (log_places 4096)) (D.past disk.new)) }
 {
     let Ok(()) = disk.make(FileName::Log, 4099 * 4096) else {
         bail!("the log is not made");

@@ -1,5 +1,5 @@
 -- A log's file that was made, and one that a crash left.
-use Rattle.std.proofs.Common.{◌≡◌, ℕ, ◌*◌, ⊎_elim, ◌∷◌, List, length, Option, Some, None, sym, ap, subst, ◌∙◌}
+use Rattle.std.proofs.Common.{◌≡◌, ℕ, ◌*◌, ⊎_elim, ◌∷◌, List, length, Option, Some, None, refl, sym, ap, subst, ◌∙◌}
 use Rattle.std.proofs.lemmas.Option.{same_Some, none-some}
 use Rattle.disk_model.specs.Crash.{IsCrash, crash_image}
 use Rattle.disk_model.specs.Event.{Event, Make}
@@ -8,7 +8,8 @@ use Rattle.disk_model.specs.Past.{Past, At, grow}
 use Rattle.disk_model.specs.declared.calls.Choice.{Choice}
 use Rattle.disk_model.specs.declared.names.FileName.{FileName}
 use Rattle.disk_model.specs.declared.names.FileName.TheVariants.{Log as LogFile}
-use Rattle.places.specs.Places.{Layout, AreWhole, HasPlaces, May, place, shown}
+use Rattle.places.specs.Places.{Layout, AreWhole, HasFile, HasPlaces, May, place, shown}
+use Rattle.places.proofs.FileSteps.{file_of_places}
 use Rattle.places.proofs.Left.{image_size, in_image}
 use Rattle.ring_log.specs.Ring.{RingState, RingReady}
 use Rattle.redo_log.specs.Blocks.{Keys, redo_form}
@@ -20,6 +21,15 @@ use Rattle.crash_image.specs.LogForm.{log_places}
 pub fresh_made : (old new : Past) → new ≡ grow (Make LogFile 143360) old → At (IsFresh 32) new
 fresh_made None new is = record { here = λ es e. absurd (none-some es (sym is ∙ e)) }
 fresh_made (Some os) new is = record { here = λ es e. subst (IsFresh 32) (same_Some (Make LogFile 143360 ∷ os) es (sym is ∙ e)) (fresh_make 32 os) }
+
+-- a file with its places is there with its length, and a call that keeps them keeps them
+pub file_here : (n : ℕ) → n ≡ 32 → (es : List Event) → HasPlaces LogFile (log_places 32) es → At (HasFile LogFile (log_places n)) (Some es)
+file_here n is es has = record { here = λ l same. subst (λ (k : ℕ). HasFile LogFile (log_places k) l) (sym is) (subst (HasFile LogFile (log_places 32)) (same_Some es l same) (file_of_places LogFile (log_places 32) es has)) }
+
+pub places_kept : (n : ℕ) → n ≡ 32 → (es new : List Event) → HasPlaces LogFile (log_places 32) es → (At (HasPlaces LogFile (log_places n)) (Some es) → At (HasPlaces LogFile (log_places n)) (Some new)) → HasPlaces LogFile (log_places 32) new
+places_kept n is es new has keeps =
+    subst (λ (k : ℕ). HasPlaces LogFile (log_places k) new) is
+    ((keeps (record { here = λ l same. subst (λ (k : ℕ). HasPlaces LogFile (log_places k) l) (sym is) (subst (HasPlaces LogFile (log_places 32)) (same_Some es l same) has) })).here new refl)
 
 -- a crash leaves a file its places
 pub places_crashed : (f : FileName) (layout : Layout) (choices : List Choice) (es after : List Event) → HasPlaces f layout es → IsCrash choices es after → HasPlaces f layout after

@@ -2,7 +2,7 @@
 ghost use Rattle.std.specs.Prelude.{◌≡◌, ℕ, ◌<◌, ◌≤◌, ◌++◌, ◌∷◌, [], List, length, OnOk};
 ghost use Rattle.disk_model.specs.Past.{At};
 ghost use Rattle.disk_model.specs.declared.names.FileName.TheVariants.{Log as LogFile};
-ghost use Rattle.places.specs.Places.{HasPlaces};
+ghost use Rattle.places.specs.Places.{HasFile};
 ghost use Rattle.redo_text.specs.Block.{block_count};
 ghost use Rattle.redo_text.specs.Text.{text_of, AreAllowed};
 ghost use Rattle.redo_text.specs.declared.change.Change.{Change};
@@ -37,7 +37,7 @@ pub fn commit<D: Disk>(
     requires allowed { AreAllowed mtr.now }
     requires few { block_count (text_of mtr.now) ≤ most_mtr_blocks }
     requires version { 1 ≤ key.now.version }
-    requires places { At (HasPlaces LogFile (log_places log.old.blocks)) (D.past disk.old) }
+    requires file { At (HasFile LogFile (log_places log.old.blocks)) (D.past disk.old) }
     ensures journal { OnOk result ((keys : Keys) (r : RingState) (start : ℕ) (journal : List (Logged (List Change))) → IsStoreKey keys key.now → FitsRing r log.old → IsRingState log.old.blocks (redo_form keys) r → r.written ≡ r.settled → At (RingReady log.old.blocks (redo_form keys) r) (D.past disk.old)
         → IsRingJournal log.old.blocks (redo_form keys) r start journal log.old.next → HasJournal keys start (journal ++ logged_entry log.old mtr.now ∷ []) log.new (D.past disk.new)) }
 {

@@ -1,5 +1,6 @@
 // A batch with the texts of its pages.
 ghost use Rattle.std.specs.Prelude.{◌≡◌, ◌≢◌, ◌↔◌, ℕ, ◌<◌, ◌≤◌, ◌^◌, [], length, IsSome};
+ghost use Rattle.std.specs.List.{All};
 ghost use Rattle.std.specs.Vec.{vec_capacity};
 ghost use Rattle.byte_list.specs.Fields.{be16_at};
 ghost use Rattle.page_batch.specs.Batch.{AreTextsOfPages, IsTextOfPage};
@@ -46,7 +47,7 @@ pub struct SealedBatch {
 }
 
 impl Model for SealedBatch {
-    ghost use Rattle.std.specs.Prelude.{◌≡◌, ◌≤◌, [], length};
+    ghost use Rattle.std.specs.Prelude.{◌≡◌, ◌≢◌, ◌↔◌, ◌≤◌, [], length, IsSome};
     ghost use Rattle.std.specs.List.{All};
     ghost use Rattle.std.specs.Vec.{vec_capacity};
     ghost use Rattle.page_batch.specs.Batch.{SealedState, IsTextOfPage};
@@ -55,7 +56,7 @@ impl Model for SealedBatch {
 
     ghost view = { λ s. record { space = s.space; version = s.version; key = s.key; pages = s.pages.items } };
 
-    ghost invariant = { λ s. All (IsTextOfPage s.space s.version s.key) s.pages.items × (length s.pages.items ≤ vec_capacity s.texts) × (s.texts.items ≡ []) };
+    ghost invariant = { λ s. All (IsTextOfPage s.space s.version s.key) s.pages.items × (length s.pages.items ≤ vec_capacity s.texts) × (s.texts.items ≡ []) × (IsSome s.key ↔ (s.version ≢ 0)) };
 }
 
 /// The parts of a sealed batch: what it has of each page, in order, and an empty list with room for the
@@ -81,7 +82,8 @@ impl SealedPage {
         self.lsn
     }
 
-    /// The bytes that were copied: its type at byte 24 and its body from byte 38 on.
+    /// The plain page in its 16384 bytes: its type at byte 24 and its body from byte 38 on. The other
+    /// bytes are no part of it.
     pub fn bytes(&self) -> &[u8]
         ensures page { plain_of result.now ≡ self.now.copied.plain }
         ensures whole { length result.now ≡ page_bytes }
@@ -131,6 +133,9 @@ impl SealedBatch {
         ensures pages { result.pages.items ≡ self.pages }
         ensures texts { result.texts.items ≡ [] }
         ensures room { length self.pages ≤ vec_capacity result.texts }
+        // Each text is that of its page, and a key is there exactly where the version isn't 0.
+        ensures texts_of { All (IsTextOfPage self.space self.version self.key) self.pages }
+        ensures keyed { IsSome self.key ↔ (self.version ≢ 0) }
     {
         let SealedBatch {
             space: _,

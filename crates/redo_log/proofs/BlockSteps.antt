@@ -2,15 +2,17 @@
 use Rattle.std.proofs.Common.{◌≡◌, ℕ, ◌+◌, ◌-◌, ◌*◌, ◌%◌, ◌<◌, ◌≤◌, inl, inr, ⊎_elim, true, List, ◌∷◌, length, Option, Some, None, sym, ap, subst, ◌∙◌, arith}
 use Rattle.std.proofs.lemmas.Bool.{cases_lt}
 use Rattle.disk_model.specs.Event.{Event, Write, Sync}
-use Rattle.disk_model.specs.Past.{Past, At, IsWrite}
+use Rattle.disk_model.specs.Past.{Past, At, MayGrow, IsWrite, grow}
 use Rattle.disk_model.specs.Does.{Does}
 use Rattle.disk_model.specs.declared.names.FileName.{FileName}
 use Rattle.disk_model.specs.declared.names.FileName.TheVariants.{Log as LogFile}
 use Rattle.disk_model.proofs.Moments.{at_each, at_last}
-use Rattle.std.specs.Prelude.{Result}
-use Rattle.places.specs.Places.{Layout, HasPlaces, place, shown}
+use Rattle.std.specs.Prelude.{Result, Ok, Err, OnOk, OnErr}
+use Rattle.places.specs.Places.{Layout, HasFile, HasPlaces, place, shown}
 use Rattle.redo_text.specs.declared.change.Change.{Change}
 use Rattle.places.specs.Batches.{From, Could, IsOneOf, Batch, IsNext, Writing, BatchSettled}
+use Rattle.places.proofs.FileSteps.{file_written, file_may_write, file_synced}
+use Rattle.places.proofs.Steps.{place_ends}
 use Rattle.places.proofs.Batches.{wrote_none, writing_more, next_each, next_wrote, last_sync, fact_of_settled, at_start, at_end, lift_from}
 use Rattle.ring_log.specs.Ring.{Form, RingState, IsRingState, Ringed, RingReady}
 use Rattle.ring_log.specs.Batches.{ring_batch, more, settle}
@@ -166,3 +168,17 @@ pub places_after : {T X : Type 0} {b : Batch} {k : ℕ} {E : Event → Type 0} {
     → Does (From (λ s m. Writing LogFile (log_places blocks) b k s m) old) E Q old new result → At (HasPlaces LogFile (log_places blocks)) new
 places_after {b = b} {k = k} {old = old} {new = new} blocks has does =
     at_end (λ s m u w. w.places) does.moments.later has (at_last (From (λ s m. Writing LogFile (log_places blocks) b k s m) old) old new does.moments)
+
+-- ---- the file is there with its length, whatever is pending
+
+-- behind the write of one place
+pub file_after_write : {T X : Type 0} (result : Result T X) {old new : Past} (blocks i : ℕ) → i < 3 + blocks → (bytes : List ℕ) → length bytes ≡ 4096 → At (HasFile LogFile (log_places blocks)) old
+    → OnOk result (new ≡ grow (Write LogFile (i * 4096) bytes bytes) old) → OnErr result (MayGrow (IsWrite LogFile (i * 4096) bytes) old new) → At (HasFile LogFile (log_places blocks)) new
+file_after_write (Ok v) {old = old} {new = new} blocks i lt bytes long has ok err = file_written LogFile (log_places blocks) LogFile (i * 4096) bytes old new (omega (arith, long, place_ends (log_places blocks) i lt)) has ok
+file_after_write (Err x) {old = old} {new = new} blocks i lt bytes long has ok err = file_may_write LogFile (log_places blocks) LogFile (i * 4096) bytes old new (omega (arith, long, place_ends (log_places blocks) i lt)) has err
+
+-- and behind a sync
+pub file_after_sync : {T X : Type 0} (result : Result T X) {old new : Past} (blocks : ℕ) → At (HasFile LogFile (log_places blocks)) old
+    → OnOk result (new ≡ grow (Sync LogFile) old) → OnErr result (new ≡ old) → At (HasFile LogFile (log_places blocks)) new
+file_after_sync (Ok v) {old = old} {new = new} blocks has ok err = file_synced LogFile (log_places blocks) LogFile old new has ok
+file_after_sync (Err x) {old = old} {new = new} blocks has ok err = subst (At (HasFile LogFile (log_places blocks))) (sym err) has

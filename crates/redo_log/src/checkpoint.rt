@@ -43,6 +43,7 @@ fn write_check<D: Disk>(
     ensures does { At (HasPlaces LogFile (log_places blocks)) (D.past disk.old) → Does (From (CheckWriting blocks sequence from) (D.past disk.old)) (IsCheckEvent sequence from) (From (CheckWrote blocks sequence from 1) (D.past disk.old)) (D.past disk.old) (D.past disk.new) result }
     ensures adds { Does IsAny (IsCheckEvent sequence from) IsAny (D.past disk.old) (D.past disk.new) result }
     ensures ok { OnOk result (D.past disk.new ≡ grow (check_event sequence from) (D.past disk.old)) }
+    ensures file { At (HasFile LogFile (log_places blocks)) (D.past disk.new) }
     ensures err { OnErr result (MayGrow (IsWrite LogFile ((1 + sequence % 2) * block_bytes) (check_bytes sequence from)) (D.past disk.old) (D.past disk.new)) }
     ensures later { D.is_later disk.old disk.new }
     ensures calls { D.clock disk.new ≤ D.clock disk.old + 1 }
@@ -70,6 +71,7 @@ fn settle_check<D: Disk>(
     requires most { from ≤ 2 ^ 50 }
     requires places { At (HasFile LogFile (log_places blocks)) (D.past disk.old) }
     ensures does { At (HasPlaces LogFile (log_places blocks)) (D.past disk.old) → Does (From (CheckWriting blocks sequence from) (D.past disk.old)) (IsCheckEvent sequence from) (From (CheckSettled blocks sequence from) (D.past disk.old)) (D.past disk.old) (D.past disk.new) result }
+    ensures file { At (HasFile LogFile (log_places blocks)) (D.past disk.new) }
     ensures exact { OnOk result (D.past disk.new ≡ grow (Sync LogFile) (grow (check_event sequence from) (D.past disk.old))) }
     ensures part { OnErr result (IsPart LogFile block_bytes (side_batch sequence from) 1 (D.past disk.old) (D.past disk.new)) }
     ensures items { Throughout (From KeepsItems (D.past disk.old)) (D.past disk.old) (D.past disk.new) }
@@ -134,6 +136,7 @@ pub fn write_opening_checkpoint<D: Disk>(
     ensures part { OnErr result (IsPart LogFile block_bytes (side_batch (sequence + 1) (end + blocks)) 1 (D.past disk.old) (D.past disk.new)) }
     // Nothing of the record's page texts and ring blocks is changed by it.
     ensures items { Throughout (From KeepsItems (D.past disk.old)) (D.past disk.old) (D.past disk.new) }
+    ensures file { At (HasFile LogFile (log_places blocks)) (D.past disk.new) }
     ensures places { At (HasPlaces LogFile (log_places blocks)) (D.past disk.old) → At (HasPlaces LogFile (log_places blocks)) (D.past disk.new) }
     ensures later { D.is_later disk.old disk.new }
     ensures calls { D.clock disk.new ≤ D.clock disk.old + 2 }
@@ -151,10 +154,11 @@ impl Log {
     fn move_from<D: Disk>(&self, disk: &mut D, from: u64) -> Result<(), DiskError>
         requires low { self.now.from ≤ from }
         requires high { from ≤ durable self.now }
-        requires places { At (HasPlaces LogFile (log_places self.now.blocks)) (D.past disk.old) }
+        requires file { At (HasFile LogFile (log_places self.now.blocks)) (D.past disk.old) }
         ensures does { (keys : Keys) (r : RingState) → FitsRing r self.now → At (RingReady self.now.blocks (redo_form keys) r) (D.past disk.old) → Does (Ringed self.now.blocks (redo_form keys) (checking r from)) (IsCheckEvent (self.now.sequence + 1) from) (RingReady self.now.blocks (redo_form keys) (checked r from)) (D.past disk.old) (D.past disk.new) result }
         ensures open { IsOpen self.now }
-        ensures places { At (HasPlaces LogFile (log_places self.now.blocks)) (D.past disk.new) }
+        ensures file { At (HasFile LogFile (log_places self.now.blocks)) (D.past disk.new) }
+        ensures places { At (HasPlaces LogFile (log_places self.now.blocks)) (D.past disk.old) → At (HasPlaces LogFile (log_places self.now.blocks)) (D.past disk.new) }
         ensures nothing { from ≡ self.now.from → (result ≡ Ok tt) × (D.past disk.new ≡ D.past disk.old) × (disk.new ≡ disk.old) }
         ensures exact { self.now.from < from → OnOk result (D.past disk.new ≡ grow (Sync LogFile) (grow (check_event (self.now.sequence + 1) from) (D.past disk.old))) }
         ensures part { OnErr result (IsPart LogFile block_bytes (side_batch (self.now.sequence + 1) from) 1 (D.past disk.old) (D.past disk.new)) }
@@ -189,7 +193,9 @@ impl Log {
 
     /// Writes the next checkpoint, from which the run begins at this block, and syncs the log. The
     /// block must be from the one of the last synced checkpoint up to the first pending one. Where it
-    /// is that of the last synced checkpoint nothing is done. It takes no memory.
+    /// is that of the last synced checkpoint nothing is done. It takes no memory. The log's file is there
+    /// with its length, whatever is pending of it; what is said of images holds where it keeps its places
+    /// too.
     ///
     /// # Errors
     /// As the disk gives them. The checkpoint may then be on the disk or not, and the log goes on with
@@ -197,7 +203,7 @@ impl Log {
     pub fn checkpoint<D: Disk>(&mut self, disk: &mut D, from: u64) -> Result<(), DiskError>
         requires low { self.old.from ≤ from }
         requires high { from ≤ durable self.old }
-        requires places { At (HasPlaces LogFile (log_places self.old.blocks)) (D.past disk.old) }
+        requires file { At (HasFile LogFile (log_places self.old.blocks)) (D.past disk.old) }
         // Each lucky image of each moment stands for a part of the journal.
         ensures stands { (keys : Keys) (r : RingState) (start : ℕ) (journal : List (Logged (List Change))) → FitsRing r self.old → At (RingReady self.old.blocks (redo_form keys) r) (D.past disk.old) → IsRingJournal self.old.blocks (redo_form keys) r start journal self.old.next → IsBound self.old.blocks (redo_form keys) r.block start journal from → Throughout (AllRingStand self.old.blocks (redo_form keys) (checking r from) start journal self.old.next) (D.past disk.old) (D.past disk.new) }
         ensures does { (keys : Keys) (r : RingState) → FitsRing r self.old → At (RingReady self.old.blocks (redo_form keys) r) (D.past disk.old) → Does (Ringed self.old.blocks (redo_form keys) (checking r from)) (IsCheckEvent (self.old.sequence + 1) from) (RingReady self.old.blocks (redo_form keys) (checked r from)) (D.past disk.old) (D.past disk.new) result }
@@ -214,7 +220,8 @@ impl Log {
         ensures record { (header : HeldHeader) (keys : List RingEntry) (salts : ℕ → List ℕ) → At (IsRecordOnce header keys salts) (D.past disk.old) → Throughout (IsRecordOnce header keys salts) (D.past disk.old) (D.past disk.new) }
         ensures settles { (keys : Keys) (r : RingState) (start : ℕ) (journal : List (Logged (List Change))) → FitsRing r self.old → r.written ≡ r.settled → At (BlocksOnce self.old) (D.past disk.old) → Throughout (AreBlocksSettled self.old.blocks keys (checking r from) start journal self.old.next) (D.past disk.old) (D.past disk.new) }
         ensures open { IsOpen self.new }
-        ensures places { At (HasPlaces LogFile (log_places self.old.blocks)) (D.past disk.new) }
+        ensures file { At (HasFile LogFile (log_places self.old.blocks)) (D.past disk.new) }
+        ensures places { At (HasPlaces LogFile (log_places self.old.blocks)) (D.past disk.old) → At (HasPlaces LogFile (log_places self.old.blocks)) (D.past disk.new) }
         ensures later { D.is_later disk.old disk.new }
         ensures calls { D.clock disk.new ≤ D.clock disk.old + 2 }
         ensures cause { HasDiskCause (D.faults disk.old) (D.faults disk.new) result }

@@ -30,4 +30,4 @@ invariant_of-result c =
     let within = is.0.within in
     let room = is.0.text_room in
     let long = i.long in
-    (texts_all _ _ _ c.loop-copied.yielded c.loop-copied.sealed.items i.done, omega (arith, same, all, within, room, long), is.2)
+    (texts_all _ _ _ c.loop-copied.yielded c.loop-copied.sealed.items i.done, omega (arith, same, all, within, room, long), is.2, is.0.keyed)

@@ -8,6 +8,7 @@ use Rattle.places.specs.Batches.{Syncs}
 use Rattle.places.specs.Writes.{Done}
 use Rattle.redo_log.specs.Events.{side_batch, IsAny, IsCheckEvent}
 use Rattle.places.proofs.WriteLemmas.{grows_none, write_more, write_failed}
+use Rattle.redo_log.proofs.BlockSteps.{file_after_sync}
 use Rattle.redo_log.proofs.CheckSteps.{check_now, check_sync, check_then}
 use Rattle.redo_log.proofs.RecordSteps.{check_items}
 use Rattle.redo_log.proofs.checkpoint.settle_check.Goals as goal
@@ -48,3 +49,6 @@ returns-clause-items g c =
     let wrote = c.in_ok-write_check.ensures.adds in
     let adds = does_then wrote (does_sync {A = IsAny} {P = IsAny} {Q = IsAny} (IsCheckEvent s f) (Sync LogFile) wrote.next (λ es a. tt) (λ es a. tt) (Syncs refl) (λ es a. tt) c.sync.ensures.ok c.sync.ensures.err) in
     check_items s f adds.moments.later adds.adds
+
+pub returns-clause-file : goal.returns-clause-file
+returns-clause-file g c = file_after_sync c.sync.result c.args.blocks c.in_ok-write_check.ensures.file c.sync.ensures.ok c.sync.ensures.err

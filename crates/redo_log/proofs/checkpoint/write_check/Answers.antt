@@ -6,6 +6,8 @@ use Rattle.disk_model.proofs.Layers.{does_write}
 use Rattle.places.proofs.Batches.{write_is_of}
 use Rattle.redo_log.specs.Check.{check_bytes}
 use Rattle.redo_log.specs.Events.{side_batch, IsAny}
+use Rattle.redo_log.proofs.BlockSteps.{file_after_write}
+use Rattle.redo_log.proofs.CheckLaws.{length-check}
 use Rattle.redo_log.proofs.CheckSteps.{check_next, check_begin, check_now, check_each, check_wrote}
 use Rattle.redo_log.proofs.checkpoint.write_check.Goals as goal
 
@@ -31,3 +33,9 @@ pub returns-clause-adds : goal.returns-clause-adds
 returns-clause-adds g c =
     let s = c.args.sequence in
     does_write {A = IsAny} LogFile ((1 + s % 2) * 4096) (check_bytes s c.args.from) (record { here = λ es is. tt }) (λ es a. tt) (λ d is es a. tt) (write_is_of LogFile 4096 (side_batch s c.args.from) 0 1 (omega arith)) (λ es a. tt) (returns-clause-ok g c) (returns-clause-err g c)
+
+pub returns-clause-file : goal.returns-clause-file
+returns-clause-file g c =
+    let s = c.args.sequence in
+    let f = c.args.from in
+    file_after_write c.write.result c.args.blocks (1 + s % 2) (omega arith) (check_bytes s f) (length-check s f c.requires.some c.requires.order c.requires.most) c.requires.places (returns-clause-ok g c) (returns-clause-err g c)
