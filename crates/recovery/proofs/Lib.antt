@@ -16,3 +16,8 @@ pub mod SealSteps
 pub mod SealedPages
 pub mod GroupSteps
 pub mod RunSteps
+pub mod PlaceSteps
+pub mod LooksSteps
+pub mod KeySteps
+pub mod NotedChanges
+pub mod RunsPassed

@@ -11,3 +11,8 @@ pub mod Changing
 pub mod Sealing
 pub mod Groups
 pub mod Applying
+pub mod SpaceList
+pub mod Keys
+pub mod RunText
+pub mod Changes
+pub mod Passed

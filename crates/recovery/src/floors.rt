@@ -32,12 +32,11 @@ pub fn check_floors(spaces: &[SpaceInfo], active: u32) -> Result<(), OpenRefuse>
 /// # Errors
 /// [`OpenRefuse::Spent`] exactly where `last + 1 + blocks` is above 2^35.
 pub fn check_numbers(last: u64, blocks: u64) -> Result<(), OpenRefuse>
-    requires last { last ≤ 2 ^ 51 }
-    requires blocks { blocks ≤ 4096 }
+    requires { blocks ≤ 4096 }
     ensures ok { OnOk result (last + 1 + blocks ≤ 2 ^ 35) }
     ensures refused { IfErr result (IsNumberRefusal blocks last) }
 {
-    if last + 1 + blocks > LAST_BLOCK {
+    if last >= LAST_BLOCK - blocks {
         return Err(OpenRefuse::Spent { last });
     }
     Ok(())

@@ -31,7 +31,7 @@ use store_form::{Header, HeaderSpace, Spaces};
 
 /// How many bytes a number has.
 #[derive(Clone, Copy, Debug, PartialEq, Eq)]
-pub enum Width {
+pub(crate) enum Width {
     One,
     Two,
     Four,
@@ -40,7 +40,7 @@ pub enum Width {
 
 /// A field of page 0, and what it is to be.
 #[derive(Clone, Copy, Debug, PartialEq, Eq)]
-pub struct HeadField {
+pub(crate) struct HeadField {
     /// Its place in the page, in bytes.
     pub at: usize,
     /// Its size.

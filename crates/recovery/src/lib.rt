@@ -10,7 +10,10 @@
 //! 4. [`find_pages`] finds what each page is read from, and refuses the first that can't be read.
 //! 5. [`find_heads`] reads what the spaces are from their page 0, and refuses the first that says
 //!    something else than the header.
-//! 6. [`check_floors`] refuses the first space whose least version is above the active one, and
+//! 6. [`check_keys`] refuses the least key that reading the store needs and the ring lacks.
+//! 7. [`find_changes`] reads the run once, and finds what it changes, or refuses the first
+//!    mini-transaction that doesn't say changes of the store's pages.
+//! 8. [`check_floors`] refuses the first space whose least version is above the active one, and
 //!    [`check_numbers`] a log whose numbers end before the store could go on.
 //!
 //! Behind them stand the parts that write to homes: [`restore_homes`] writes the torn ones from
@@ -23,12 +26,14 @@
 //! [`write_group`] puts a group of them.
 #![tactic(auto)]
 
+mod changes;
 mod changing;
 mod checkpoint;
 mod floors;
 mod groups;
 mod header;
 mod heads;
+mod keys;
 mod layout;
 mod lengths;
 mod loading;
@@ -38,14 +43,18 @@ mod putting;
 mod reading;
 mod restoring;
 mod rounds;
+mod run_text;
 mod sealing;
+mod space_list;
 
+pub use changes::{PageLsns, RunChanges, SpaceLsns, find_changes};
 pub use changing::apply_text;
 pub use checkpoint::find_checkpoint;
 pub use floors::{check_floors, check_numbers};
 pub use groups::write_group;
 pub use header::find_header;
-pub use heads::{HeadField, Width, find_heads};
+pub use heads::find_heads;
+pub use keys::check_keys;
 pub use lengths::check_lengths;
 pub use loading::{Loaded, load_pages};
 pub use notes::{NoteSource, PageNote, PageNotes, SpaceNotes};
