@@ -1,0 +1,9 @@
+pub mod Keys
+pub mod Spaces
+pub mod Stops
+pub mod Files
+pub mod Session
+pub mod Start
+pub mod Opening
+pub mod Reading
+pub mod Activating
