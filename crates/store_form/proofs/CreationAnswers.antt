@@ -13,11 +13,12 @@ use Rattle.space_head.specs.declared.space.SpaceInfo.{SpaceInfo}
 use Rattle.store_files.specs.Header.{HeldHeader}
 use Rattle.store_model.specs.Fold.{empty}
 use Rattle.store_form.specs.CreateAnswer.{IsBegun}
-use Rattle.store_form.specs.Created.{HasNoFile, LeaveNoneOrEmpty, WritesFirstPages}
+use Rattle.store_form.specs.Created.{HasNoFile, LeaveNoneOrEmpty, RecordsCreation, WritesFirstPages}
 use Rattle.store_form.specs.Creation.{creation, events_after, past_after}
 use Rattle.store_form.specs.Made.{CanBeMade}
 use Rattle.store_form.specs.Plan.{homes_made}
 use Rattle.store_form.specs.Rest.{IsRestForm, ReadsAtRest}
+use Rattle.store_form.proofs.CreatedRecord.{record_means, record_none}
 use Rattle.store_form.proofs.CreationFiles.{creation_ends, m_header}
 use Rattle.store_form.proofs.CreationMoments.{images_of_creation, record_of_creation}
 use Rattle.store_form.proofs.CreationRest.{created_form, reads_created, rests_created}
@@ -31,7 +32,7 @@ module _ (header : HeldHeader) (spaces : List SpaceInfo) (old new : Past) where
   P = LeaveNoneOrEmpty spaces
 
   abbrev W : List Event → Type 0
-  W = From WritesFirstPages old
+  W = From (WritesFirstPages spaces) old
 
   -- ---- images
 
@@ -50,21 +51,42 @@ module _ (header : HeldHeader) (spaces : List SpaceInfo) (old new : Past) where
 
   -- ---- the record of writes
 
-  from_first : (es m : List Event) → old ≡ Some es → WritesFirstPages es m → From WritesFirstPages old m
-  from_first es m is wrote = record { here = λ s that. let same : es ≡ s = same_Some es s (sym is ∙ that) in subst (λ (t : List Event). WritesFirstPages t m) same wrote }
+  from_first : (es m : List Event) → old ≡ Some es → WritesFirstPages spaces es m → From (WritesFirstPages spaces) old m
+  from_first es m is wrote = record { here = λ s that. let same : es ≡ s = same_Some es s (sym is ∙ that) in subst (λ (t : List Event). WritesFirstPages spaces t m) same wrote }
 
-  none_written : At (From WritesFirstPages old) old
-  none_written = record { here = λ es is. from_first es es is (record { told = refl; items = []; is = refl; first = λ k d lt. absurd (omega (arith, lt)) }) }
+  none_written : At (From (WritesFirstPages spaces) old) old
+  none_written = record { here = λ es is. from_first es es is (record { told = refl; items = []; is = refl; first = tt }) }
 
-  each_written : CanBeMade header spaces → At (AtEach (From WritesFirstPages old) (creation header spaces)) old
+  each_written : CanBeMade header spaces → At (AtEach (From (WritesFirstPages spaces) old) (creation header spaces)) old
   each_written can = record { here = λ es is. each_weaker steps es (λ m wrote. from_first es m is wrote) (record_of_creation header spaces es can.made) }
 
-  pub written_done : CanBeMade header spaces → new ≡ past_after (creation header spaces) old → Throughout (From WritesFirstPages old) old new
+  pub written_done : CanBeMade header spaces → new ≡ past_after (creation header spaces) old → Throughout (From (WritesFirstPages spaces) old) old new
   written_done can is = subst (λ (h : Past). Throughout W old h) (sym is) (moments_after W steps old (each_written can))
 
-  pub written_begun : IsBegun header spaces old new → Throughout (From WritesFirstPages old) old new
+  pub written_begun : IsBegun header spaces old new → Throughout (From (WritesFirstPages spaces) old) old new
   written_begun (inl same) = subst (λ (h : Past). Throughout W old h) (sym same) (begins W old none_written)
   written_begun (inr (can, stop)) = moments_stopped W steps old new (each_written can) stop
+
+  -- ---- the record is that of a new store
+
+  abbrev R : List Event → Type 0
+  R = From (RecordsCreation header spaces) old
+
+  from_recorded : (es m : List Event) → old ≡ Some es → RecordsCreation header spaces es m → From (RecordsCreation header spaces) old m
+  from_recorded es m is records = record { here = λ s that. let same : es ≡ s = same_Some es s (sym is ∙ that) in subst (λ (t : List Event). RecordsCreation header spaces t m) same records }
+
+  none_recorded : At (From (RecordsCreation header spaces) old) old
+  none_recorded = record { here = λ es is. from_recorded es es is (record_none header spaces es) }
+
+  each_recorded : CanBeMade header spaces → At (AtEach (From (RecordsCreation header spaces) old) (creation header spaces)) old
+  each_recorded can = record { here = λ es is. each_weaker steps es (λ m wrote. from_recorded es m is (record_means header spaces can es m wrote)) (record_of_creation header spaces es can.made) }
+
+  pub recorded_done : CanBeMade header spaces → new ≡ past_after (creation header spaces) old → Throughout (From (RecordsCreation header spaces) old) old new
+  recorded_done can is = subst (λ (h : Past). Throughout R old h) (sym is) (moments_after R steps old (each_recorded can))
+
+  pub recorded_begun : IsBegun header spaces old new → Throughout (From (RecordsCreation header spaces) old) old new
+  recorded_begun (inl same) = subst (λ (h : Past). Throughout R old h) (sym same) (begins R old none_recorded)
+  recorded_begun (inr (can, stop)) = moments_stopped R steps old new (each_recorded can) stop
 
   -- ---- the store at rest
 

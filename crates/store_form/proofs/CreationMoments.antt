@@ -1,9 +1,7 @@
 -- What each image of each moment of a creation is, and what it writes.
 use Rattle.std.proofs.Common.{◌≡◌, ℕ, ◌+◌, ◌*◌, ◌/◌, ◌<◌, ◌≤◌, ◌&&◌, Bool, true, false, nat_le, if◌then◌else◌, List, [], ◌∷◌, ◌++◌, length, None, lit<, ◌⊎◌, refl, sym, ap, ◌∙◌, subst, inl, inr, arith}
-use Rattle.std.specs.Prelude.{All}
 use Rattle.std.proofs.lemmas.Bool.{cond-true, cond-false}
 use Rattle.std.proofs.lemmas.Bool.Decides.{nat_tests}
-use Rattle.std.proofs.lemmas.List.Elements.{All-cons}
 use Rattle.byte_list.specs.Bytes.{put, range, zeros}
 use Rattle.byte_list.proofs.PutLaws.{range-put_before}
 use Rattle.byte_list.proofs.RangeLaws.{length-zeros, range-zeros}
@@ -30,7 +28,7 @@ use Rattle.store_model.specs.Fold.{empty}
 use Rattle.crash_image.specs.Recovers.{Recovers}
 use Rattle.crash_image.specs.Stands.{Lucky, place_test}
 use Rattle.crash_image.specs.Writes.{written_item, written_items}
-use Rattle.store_form.specs.Created.{HasNoFile, IsFirstPage, IsNotFormatted, LeaveNoneOrEmpty, WritesFirstPages}
+use Rattle.store_form.specs.Created.{HasNoFile, IsFirstTextOf, IsNotFormatted, LeaveNoneOrEmpty, WritesFirstPages}
 use Rattle.store_form.specs.Creation.{check_written, creation, events_after, files_begun, first_pages_written, first_text, header_written, spaces_begun}
 use Rattle.store_form.proofs.CreatedFiles.{begun_first, length-header, log_begun, log_made, space_made}
 use Rattle.store_form.proofs.CreationFiles.{AreSettled, double_at_check, double_at_header, image_spaces, log_at_check, log_at_header, log_at_pages, log_files, log_first, log_in_files, log_in_pages, log_zeros, m_check, m_files, m_header, m_pages, spaces_at_check, spaces_at_header}
@@ -147,14 +145,28 @@ module _ (header : HeldHeader) (spaces : List SpaceInfo) (es : List Event) (w : 
 -- ---- the record of writes
 
 -- what a creation asks of a disk: files, texts of pages 0, and blocks of the log before its ring
-abbrev pub IsCreating : Event → Type 0
-IsCreating (Open files ms ws) = ⊥
-IsCreating (Make f n) = Unit {0}
-IsCreating (Write Log at bytes shows) = at < 12288
-IsCreating (Write Double at bytes shows) = ⊥
-IsCreating (Write (Space s) at bytes shows) = (at ≡ 0) × (is_page_text 0 bytes ≡ true) × ((text_in bytes).lsn ≡ 8192)
-IsCreating (Sync f) = Unit {0}
-IsCreating (Tell m) = ⊥
+abbrev pub IsCreating : List SpaceInfo → Event → Type 0
+IsCreating spaces (Open files ms ws) = ⊥
+IsCreating spaces (Make f n) = Unit {0}
+IsCreating spaces (Write Log at bytes shows) = at < 12288
+IsCreating spaces (Write Double at bytes shows) = ⊥
+IsCreating spaces (Write (Space s) at bytes shows) = (at ≡ 0) × (is_page_text 0 bytes ≡ true) × ((text_in bytes).lsn ≡ 8192) × IsFirstTextOf spaces s (text_in bytes)
+IsCreating spaces (Sync f) = Unit {0}
+IsCreating spaces (Tell m) = ⊥
+
+-- and of one space more
+creating_more : (x : SpaceInfo) (xs : List SpaceInfo) (e : Event) → IsCreating xs e → IsCreating (x ∷ xs) e
+creating_more x xs (Open files ms ws) is = absurd is
+creating_more x xs (Make f n) is = tt
+creating_more x xs (Write Log at bytes shows) is = is
+creating_more x xs (Write Double at bytes shows) is = absurd is
+creating_more x xs (Write (Space s) at bytes shows) (here, is, lsn, first) = (here, is, lsn, inr first)
+creating_more x xs (Sync f) is = tt
+creating_more x xs (Tell m) is = absurd is
+
+all_more : (x : SpaceInfo) (xs : List SpaceInfo) (es : List Event) → AllAre (IsCreating xs) es → AllAre (IsCreating (x ∷ xs)) es
+all_more x xs [] all = tt
+all_more x xs (e ∷ es) all = (creating_more x xs e all.0, all_more x xs es all.1)
 
 first_item : (s at : ℕ) (bytes : List ℕ) → at ≡ 0 → is_page_text 0 bytes ≡ true → written_item (Space s) at bytes ≡ PageText s 0 (text_in bytes) ∷ []
 first_item s at bytes here is =
@@ -165,8 +177,8 @@ no_item at bytes below =
     let low : nat_le 12288 at ≡ false = grind (arith, nat_tests) in
     ap (λ (b : Bool). if b && is_ring_block (number_of bytes) bytes then RingBlock (number_of bytes) (block_version bytes) bytes ∷ [] else []) low
 
-module _ (s : List Event) where
-  one_written : (e : Event) (m : List Event) → IsCreating e → WritesFirstPages s m → WritesFirstPages s (e ∷ m)
+module _ (spaces : List SpaceInfo) (s : List Event) where
+  one_written : (e : Event) (m : List Event) → IsCreating spaces e → WritesFirstPages spaces s m → WritesFirstPages spaces s (e ∷ m)
   one_written (Open files ms ws) m none was = absurd none
   one_written (Make f n) m is was = record { told = was.told; items = was.items; is = was.is; first = was.first }
   one_written (Sync f) m is was = record { told = was.told; items = was.items; is = was.is; first = was.first }
@@ -178,14 +190,14 @@ module _ (s : List Event) where
     is = ap (λ (l : List Item). l ++ written_items (record_of m)) (no_item at bytes below) ∙ was.is;
     first = was.first;
   }
-  one_written (Write (Space z) at bytes shows) m (here, is, lsn) was = record {
+  one_written (Write (Space z) at bytes shows) m (here, is, lsn, of) was = record {
     told = was.told;
     items = PageText z 0 (text_in bytes) ∷ was.items;
     is = ap (λ (l : List Item). l ++ written_items (record_of m)) (first_item z at bytes here is) ∙ ap (λ (l : List Item). PageText z 0 (text_in bytes) ∷ l) was.is;
-    first = All-cons IsFirstPage (PageText z 0 (text_in bytes)) was.items (refl, lsn) was.first;
+    first = ((refl, lsn, of), was.first);
   }
 
-  attempt_written : (e : Event) (m : List Event) → IsCreating e → WritesFirstPages s m → AtAttempt (WritesFirstPages s) e m
+  attempt_written : (e : Event) (m : List Event) → IsCreating spaces e → WritesFirstPages spaces s m → AtAttempt (WritesFirstPages spaces s) e m
   attempt_written (Open files ms ws) m is was = tt
   attempt_written (Make f n) m is was = tt
   attempt_written (Sync f) m is was = tt
@@ -194,20 +206,27 @@ module _ (s : List Event) where
   attempt_written (Write Log at bytes shows) m is was = λ other long. one_written (Write Log at bytes other) m is was
   attempt_written (Write (Space z) at bytes shows) m is was = λ other long. one_written (Write (Space z) at bytes other) m is was
 
-  each_written : (steps m : List Event) → AllAre IsCreating steps → WritesFirstPages s m → AtEach (WritesFirstPages s) steps m
+  each_written : (steps m : List Event) → AllAre (IsCreating spaces) steps → WritesFirstPages spaces s m → AtEach (WritesFirstPages spaces s) steps m
   each_written [] m all was = was
   each_written (e ∷ steps) m all was = (was, attempt_written e m all.0 was, each_written steps (e ∷ m) all.1 (one_written e m all.0 was))
 
-spaces_creating : (ss : List SpaceInfo) (rest : List Event) → AllAre IsCreating rest → AllAre IsCreating (spaces_begun ss ++ rest)
-spaces_creating [] rest all = all
-spaces_creating (s ∷ ss) rest all = (tt, spaces_creating ss rest all)
+spaces_creating : (zs ss : List SpaceInfo) (rest : List Event) → AllAre (IsCreating zs) rest → AllAre (IsCreating zs) (spaces_begun ss ++ rest)
+spaces_creating zs [] rest all = all
+spaces_creating zs (s ∷ ss) rest all = (tt, spaces_creating zs ss rest all)
 
-pages_creating : (ss : List SpaceInfo) (rest : List Event) → AreMadeInfos ss → AllAre IsCreating rest → AllAre IsCreating (first_pages_written ss ++ rest)
-pages_creating [] rest made all = all
-pages_creating (s ∷ ss) rest made all = ((refl, first_is s made.0, ap (λ (t : Text). t.lsn) (first_in s made.0)), (tt, pages_creating ss rest made.1 all))
+pages_creating : (ss : List SpaceInfo) (rest : List Event) → AreMadeInfos ss → ((zs : List SpaceInfo) → AllAre (IsCreating zs) rest) → AllAre (IsCreating ss) (first_pages_written ss ++ rest)
+pages_creating [] rest made all = all []
+pages_creating (s ∷ ss) rest made all =
+    ((refl, first_is s made.0, ap (λ (t : Text). t.lsn) (first_in s made.0), inl (refl, refl)), (tt, all_more s ss (first_pages_written ss ++ rest) (pages_creating ss rest made.1 all)))
 
-pub record_of_creation : (header : HeldHeader) (spaces : List SpaceInfo) (es : List Event) → AreMadeInfos spaces → AtEach (WritesFirstPages es) (creation header spaces) es
+pub record_of_creation : (header : HeldHeader) (spaces : List SpaceInfo) (es : List Event) → AreMadeInfos spaces → AtEach (WritesFirstPages spaces es) (creation header spaces) es
 record_of_creation header spaces es made =
-    each_written es (creation header spaces) es
-    (tt, (tt, spaces_creating spaces (first_pages_written spaces ++ (check_written ++ header_written header)) (pages_creating spaces (check_written ++ header_written header) made (lit< tt, (tt, (lit< tt, (tt, tt)))))))
-    (record { told = refl; items = []; is = refl; first = λ k d lt. absurd (omega (arith, lt)) })
+    each_written spaces es (creation header spaces) es (
+      tt,
+      (
+        tt,
+        spaces_creating spaces spaces (first_pages_written spaces ++ (check_written ++ header_written header))
+            (pages_creating spaces (check_written ++ header_written header) made (λ zs. (lit< tt, (tt, (lit< tt, (tt, tt)))))),
+      ),
+    )
+    (record { told = refl; items = []; is = refl; first = tt })

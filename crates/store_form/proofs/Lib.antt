@@ -20,3 +20,4 @@ pub mod PlanLaws
 pub mod KeyChecks
 pub mod CreationLoops
 pub mod CreationAnswers
+pub mod CreatedRecord

@@ -10,7 +10,7 @@ use Rattle.store_files.specs.Header.{HeldHeader}
 use Rattle.store_form.specs.Creation.{IsStopped, creation}
 use Rattle.store_form.specs.Made.{CanBeMade}
 use Rattle.store_form.specs.declared.creation.CreateRefusal.{CreateRefusal}
-use Rattle.store_form.specs.Plan.{IsLeastMissing, first_file_there, header_made, homes_made, in_id_order, spaces_made}
+use Rattle.store_form.specs.Plan.{HasNeededKeys, IsLeastMissing, first_file_there, header_made, homes_made, in_id_order, spaces_made}
 use Rattle.store_form.specs.Rest.{StoreAtRest}
 use Rattle.store_form.specs.declared.create_fault.CreateFault.{CreateFault}
 use Rattle.store_form.specs.declared.create_fault.CreateFault.TheVariants.{Exists, MissingKey, DiskFault, OutOfMemory}
@@ -55,6 +55,14 @@ IsKeyRefusal keys plan OutOfMemory = ⊥
 -- a creation that didn't end: nothing was done, or the store could be made and some of the events were
 abbrev pub IsBegun : HeldHeader → List SpaceInfo → Past → Past → Type 0
 IsBegun header spaces old new = (new ≡ old) ⊎ (CanBeMade header spaces × IsStopped (creation header spaces) old new)
+
+-- What a creation that didn't end left: the disk as it was; or, where no file was in its way and no key was missing, some of the events were done.
+abbrev pub IsLeftBy : List RingEntry → StorePlan → Stream → Past → Past → Type 0
+IsLeftBy keys plan stream old new =
+    (new ≡ old)
+    ⊎ (At (λ es. first_file_there (in_id_order plan.spaces) es ≡ None) old
+    × HasNeededKeys keys plan.active plan.spaces
+    × IsStopped (creation (header_made plan stream) (spaces_made plan stream)) old new)
 
 -- the disk that is handed back, with or without a store
 abbrev pub disk_left : {D : Type 0} → Result (StoreAtRest D) (CreateRefusal D) → D

@@ -11,6 +11,8 @@ use Rattle.store_files.specs.Header.{HeldHeader, header_bytes}
 use Rattle.store_files.specs.Pages.{head_page}
 use Rattle.store_image.specs.Checkpoint.{front_blocks}
 use Rattle.store_image.specs.View.{block_bytes, slot_count}
+use Rattle.store_form.specs.declared.making.FrontBlock.{FrontBlock}
+use Rattle.store_form.specs.declared.making.FrontBlock.TheVariants.{Checkpoint, Header}
 
 -- the LSN of the log's first block, which the pages 0 are made at
 abbrev pub first_lsn : ℕ
@@ -40,6 +42,10 @@ check_written = check_event 1 2 ∷ Sync Log ∷ []
 
 abbrev pub header_written : HeldHeader → List Event
 header_written header = Write Log 0 (header_bytes header) (header_bytes header) ∷ Sync Log ∷ []
+
+abbrev pub front_written : HeldHeader → FrontBlock → List Event
+front_written header Checkpoint = check_written
+front_written header Header = header_written header
 
 -- The events of creating a store, the oldest first: all files, the pages 0, the checkpoint, and the header last.
 abbrev pub creation : HeldHeader → List SpaceInfo → List Event

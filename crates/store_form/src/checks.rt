@@ -3,7 +3,7 @@ ghost use Rattle.std.specs.Prelude.{◌≡◌, ◌≤◌, ◌+◌, IfOk, IsErrOf
 ghost use Rattle.disk_model.specs.Event.{is_there};
 ghost use Rattle.disk_model.specs.Past.{At, HasDiskCause, HasDiskMemoryCause};
 ghost use Rattle.disk_model.specs.declared.names.DiskError.TheVariants.{NoMemory};
-ghost use Rattle.store_form.specs.Plan.{HasNeededKeys, IsLeastMissing, first_file_there, first_space_there, lesser_missing};
+ghost use Rattle.store_form.specs.Plan.{HasNeededKeys, IsLeastMissing, files_asked, first_file_there, first_space_there, lesser_missing, spaces_asked};
 
 use crate::{SpacePlan, SpacePlans};
 use disk_model::{Disk, DiskError, FileName};
@@ -33,6 +33,7 @@ fn first_space_made<D: Disk>(
     ensures same { D.past disk.new ≡ D.past disk.old }
     ensures later { D.is_later disk.old disk.new }
     ensures calls { D.clock disk.new ≤ D.clock disk.old + length plans.now }
+    ensures asked { At (λ es. D.clock disk.new ≤ D.clock disk.old + spaces_asked plans.now es) (D.past disk.old) }
     ensures cause { HasDiskCause (D.faults disk.old) (D.faults disk.new) result }
     ensures memory { HasDiskMemoryCause (D.memory_refusals disk.old) (D.memory_refusals disk.new) result }
     ensures no_fault { OnOk result (D.faults disk.new ≡ D.faults disk.old) }
@@ -57,6 +58,7 @@ pub(crate) fn first_made<D: Disk>(
     ensures same { D.past disk.new ≡ D.past disk.old }
     ensures later { D.is_later disk.old disk.new }
     ensures calls { D.clock disk.new ≤ D.clock disk.old + 2 + length plans.now }
+    ensures asked { At (λ es. D.clock disk.new ≤ D.clock disk.old + files_asked plans.now es) (D.past disk.old) }
     ensures cause { HasDiskCause (D.faults disk.old) (D.faults disk.new) result }
     ensures memory { HasDiskMemoryCause (D.memory_refusals disk.old) (D.memory_refusals disk.new) result }
     ensures no_fault { OnOk result (D.faults disk.new ≡ D.faults disk.old) }

@@ -6,11 +6,11 @@ ghost use Rattle.disk_model.specs.Past.{At, Throughout};
 ghost use Rattle.key_ring.specs.Ring.{RingEntry};
 ghost use Rattle.places.specs.Batches.{From};
 ghost use Rattle.store_model.specs.Fold.{empty};
-ghost use Rattle.store_form.specs.CreateAnswer.{IsCreateRefusal, IsStoreMade, answer_alone, disk_left};
-ghost use Rattle.store_form.specs.Created.{HasNoFile, LeaveNoneOrEmpty, WritesFirstPages};
-ghost use Rattle.store_form.specs.Creation.{IsStopped, creation, past_after};
-ghost use Rattle.store_form.specs.Plan.{HasNeededKeys, IsCreatable, first_file_there, header_made, in_id_order, spaces_made};
-ghost use Rattle.store_form.specs.declared.create_fault.CreateFault.TheVariants.{DiskFault};
+ghost use Rattle.store_form.specs.CreateAnswer.{IsCreateRefusal, IsLeftBy, IsStoreMade, answer_alone, disk_left};
+ghost use Rattle.store_form.specs.Created.{HasNoFile, LeaveNoneOrEmpty, RecordsCreation, WritesFirstPages};
+ghost use Rattle.store_form.specs.Creation.{creation, past_after};
+ghost use Rattle.store_form.specs.Plan.{HasNeededKeys, IsCreatable, IsDrawnTo, after_salts, files_asked, first_file_there, header_made, in_id_order, spaces_made};
+ghost use Rattle.store_form.specs.declared.create_fault.CreateFault.TheVariants.{DiskFault, OutOfMemory};
 
 use crate::store_made::make_store;
 use crate::{AtRest, CreateFault, StorePlan};
@@ -52,21 +52,29 @@ pub fn create<D: Disk + Drop, R: Rng>(
     ensures none { OnOk result (At (λ es. first_file_there (in_id_order plan.now.spaces) es ≡ None) (D.past disk)) }
     ensures keys { OnOk result (HasNeededKeys ring.now plan.now.active plan.now.spaces) }
     ensures refused { IfErr result (λ refusal. IsCreateRefusal ring.now plan.now (D.past disk) (D.past refusal.disk) refusal.why) }
-    // The very events, and at a refusal a front of them and maybe an attempt at the write behind it.
+    // The very events. At a refusal the disk is as it was, or, where no file was there and no key missing, a front of them was
+    // done, and maybe an attempt at the write behind it.
     ensures exact { IfOk result (λ rest. D.past rest.disk ≡ past_after (creation (header_made plan.now (R.stream rng.old)) (spaces_made plan.now (R.stream rng.old))) (D.past disk)) }
-    ensures part { IfErr result (λ refusal. IsStopped (creation (header_made plan.now (R.stream rng.old)) (spaces_made plan.now (R.stream rng.old))) (D.past disk) (D.past refusal.disk)) }
+    ensures part { IfErr result (λ refusal. IsLeftBy ring.now plan.now (R.stream rng.old) (D.past disk) (D.past refusal.disk)) }
     // Each image of each moment has no valid header, or it recovers to the spaces with no page used.
     ensures images { At (HasNoFile (spaces_made plan.now (R.stream rng.old))) (D.past disk) → Throughout (LeaveNoneOrEmpty (spaces_made plan.now (R.stream rng.old))) (D.past disk) (D.past (disk_left result)) }
-    // No mark is told, and of page texts and ring blocks only texts of pages 0 at LSN 8192 are written.
-    ensures written { Throughout (From WritesFirstPages (D.past disk)) (D.past disk) (D.past (disk_left result)) }
+    // No mark is told, and of page texts and ring blocks only the one text of page 0 of each space is written, at LSN 8192.
+    ensures written { Throughout (From (WritesFirstPages (spaces_made plan.now (R.stream rng.old))) (D.past disk)) (D.past disk) (D.past (disk_left result)) }
+    // So on a disk without a record of page texts and ring blocks the record is always one of a new store.
+    ensures recorded { Throughout (From (RecordsCreation (header_made plan.now (R.stream rng.old)) (spaces_made plan.now (R.stream rng.old))) (D.past disk)) (D.past disk) (D.past (disk_left result)) }
     // Where nothing was pending, the store is at rest with them.
     ensures rest { IfOk result (λ rest. At (λ es. HasNonePending es → (keys : List RingEntry) → At (λ now. IsAtRest now keys (empty (spaces_made plan.now (R.stream rng.old))) 2) (D.past rest.disk)) (D.past disk)) }
+    // The generator is drawn from for the salts alone, one for the log and one for each space.
+    ensures salts { OnOk result (R.stream rng.new ≡ after_salts (1 + length plan.now.spaces) (R.stream rng.old)) }
+    ensures left { IsDrawnTo (1 + length plan.now.spaces) (R.stream rng.old) (R.stream rng.new) }
+    // Where a file is there or a key is missing, no file is asked for behind the first one that is there, and nothing else.
+    ensures asked { At (λ es. (first_file_there (in_id_order plan.now.spaces) es ≡ None → HasNeededKeys ring.now plan.now.active plan.now.spaces → ⊥) → D.clock (disk_left result) ≤ D.clock disk + files_asked (in_id_order plan.now.spaces) es) (D.past disk) }
     ensures later { D.is_later disk (disk_left result) }
     ensures calls { D.clock (disk_left result) ≤ D.clock disk + 8 + 4 * length plan.now.spaces }
     ensures cause { HasCauseOf DiskFault (D.faults disk) (D.faults (disk_left result)) (answer_alone result) }
     ensures memory { D.memory_refusals disk ≤ D.memory_refusals (disk_left result) }
     ensures no_fault { (IsErrOf (answer_alone result) DiskFault → ⊥) → D.faults (disk_left result) ≡ D.faults disk }
-    ensures no_refusal { OnOk result (D.memory_refusals (disk_left result) ≡ D.memory_refusals disk) }
+    ensures no_refusal { (IsErrOf (answer_alone result) OutOfMemory → ⊥) → (IsErrOf (answer_alone result) DiskFault → ⊥) → D.memory_refusals (disk_left result) ≡ D.memory_refusals disk }
 {
     let mut disk = disk;
     match make_store(alloc, &mut disk, ring, plan, rng) {

@@ -1,10 +1,10 @@
 // What a store is made as: salts are drawn, and its spaces, header and homes follow.
-ghost use Rattle.std.specs.Prelude.{◌≡◌, ◌≤◌, ◌+◌, ◌-◌, IfOk, length, map, take, replicate, ◌∷◌, []};
+ghost use Rattle.std.specs.Prelude.{◌≡◌, ◌≤◌, ◌+◌, ◌-◌, IfOk, OnOk, length, map, take, replicate, ◌∷◌, []};
 ghost use Rattle.aes_core.specs.Cipher.{AreBytes};
 ghost use Rattle.rand_core.specs.Stream.{fill_bytes};
 ghost use Rattle.space_head.specs.declared.space.Home.TheVariants.{Unused, Clean};
 ghost use Rattle.store_form.specs.Made.{AreMadeInfos, IsMadeInfo};
-ghost use Rattle.store_form.specs.Plan.{held_plan, homes_made, info_made, infos_drawn};
+ghost use Rattle.store_form.specs.Plan.{IsDrawnTo, after_salts, held_plan, homes_made, info_made, infos_drawn};
 ghost use Rattle.store_form.specs.Said.{header_said, space_said};
 ghost use Rattle.store_files.specs.Header.{most_spaces};
 
@@ -53,6 +53,7 @@ fn info_of(active: u32, plan: &SpacePlan, salt: [u8; 16]) -> SpaceInfo
 }
 
 // Draws a salt for each space, in order.
+#[tactic(auto, using(crate::proofs::PlanLaws::no_salt))]
 pub(crate) fn draw_spaces<R: Rng>(
     alloc: Global,
     rng: &mut R,
@@ -61,6 +62,8 @@ pub(crate) fn draw_spaces<R: Rng>(
 ) -> Result<Vec<SpaceInfo>, AllocError>
     ensures drawn { IfOk result (λ spaces. spaces.items ≡ infos_drawn active plans.now (R.stream rng.old)) }
     ensures made { IfOk result (λ spaces. AreMadeInfos spaces.items) }
+    ensures all { OnOk result (R.stream rng.new ≡ after_salts (length plans.now) (R.stream rng.old)) }
+    ensures left { IsDrawnTo (length plans.now) (R.stream rng.old) (R.stream rng.new) }
 {
     let mut spaces = Vec::new(alloc);
     for i in 0..plans.len() {

@@ -5,10 +5,13 @@ ghost use Rattle.disk_model.specs.Image.{InFile};
 ghost use Rattle.disk_model.specs.Past.{At, HasDiskCause, HasDiskMemoryCause, grow};
 ghost use Rattle.disk_model.specs.declared.names.DiskError.TheVariants.{NoMemory};
 ghost use Rattle.disk_model.specs.declared.names.FileName.TheVariants.{Log, Space};
+ghost use Rattle.crash_image.specs.LogForm.{log_places};
 ghost use Rattle.page_places.specs.Texts.{page_bytes};
+ghost use Rattle.places.specs.Places.{HasPlaces};
+ghost use Rattle.redo_log.specs.Fresh.{IsFresh};
 ghost use Rattle.store_image.specs.View.{block_bytes};
 ghost use Rattle.store_form.specs.Created.{AreAbsent, HasNoFile, HaveFirstPlaces};
-ghost use Rattle.store_form.specs.Creation.{IsStopped, creation, files_begun, first_pages_written, first_text, header_written, past_after, spaces_begun};
+ghost use Rattle.store_form.specs.Creation.{IsStopped, creation, files_begun, first_pages_written, first_text, front_written, header_written, past_after, spaces_begun};
 ghost use Rattle.store_form.specs.Made.{AreMadeInfos, CanBeMade, DifferInId, IsMadeInfo};
 ghost use Rattle.store_form.specs.Said.{header_said};
 ghost use Rattle.store_files.specs.Header.{least_ring_blocks, most_ring_blocks, most_spaces};
@@ -143,6 +146,43 @@ fn write_header<D: Disk>(disk: &mut D, header: &Header) -> Result<(), DiskError>
     disk.sync(FileName::Log)
 }
 
+/// A block in front of the log's ring that a creation writes.
+#[derive(Clone, Copy)]
+pub(crate) enum FrontBlock {
+    /// The first checkpoint.
+    Checkpoint,
+    /// The header.
+    Header,
+}
+
+// Writes a block in front of the log's ring, and syncs the log.
+fn write_front_block<D: Disk>(
+    disk: &mut D,
+    header: &Header,
+    block: FrontBlock,
+) -> Result<(), DiskError>
+    requires least { 32 ≤ header.now.blocks }
+    requires most { header.now.blocks ≤ 4096 }
+    requires count { header.now.count ≤ 16 }
+    requires made { block ≡ FrontBlock.Checkpoint → At (IsFresh header.now.blocks) (D.past disk.old) }
+    requires inside { block ≡ FrontBlock.Header → At (InFile Log 0 block_bytes) (D.past disk.old) }
+    ensures ok { OnOk result (D.past disk.new ≡ past_after (front_written (header_said header.now) block) (D.past disk.old)) }
+    ensures err { OnErr result (IsStopped (front_written (header_said header.now) block) (D.past disk.old) (D.past disk.new)) }
+    ensures places { block ≡ FrontBlock.Checkpoint → At (HasPlaces Log (log_places header.now.blocks)) (D.past disk.new) }
+    ensures later { D.is_later disk.old disk.new }
+    ensures calls { D.clock disk.new ≤ D.clock disk.old + 2 }
+    ensures cause { HasDiskCause (D.faults disk.old) (D.faults disk.new) result }
+    ensures memory { HasDiskMemoryCause (D.memory_refusals disk.old) (D.memory_refusals disk.new) result }
+    ensures no_fault { OnOk result (D.faults disk.new ≡ D.faults disk.old) }
+    ensures no_fault_at_want { IsErrOf result NoMemory → D.faults disk.new ≡ D.faults disk.old }
+    ensures no_refusal { OnOk result (D.memory_refusals disk.new ≡ D.memory_refusals disk.old) }
+{
+    match block {
+        FrontBlock::Checkpoint => write_first_checkpoint(disk, header.blocks),
+        FrontBlock::Header => write_header(disk, header),
+    }
+}
+
 // Makes the files of a store, and writes pages 0, the first checkpoint, and the header last.
 pub(crate) fn write_store<D: Disk>(
     disk: &mut D,
@@ -166,6 +206,6 @@ pub(crate) fn write_store<D: Disk>(
 {
     begin_files(disk, header, spaces)?;
     write_first_pages(disk, spaces)?;
-    write_first_checkpoint(disk, header.blocks)?;
-    write_header(disk, header)
+    write_front_block(disk, header, FrontBlock::Checkpoint)?;
+    write_front_block(disk, header, FrontBlock::Header)
 }

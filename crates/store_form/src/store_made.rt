@@ -2,10 +2,10 @@
 ghost use Rattle.std.specs.Prelude.{◌≡◌, ◌≤◌, ◌+◌, ◌*◌, None, OnOk, OnErr, IfOk, IfErr, IsErrOf, length};
 ghost use Rattle.cause_core.specs.Cause.{HasCauseOf};
 ghost use Rattle.disk_model.specs.Past.{At};
-ghost use Rattle.store_form.specs.CreateAnswer.{IsBegun, IsCreateRefusal, IsFileRefusal, IsKeyRefusal};
+ghost use Rattle.store_form.specs.CreateAnswer.{IsBegun, IsCreateRefusal, IsFileRefusal, IsKeyRefusal, IsLeftBy};
 ghost use Rattle.store_form.specs.Creation.{creation, past_after};
 ghost use Rattle.store_form.specs.Made.{CanBeMade};
-ghost use Rattle.store_form.specs.Plan.{HasNeededKeys, IsCreatable, first_file_there, header_made, homes_made, in_id_order, spaces_made};
+ghost use Rattle.store_form.specs.Plan.{HasNeededKeys, IsCreatable, IsDrawnTo, after_salts, files_asked, first_file_there, header_made, homes_made, in_id_order, spaces_made};
 ghost use Rattle.store_form.specs.Said.{header_said};
 ghost use Rattle.store_form.specs.declared.create_fault.CreateFault.TheVariants.{DiskFault, OutOfMemory};
 ghost use Rattle.store_files.specs.Header.{most_spaces};
@@ -35,6 +35,7 @@ fn check_files<D: Disk>(disk: &mut D, plans: &[SpacePlan]) -> Result<(), CreateF
     ensures same { D.past disk.new ≡ D.past disk.old }
     ensures later { D.is_later disk.old disk.new }
     ensures calls { D.clock disk.new ≤ D.clock disk.old + 2 + length plans.now }
+    ensures asked { At (λ es. D.clock disk.new ≤ D.clock disk.old + files_asked plans.now es) (D.past disk.old) }
     ensures cause { HasCauseOf DiskFault (D.faults disk.old) (D.faults disk.new) result }
     ensures memory { D.memory_refusals disk.old ≤ D.memory_refusals disk.new }
     ensures no_fault { (IsErrOf result DiskFault → ⊥) → D.faults disk.new ≡ D.faults disk.old }
@@ -76,6 +77,8 @@ fn draw_store<R: Rng>(
     ensures count { IfOk result (λ made. made.header.count ≤ most_spaces) }
     ensures blocks { IfOk result (λ made. made.header.blocks ≡ plan.now.blocks) }
     ensures few { IfOk result (λ made. length made.spaces ≡ length plan.now.spaces) }
+    ensures all { OnOk result (R.stream rng.new ≡ after_salts (1 + length plan.now.spaces) (R.stream rng.old)) }
+    ensures left { IsDrawnTo (1 + length plan.now.spaces) (R.stream rng.old) (R.stream rng.new) }
 {
     let salt = draw_salt(rng);
     known_bytes(&salt);
@@ -103,10 +106,11 @@ fn find_plans<D: Disk>(
     ensures same { D.past disk.new ≡ D.past disk.old }
     ensures later { D.is_later disk.old disk.new }
     ensures calls { D.clock disk.new ≤ D.clock disk.old + 2 + length plan.now.spaces }
+    ensures asked { At (λ es. D.clock disk.new ≤ D.clock disk.old + files_asked (in_id_order plan.now.spaces) es) (D.past disk.old) }
     ensures cause { HasCauseOf DiskFault (D.faults disk.old) (D.faults disk.new) result }
     ensures memory { D.memory_refusals disk.old ≤ D.memory_refusals disk.new }
     ensures no_fault { (IsErrOf result DiskFault → ⊥) → D.faults disk.new ≡ D.faults disk.old }
-    ensures no_refusal { OnOk result (D.memory_refusals disk.new ≡ D.memory_refusals disk.old) }
+    ensures no_refusal { (IsErrOf result OutOfMemory → ⊥) → (IsErrOf result DiskFault → ⊥) → D.memory_refusals disk.new ≡ D.memory_refusals disk.old }
 {
     let Ok(plans) = in_id_order(alloc, &plan.spaces) else {
         return Err(CreateFault::OutOfMemory);
@@ -139,12 +143,16 @@ pub(crate) fn make_store<D: Disk, R: Rng>(
     ensures exact { OnOk result (D.past disk.new ≡ past_after (creation (header_made plan.now (R.stream rng.old)) (spaces_made plan.now (R.stream rng.old))) (D.past disk.old)) }
     ensures refused { IfErr result (IsCreateRefusal ring.now plan.now (D.past disk.old) (D.past disk.new)) }
     ensures begun { OnErr result (IsBegun (header_made plan.now (R.stream rng.old)) (spaces_made plan.now (R.stream rng.old)) (D.past disk.old) (D.past disk.new)) }
+    ensures part { OnErr result (IsLeftBy ring.now plan.now (R.stream rng.old) (D.past disk.old) (D.past disk.new)) }
     ensures later { D.is_later disk.old disk.new }
+    ensures all { OnOk result (R.stream rng.new ≡ after_salts (1 + length plan.now.spaces) (R.stream rng.old)) }
+    ensures left { IsDrawnTo (1 + length plan.now.spaces) (R.stream rng.old) (R.stream rng.new) }
+    ensures asked { At (λ es. (first_file_there (in_id_order plan.now.spaces) es ≡ None → HasNeededKeys ring.now plan.now.active plan.now.spaces → ⊥) → D.clock disk.new ≤ D.clock disk.old + files_asked (in_id_order plan.now.spaces) es) (D.past disk.old) }
     ensures calls { D.clock disk.new ≤ D.clock disk.old + 8 + 4 * length plan.now.spaces }
     ensures cause { HasCauseOf DiskFault (D.faults disk.old) (D.faults disk.new) result }
     ensures memory { D.memory_refusals disk.old ≤ D.memory_refusals disk.new }
     ensures no_fault { (IsErrOf result DiskFault → ⊥) → D.faults disk.new ≡ D.faults disk.old }
-    ensures no_refusal { OnOk result (D.memory_refusals disk.new ≡ D.memory_refusals disk.old) }
+    ensures no_refusal { (IsErrOf result OutOfMemory → ⊥) → (IsErrOf result DiskFault → ⊥) → D.memory_refusals disk.new ≡ D.memory_refusals disk.old }
 {
     let plans = match find_plans(alloc, disk, ring, plan) {
         Ok(plans) => plans,

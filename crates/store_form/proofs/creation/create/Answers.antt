@@ -5,10 +5,10 @@ use Rattle.key_ring.specs.Ring.{RingEntry}
 use Rattle.places.specs.Batches.{From}
 use Rattle.rand_core.specs.Stream.{Stream}
 use Rattle.store_model.specs.Fold.{empty}
-use Rattle.store_form.specs.Created.{LeaveNoneOrEmpty, WritesFirstPages}
+use Rattle.store_form.specs.Created.{LeaveNoneOrEmpty, RecordsCreation, WritesFirstPages}
 use Rattle.store_form.specs.Plan.{header_made, spaces_made}
 use Rattle.store_form.specs.Said.{header_said}
-use Rattle.store_form.proofs.CreationAnswers.{form_as, images_begun, images_done, reads_as_made, reads_done, rests_done, written_begun, written_done}
+use Rattle.store_form.proofs.CreationAnswers.{form_as, images_begun, images_done, reads_as_made, reads_done, recorded_begun, recorded_done, rests_done, written_begun, written_done}
 use Rattle.store_form.proofs.creation.create.Goals as goal
 
 pub new-requires-clause-form : goal.new-requires-clause-form
@@ -39,7 +39,7 @@ returns-in-Ok-clause-written g c =
     let e = c.in-Ok.ensures in
     let old : Past = g.D.Disk.past c.args.disk in
     let spaces = spaces_made c.args.plan.now stream in
-    subst (λ (h : Past). Throughout (From WritesFirstPages old) old h) (sym (ap g.D.Disk.past c.new.ensures.disk)) (written_done (header_made c.args.plan.now stream) spaces old (g.D.Disk.past c.make_store.new.disk) e.can e.exact)
+    subst (λ (h : Past). Throughout (From (WritesFirstPages spaces) old) old h) (sym (ap g.D.Disk.past c.new.ensures.disk)) (written_done (header_made c.args.plan.now stream) spaces old (g.D.Disk.past c.make_store.new.disk) e.can e.exact)
 
 pub returns-in-Ok-clause-rest : goal.returns-in-Ok-clause-rest
 returns-in-Ok-clause-rest g c =
@@ -58,3 +58,17 @@ pub returns-in-Err-clause-written : goal.returns-in-Err-clause-written
 returns-in-Err-clause-written g c =
     let stream : Stream = g.R.Rng.stream c.args.rng.now in
     written_begun (header_made c.args.plan.now stream) (spaces_made c.args.plan.now stream) (g.D.Disk.past c.args.disk) (g.D.Disk.past c.make_store.new.disk) c.in-Err.ensures.begun
+
+pub returns-in-Ok-clause-recorded : goal.returns-in-Ok-clause-recorded
+returns-in-Ok-clause-recorded g c =
+    let stream : Stream = g.R.Rng.stream c.args.rng.now in
+    let e = c.in-Ok.ensures in
+    let old : Past = g.D.Disk.past c.args.disk in
+    let header = header_made c.args.plan.now stream in
+    let spaces = spaces_made c.args.plan.now stream in
+    subst (λ (h : Past). Throughout (From (RecordsCreation header spaces) old) old h) (sym (ap g.D.Disk.past c.new.ensures.disk)) (recorded_done header spaces old (g.D.Disk.past c.make_store.new.disk) e.can e.exact)
+
+pub returns-in-Err-clause-recorded : goal.returns-in-Err-clause-recorded
+returns-in-Err-clause-recorded g c =
+    let stream : Stream = g.R.Rng.stream c.args.rng.now in
+    recorded_begun (header_made c.args.plan.now stream) (spaces_made c.args.plan.now stream) (g.D.Disk.past c.args.disk) (g.D.Disk.past c.make_store.new.disk) c.in-Err.ensures.begun
