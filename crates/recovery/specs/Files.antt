@@ -10,6 +10,8 @@ use Rattle.crash_image.specs.LogForm.{log_places}
 use Rattle.crash_image.specs.Recovers.{HasHeader}
 use Rattle.crash_image.specs.Rest.{read_image}
 use Rattle.recovery.specs.Walks.{AllHave, FirstHas}
+use Rattle.store_image.specs.Checkpoint.{front_blocks}
+use Rattle.store_image.specs.View.{block_bytes}
 
 -- the length of a file; one that isn't there has none
 abbrev pub found_length : FileName → List Event → ℕ
@@ -17,7 +19,7 @@ found_length f es = if is_there f es then length (reads f es) else 0
 
 -- the log has room for a header and two checkpoints, and its first block is this header
 pub record IsFormatted (h : HeldHeader) (es : List Event) : Type 0 where
-  pub long : 12288 ≤ found_length Log es
+  pub long : front_blocks * block_bytes ≤ found_length Log es
   pub is_header : HasHeader (read_image es) h
 
 -- a file of a store, and its places

@@ -8,7 +8,7 @@ use Rattle.disk_model.specs.declared.names.FileName.TheVariants.{Space}
 use Rattle.doublewrite.specs.declared.refuse.OpenRefuse.{OpenRefuse}
 use Rattle.doublewrite.specs.declared.refuse.OpenRefuse.TheVariants.{Mixed, Damaged, DiskFault, OutOfMemory}
 use Rattle.page_places.specs.Placed.{IsPlaced}
-use Rattle.page_places.specs.Texts.{page_bytes, ends_in_sum}
+use Rattle.page_places.specs.Texts.{page_bytes, ends_in_sum, page_number_at, page_sum_at}
 use Rattle.page_places.specs.Views.{view}
 use Rattle.places.specs.Places.{shown}
 use Rattle.store_image.specs.View.{Text, Holds, View, HasNoHome, IsChosen}
@@ -59,16 +59,16 @@ HaveNotes spaces notes es = PairsHave (AreSpaceNotes es) spaces notes
 
 -- its checksum matches, and it has the number of another page
 pub record HasOtherNumber (s p at wanted found : ℕ) (es : List Event) : Type 0 where
-  pub at_is : at ≡ p * page_bytes + 4
+  pub at_is : at ≡ p * page_bytes + page_number_at
   pub wanted_is : wanted ≡ p
-  pub found_is : found ≡ be32_at (shown (Space s) page_bytes p es) 4
+  pub found_is : found ≡ be32_at (shown (Space s) page_bytes p es) page_number_at
   pub other : IsPlaced p (shown (Space s) page_bytes p es) → ⊥
 
 -- its checksum doesn't match, and the page can't be read from a slot, nor is it unused, but for a page 0, which can't be
 pub record IsUnreadable (s p at stored computed : ℕ) (es : List Event) : Type 0 where
   pub at_is : at ≡ p * page_bytes
-  pub stored_is : stored ≡ be32_at (shown (Space s) page_bytes p es) 16380
-  pub computed_is : computed ≡ crc32c (take 16380 (shown (Space s) page_bytes p es))
+  pub stored_is : stored ≡ be32_at (shown (Space s) page_bytes p es) page_sum_at
+  pub computed_is : computed ≡ crc32c (take page_sum_at (shown (Space s) page_bytes p es))
   pub unmatched : ends_in_sum (shown (Space s) page_bytes p es) ≡ false
   pub none : (o : Option Text) → IsChosen (disk_view es) s p o → (p ≡ 0) × (o ≡ None)
 

@@ -1,5 +1,5 @@
 -- What each stage of an opening refuses: the first of its conditions that holds of the disk as it reads.
-use Rattle.std.specs.Prelude.{◌≡◌, ◌≢◌, ℕ, ◌+◌, ◌<◌, ◌≤◌, ◌^◌, nat_lt, if◌then◌else◌, true, length, List, take, Option, Some, None}
+use Rattle.std.specs.Prelude.{◌≡◌, ◌≢◌, ℕ, ◌+◌, ◌*◌, ◌<◌, ◌≤◌, ◌^◌, nat_lt, if◌then◌else◌, true, length, List, take, Option, Some, None}
 use Rattle.bytes_core.specs.Crc.{crc32c}
 use Rattle.byte_list.specs.Fields.{be32_at}
 use Rattle.disk_model.specs.Event.{Event, is_there, reads}
@@ -13,9 +13,11 @@ use Rattle.redo_log.specs.declared.reading.Checkpoint.{Checkpoint}
 use Rattle.space_head.specs.declared.space.SpaceInfo.{SpaceInfo}
 use Rattle.store_files.specs.Checkpoint.{IsNewestCheckpoint}
 use Rattle.store_files.specs.Header.{HeldHeader}
-use Rattle.store_image.specs.Checkpoint.{HeldCheckpoint}
+use Rattle.store_image.specs.Checkpoint.{HeldCheckpoint, front_blocks}
 use Rattle.recovery.specs.Walks.{AllHave, FirstHas}
 use Rattle.recovery.specs.Files.{IsFormatted, IsFirstMisfit, StoreFile, file_bytes_of, found_length}
+use Rattle.store_image.specs.View.{block_bytes}
+use Rattle.redo_text.specs.Block.{ring_sum_at}
 
 -- the log isn't that of a store
 abbrev pub IsHeaderRefusal : Past → OpenRefuse → Type 0
@@ -44,7 +46,7 @@ checkpoint_said c = record { sequence = c.sequence; from = c.from }
 -- the log is there with room for a header and two checkpoints
 pub record HasCheckpoints (es : List Event) : Type 0 where
   pub there : is_there Log es ≡ true
-  pub long : 12288 ≤ length (reads Log es)
+  pub long : front_blocks * block_bytes ≤ length (reads Log es)
 
 -- of two checkpoints that of greater sequence
 abbrev pub newer_of : Option Checkpoint → Option Checkpoint → Option Checkpoint
@@ -55,11 +57,11 @@ newer_of (Some a) (Some b) = if nat_lt a.sequence b.sequence then Some b else So
 -- neither checkpoint is valid; the values are those of the first one's checksum
 pub record HasNoCheckpoint (stored computed : ℕ) (es : List Event) : Type 0 where
   pub none : (c : HeldCheckpoint) → IsNewestCheckpoint (reads Log es) c → ⊥
-  pub stored_is : stored ≡ be32_at (place 4096 1 (reads Log es)) 4092
-  pub computed_is : computed ≡ crc32c (take 4092 (place 4096 1 (reads Log es)))
+  pub stored_is : stored ≡ be32_at (place block_bytes 1 (reads Log es)) ring_sum_at
+  pub computed_is : computed ≡ crc32c (take ring_sum_at (place block_bytes 1 (reads Log es)))
 
 abbrev pub IsCheckpointRefusal : Past → OpenRefuse → Type 0
-IsCheckpointRefusal past (Damaged file at stored computed) = (file ≡ Log) × (at ≡ 4096) × At (HasNoCheckpoint stored computed) past
+IsCheckpointRefusal past (Damaged file at stored computed) = (file ≡ Log) × (at ≡ block_bytes) × At (HasNoCheckpoint stored computed) past
 IsCheckpointRefusal past DiskFault = Unit {0}
 IsCheckpointRefusal past OutOfMemory = Unit {0}
 IsCheckpointRefusal past r = ⊥

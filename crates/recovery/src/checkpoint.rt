@@ -11,6 +11,8 @@ ghost use Rattle.doublewrite.specs.declared.refuse.OpenRefuse.TheVariants.{Damag
 ghost use Rattle.places.specs.Places.{shown};
 ghost use Rattle.store_files.specs.Checkpoint.{IsNewestCheckpoint, IsWritableCheckpoint};
 ghost use Rattle.recovery.specs.Stages.{HasCheckpoints, IsCheckpointRefusal, checkpoint_said, newer_of};
+ghost use Rattle.store_image.specs.View.{block_bytes};
+ghost use Rattle.redo_text.specs.Block.{ring_sum_at};
 
 use crate::layout::{BLOCK, BLOCK_BYTES};
 use crate::reading::read;
@@ -19,13 +21,14 @@ use bytes_core::crc32c;
 use disk_model::{Disk, FileName};
 use doublewrite::OpenRefuse;
 use redo_log::{Checkpoint, read_checkpoint};
+use store_files::BLOCK_SUM_AT;
 
 // Reads the file block of a checkpoint, 1 or 2.
 fn read_block<D: Disk>(disk: &mut D, place: u64, block: &mut [u8]) -> Result<(), OpenRefuse>
     requires place { place ≤ 2 }
-    requires long { length block.old ≡ 4096 }
+    requires long { length block.old ≡ block_bytes }
     requires inside { At HasCheckpoints (D.past disk.old) }
-    ensures bytes { OnOk result (At (λ es. block.new ≡ shown Log 4096 place es) (D.past disk.old)) }
+    ensures bytes { OnOk result (At (λ es. block.new ≡ shown Log block_bytes place es) (D.past disk.old)) }
     ensures refused { IfErr result IsDiskRefuse }
     ensures same { D.past disk.new ≡ D.past disk.old }
     ensures later { D.is_later disk.old disk.new }
@@ -58,14 +61,14 @@ fn front(bytes: &[u8], n: usize) -> &[u8]
 
 // The refusal of a log that has no checkpoint, by block 1 of its file.
 fn no_checkpoint(block: &[u8]) -> OpenRefuse
-    requires { length block.now ≡ 4096 }
-    ensures { result ≡ Damaged Log 4096 (be32_at block.now 4092) (crc32c (take 4092 block.now)) }
+    requires { length block.now ≡ block_bytes }
+    ensures { result ≡ Damaged Log block_bytes (be32_at block.now ring_sum_at) (crc32c (take ring_sum_at block.now)) }
 {
     OpenRefuse::Damaged {
         file: FileName::Log,
         at: BLOCK_BYTES,
-        stored: be32_at(block, 4092),
-        computed: crc32c(front(block, 4092)),
+        stored: be32_at(block, BLOCK_SUM_AT),
+        computed: crc32c(front(block, BLOCK_SUM_AT)),
     }
 }
 

@@ -1,6 +1,7 @@
 // What is refused by numbers alone: a space whose least version isn't reached, and a log without numbers.
 ghost use Rattle.std.specs.Prelude.{◌≡◌, ◌+◌, ◌≤◌, ◌<◌, ◌^◌, IfErr, OnOk};
 ghost use Rattle.recovery.specs.Stages.{AreFloorsBelow, IsFloorRefusal, IsNumberRefusal};
+ghost use Rattle.store_files.specs.Header.{most_ring_blocks};
 
 use doublewrite::OpenRefuse;
 use redo_text::LAST_BLOCK;
@@ -32,7 +33,7 @@ pub fn check_floors(spaces: &[SpaceInfo], active: u32) -> Result<(), OpenRefuse>
 /// # Errors
 /// [`OpenRefuse::Spent`] exactly where `last + 1 + blocks` is above 2^35.
 pub fn check_numbers(last: u64, blocks: u64) -> Result<(), OpenRefuse>
-    requires { blocks ≤ 4096 }
+    requires { blocks ≤ most_ring_blocks }
     ensures ok { OnOk result (last + 1 + blocks ≤ 2 ^ 35) }
     ensures refused { IfErr result (IsNumberRefusal blocks last) }
 {

@@ -3,7 +3,7 @@ ghost use Rattle.std.specs.Prelude.{◌≡◌, ◌+◌, ◌≤◌, true, IfOk, I
 ghost use Rattle.cause_core.specs.Cause.{HasCauseOf};
 ghost use Rattle.disk_model.specs.Past.{At};
 ghost use Rattle.doublewrite.specs.declared.refuse.OpenRefuse.TheVariants.{DiskFault, OutOfMemory};
-ghost use Rattle.store_files.specs.Header.{are_allowed};
+ghost use Rattle.store_files.specs.Header.{are_allowed, most_spaces};
 ghost use Rattle.store_form.specs.Said.{header_said};
 ghost use Rattle.recovery.specs.Files.{IsFormatted};
 ghost use Rattle.recovery.specs.Stages.{IsHeaderRefusal};
@@ -15,7 +15,7 @@ use doublewrite::OpenRefuse;
 use store_form::{Header, read_header};
 
 // The bytes of a header and two checkpoints.
-const LEAST_LOG: u64 = 12288;
+const LEAST_LOG: u64 = (store_files::FRONT_BLOCKS * store_files::BLOCK_BYTES) as u64;
 
 /// Finds the header of a store, block 0 of its log. It takes no memory of its own.
 ///
@@ -26,7 +26,7 @@ const LEAST_LOG: u64 = 12288;
 pub fn find_header<D: Disk>(disk: &mut D) -> Result<Header, OpenRefuse>
     ensures found { IfOk result (λ header. At (IsFormatted (header_said header)) (D.past disk.old)) }
     ensures allowed { IfOk result (λ header. are_allowed (header_said header) ≡ true) }
-    ensures count { IfOk result (λ header. header.count ≤ 16) }
+    ensures count { IfOk result (λ header. header.count ≤ most_spaces) }
     ensures format { IfOk result (λ header. header.format ≡ 2) }
     ensures refused { IfErr result (IsHeaderRefusal (D.past disk.old)) }
     ensures same { D.past disk.new ≡ D.past disk.old }

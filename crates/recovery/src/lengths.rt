@@ -4,20 +4,20 @@ ghost use Rattle.cause_core.specs.Cause.{HasCauseOf};
 ghost use Rattle.disk_model.specs.Event.{is_there, reads};
 ghost use Rattle.disk_model.specs.Past.{At};
 ghost use Rattle.doublewrite.specs.declared.refuse.OpenRefuse.TheVariants.{DiskFault, OutOfMemory};
-ghost use Rattle.store_files.specs.Header.{are_allowed};
+ghost use Rattle.store_files.specs.Header.{are_allowed, most_spaces};
 ghost use Rattle.store_form.specs.Said.{header_said, space_said};
 ghost use Rattle.recovery.specs.Files.{HaveStoreFiles, space_file, store_files_of};
 ghost use Rattle.recovery.specs.Stages.{IsLengthRefusal, IsOtherLength};
 ghost use Rattle.recovery.specs.Walks.{AllHave};
 
-use crate::layout::{BLOCK_BYTES, PAGE_BYTES};
+use crate::layout::{BLOCK_BYTES, FRONT_BLOCKS, PAGE_BYTES};
 use crate::reading::file_length;
 use disk_model::{Disk, FileName};
 use doublewrite::OpenRefuse;
 use store_form::{Header, HeaderSpace};
 
-// The bytes of the doublewrite file: 64 slots of 16896 bytes.
-const DOUBLE_BYTES: u64 = 1_081_344;
+// The bytes of the doublewrite file.
+const DOUBLE_BYTES: u64 = (page_places::SLOTS * page_places::SLOT_BYTES) as u64;
 
 // Refuses a file that hasn't this length.
 fn check_length<D: Disk>(disk: &mut D, file: FileName, wanted: u64) -> Result<(), OpenRefuse>
@@ -75,7 +75,7 @@ fn check_spaces<D: Disk>(disk: &mut D, spaces: &[HeaderSpace]) -> Result<(), Ope
 /// only where its count of refused memory rose.
 pub fn check_lengths<D: Disk>(disk: &mut D, header: &Header) -> Result<(), OpenRefuse>
     requires allowed { are_allowed (header_said header.now) ≡ true }
-    requires count { header.now.count ≤ 16 }
+    requires count { header.now.count ≤ most_spaces }
     ensures have { OnOk result (At (HaveStoreFiles (store_files_of (header_said header.now))) (D.past disk.old)) }
     ensures refused { IfErr result (IsLengthRefusal (store_files_of (header_said header.now)) (D.past disk.old)) }
     ensures same { D.past disk.new ≡ D.past disk.old }
@@ -86,7 +86,11 @@ pub fn check_lengths<D: Disk>(disk: &mut D, header: &Header) -> Result<(), OpenR
     ensures no_fault { (IsErrOf result DiskFault → ⊥) → D.faults disk.new ≡ D.faults disk.old }
     ensures no_refusal { OnOk result (D.memory_refusals disk.new ≡ D.memory_refusals disk.old) }
 {
-    check_length(disk, FileName::Log, (3 + header.blocks) * BLOCK_BYTES)?;
+    check_length(
+        disk,
+        FileName::Log,
+        (FRONT_BLOCKS + header.blocks) * BLOCK_BYTES,
+    )?;
     check_length(disk, FileName::Double, DOUBLE_BYTES)?;
     check_spaces(disk, &header.spaces[..header.count])
 }

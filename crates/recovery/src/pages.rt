@@ -10,12 +10,13 @@ ghost use Rattle.disk_model.specs.declared.names.FileName.TheVariants.{Space};
 ghost use Rattle.doublewrite.specs.Copies.{copies_to};
 ghost use Rattle.doublewrite.specs.Refuse.{IsDiskRefuse};
 ghost use Rattle.doublewrite.specs.declared.refuse.OpenRefuse.TheVariants.{Damaged, DiskFault, OutOfMemory};
-ghost use Rattle.page_places.specs.Texts.{page_bytes, pages, is_page_text};
+ghost use Rattle.page_places.specs.Texts.{page_bytes, pages, is_page_text, page_sum_at};
 ghost use Rattle.places.specs.Places.{shown, HasFile};
-ghost use Rattle.store_files.specs.Header.{pages_together};
+ghost use Rattle.store_files.specs.Header.{pages_together, most_spaces};
 ghost use Rattle.store_form.specs.Said.{header_said, space_said};
 ghost use Rattle.recovery.specs.Files.{HaveStoreFiles, space_file};
 ghost use Rattle.recovery.specs.Notes.{AreNotesOf, FitNotes, HasRefusedHome, HaveNotes, HaveRefusedHome, IsByHome, IsHomeKind, IsHomeRefusal, IsNoteOf};
+ghost use Rattle.store_image.specs.View.{slot_count};
 
 use crate::layout::{PAGE, PAGE_BYTES};
 use crate::notes::{NoteSource, PageNote, PageNotes, SpaceNotes};
@@ -24,6 +25,7 @@ use byte_list::fields::{be32_at, be64_at};
 use bytes_core::{crc32c, ends_in_crc32c};
 use disk_model::{Disk, FileName};
 use doublewrite::{Copies, OpenRefuse, newest_copy};
+use page_places::{PAGE_LSN_AT, PAGE_NUMBER_AT, PAGE_VERSION_AT};
 use std::alloc::Global;
 use store_form::{Header, HeaderSpace};
 
@@ -60,7 +62,7 @@ fn is_page_text(text: &[u8], page: u32) -> bool
     requires { 8 ≤ length text.now }
     ensures { result ≡ is_page_text page text.now }
 {
-    ends_in_crc32c(text) && be32_at(text, 4) == page
+    ends_in_crc32c(text) && be32_at(text, PAGE_NUMBER_AT) == page
 }
 
 fn are_zero(bytes: &[u8]) -> bool
@@ -80,7 +82,7 @@ fn front(bytes: &[u8], n: usize) -> &[u8]
 // The refusal of a page that can't be read, by its home.
 fn damaged(home: &[u8], space: u32, page: u32) -> OpenRefuse
     requires { length home.now ≡ page_bytes }
-    ensures { result ≡ Damaged (Space space) (page * page_bytes) (be32_at home.now 16380) (crc32c (take 16380 home.now)) }
+    ensures { result ≡ Damaged (Space space) (page * page_bytes) (be32_at home.now page_sum_at) (crc32c (take page_sum_at home.now)) }
 {
     let end = home.len() - 4;
     OpenRefuse::Damaged {
@@ -94,28 +96,28 @@ fn damaged(home: &[u8], space: u32, page: u32) -> OpenRefuse
 // What a page is read from, by its home and the copies.
 fn note_of(home: &[u8], space: u32, page: u32, copies: &Copies) -> Result<PageNote, OpenRefuse>
     requires long { length home.now ≡ page_bytes }
-    ensures note { IfOk result (λ note. (es : List Event) → home.now ≡ shown (Space space) page_bytes page es → copies.now ≡ copies_to 64 es → IsNoteOf space page note es) }
-    ensures refused { IfErr result (λ why. (es : List Event) → home.now ≡ shown (Space space) page_bytes page es → copies.now ≡ copies_to 64 es → IsHomeRefusal space page why es) }
+    ensures note { IfOk result (λ note. (es : List Event) → home.now ≡ shown (Space space) page_bytes page es → copies.now ≡ copies_to slot_count es → IsNoteOf space page note es) }
+    ensures refused { IfErr result (λ why. (es : List Event) → home.now ≡ shown (Space space) page_bytes page es → copies.now ≡ copies_to slot_count es → IsHomeRefusal space page why es) }
     ensures kind { IfErr result IsHomeKind }
 {
     if is_page_text(home, page) {
         return Ok(PageNote {
-            source: NoteSource::Home(be32_at(home, 0)),
-            lsn: be64_at(home, 16),
+            source: NoteSource::Home(be32_at(home, PAGE_VERSION_AT)),
+            lsn: be64_at(home, PAGE_LSN_AT),
         });
     }
     let zero = are_zero(home);
     if !zero && ends_in_crc32c(home) {
         return Err(OpenRefuse::Mixed {
             file: FileName::Space(space),
-            at: u64::from(page) * PAGE_BYTES + 4,
+            at: u64::from(page) * PAGE_BYTES + PAGE_NUMBER_AT as u64,
             wanted: u64::from(page),
-            found: u64::from(be32_at(home, 4)),
+            found: u64::from(be32_at(home, PAGE_NUMBER_AT)),
         });
     }
     if let Some(copied) = newest_copy(copies, space, page) {
         return Ok(PageNote {
-            source: NoteSource::Copy(be32_at(copied.text.bytes(), 0)),
+            source: NoteSource::Copy(be32_at(copied.text.bytes(), PAGE_VERSION_AT)),
             lsn: copied.lsn,
         });
     }
@@ -138,7 +140,7 @@ fn note_space<D: Disk>(
 ) -> Result<SpaceNotes, OpenRefuse>
     requires long { length home.old ≡ page_bytes }
     requires file { At (HasFile (Space space.now.space) (pages space.now.pages)) (D.past disk.old) }
-    requires copies { At (λ es. copies.now ≡ copies_to 64 es) (D.past disk.old) }
+    requires copies { At (λ es. copies.now ≡ copies_to slot_count es) (D.past disk.old) }
     ensures count { IfOk result (λ notes. length notes ≡ space.now.pages) }
     ensures notes { IfOk result (λ notes. At (AreNotesOf space.now.space notes) (D.past disk.old)) }
     ensures refused { IfErr result (IsByHome (HasRefusedHome (space_said space.now)) (D.past disk.old)) }
@@ -171,7 +173,7 @@ fn note_spaces<D: Disk>(
 ) -> Result<PageNotes, OpenRefuse>
     requires long { length home.old ≡ page_bytes }
     requires files { At (HaveStoreFiles (map space_file (map space_said spaces.now))) (D.past disk.old) }
-    requires copies { At (λ es. copies.now ≡ copies_to 64 es) (D.past disk.old) }
+    requires copies { At (λ es. copies.now ≡ copies_to slot_count es) (D.past disk.old) }
     ensures fit { IfOk result (λ notes. FitNotes (map space_said spaces.now) notes) }
     ensures notes { IfOk result (λ notes. At (HaveNotes (map space_said spaces.now) notes) (D.past disk.old)) }
     ensures refused { IfErr result (IsByHome (HaveRefusedHome (map space_said spaces.now)) (D.past disk.old)) }
@@ -209,9 +211,9 @@ pub fn find_pages<D: Disk>(
     header: &Header,
     copies: &Copies,
 ) -> Result<PageNotes, OpenRefuse>
-    requires count { header.now.count ≤ 16 }
+    requires count { header.now.count ≤ most_spaces }
     requires files { At (HaveStoreFiles (map space_file (header_said header.now).spaces)) (D.past disk.old) }
-    requires copies { At (λ es. copies.now ≡ copies_to 64 es) (D.past disk.old) }
+    requires copies { At (λ es. copies.now ≡ copies_to slot_count es) (D.past disk.old) }
     ensures fit { IfOk result (λ notes. FitNotes (header_said header.now).spaces notes) }
     ensures notes { IfOk result (λ notes. At (HaveNotes (header_said header.now).spaces notes) (D.past disk.old)) }
     ensures refused { IfErr result (IsByHome (HaveRefusedHome (header_said header.now).spaces) (D.past disk.old)) }
