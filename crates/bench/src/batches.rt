@@ -15,6 +15,7 @@ use byte_list::fields::put_be32;
 use bytes_core::crc32c;
 use disk_model::{Disk, FileDisk, FileName, MemDisk};
 use doublewrite::{PageText, PageTexts, Texts, home, store};
+use page_places::{PAGE_BYTES, PAGE_NUMBER_AT, PAGE_SUM_AT, SLOT_BYTES, SLOTS};
 use std::alloc::Global;
 use std::fs;
 use std::io::Print;
@@ -24,16 +25,16 @@ use std::time::Clock;
 const SPACE: u32 = 5;
 
 // The bytes before the checksum.
-fn before_sum(bytes: &[u8; 16384]) -> &[u8] {
-    &bytes[..16380]
+fn before_sum(bytes: &[u8; PAGE_BYTES]) -> &[u8] {
+    &bytes[..PAGE_SUM_AT]
 }
 
 // The text of a page in clear.
 fn text_of(alloc: Global, page: u32) -> Result<PageText> {
-    let mut bytes = [5; 16384];
-    put_be32(&mut bytes, 4, page);
+    let mut bytes = [5; PAGE_BYTES];
+    put_be32(&mut bytes, PAGE_NUMBER_AT, page);
     let sum = crc32c(before_sum(&bytes));
-    put_be32(&mut bytes, 16380, sum);
+    put_be32(&mut bytes, PAGE_SUM_AT, sum);
     let Some(text) = PageText::of(bytes.to_vec(alloc)?) else {
         bail!("no text");
     };
@@ -80,10 +81,10 @@ fn make_files<D: Disk>(disk: &mut D, count: u32) -> Result<()>
     ensures double { OnOk result (At (HasPlaces Double slots) (D.past disk.new)) }
     ensures space { OnOk result (At (HasPlaces (Space 5) (pages count)) (D.past disk.new)) }
 {
-    let Ok(()) = disk.make(FileName::Double, 1081344) else {
+    let Ok(()) = disk.make(FileName::Double, (SLOTS * SLOT_BYTES) as u64) else {
         bail!("the doublewrite file is not made");
     };
-    let Ok(()) = disk.make(FileName::Space(5), u64::from(count) * 16384) else {
+    let Ok(()) = disk.make(FileName::Space(5), u64::from(count) * PAGE_BYTES as u64) else {
         bail!("the space is not made");
     };
     Ok(())
@@ -153,7 +154,7 @@ fn measure_on<D: Disk>(
     timed!(
         rt,
         name,
-        count as usize * 16384,
+        count as usize * PAGE_BYTES,
         put_all(disk, &batches, count)?
     );
     Ok(())

@@ -3,20 +3,26 @@ use crate::figure::timed;
 use aes_core::{Algorithm, BlockKey, cbc_tail_decrypt, cbc_tail_encrypt};
 use anyhow::{Result, bail};
 use bytes_core::crc32c;
+use page_places::{PAGE_BODY_AT, PAGE_BYTES, PAGE_SUM_AT};
 use page_text::{PageKey, PageMut, PageView, Seal, seal, unseal};
 use std::alloc::Global;
 use std::io::Print;
 use std::time::Clock;
 
-type Page = [u8; 16384];
+type Page = [u8; PAGE_BYTES];
 
 /// As many pages as come to 64 MiB.
 const PAGES: usize = 4096;
 
-const BYTES: usize = 16384 * PAGES;
+const BYTES: usize = PAGE_BYTES * PAGES;
 
 /// A page has type 0x0505 and a body of bytes 5.
-const FIRST: Page = [5; 16384];
+const FIRST: Page = [5; PAGE_BYTES];
+
+/// Where the bytes of a page begin that are ciphered, and where its body ends.
+const CIPHERED_AT: usize = 26;
+
+const BODY_END: usize = PAGE_BYTES - 8;
 
 const LOCAL: [u8; 16] = [3; 16];
 
@@ -64,8 +70,8 @@ fn unseal_pages(pages: &mut [Page], key: &PageKey) -> Result<()> {
 fn encrypt_pages(pages: &mut [Page], key: &BlockKey) -> u32 {
     let mut sums = 0u32;
     for page in pages.iter_mut() {
-        cbc_tail_encrypt(key, &IV, &mut page[26..16380]);
-        sums = sums.wrapping_add(crc32c(&page[..16380]));
+        cbc_tail_encrypt(key, &IV, &mut page[CIPHERED_AT..PAGE_SUM_AT]);
+        sums = sums.wrapping_add(crc32c(&page[..PAGE_SUM_AT]));
     }
     sums
 }
@@ -74,15 +80,15 @@ fn encrypt_pages(pages: &mut [Page], key: &BlockKey) -> u32 {
 fn decrypt_pages(pages: &mut [Page], key: &BlockKey) -> u32 {
     let mut sums = 0u32;
     for page in pages.iter_mut() {
-        sums = sums.wrapping_add(crc32c(&page[..16380]));
-        cbc_tail_decrypt(key, &IV, &mut page[26..16380]);
+        sums = sums.wrapping_add(crc32c(&page[..PAGE_SUM_AT]));
+        cbc_tail_decrypt(key, &IV, &mut page[CIPHERED_AT..PAGE_SUM_AT]);
     }
     sums
 }
 
 fn compare_bodies(pages: &[Page]) -> Result<()> {
     for page in pages.iter() {
-        if page[38..16376] != FIRST[38..16376] {
+        if page[PAGE_BODY_AT..BODY_END] != FIRST[PAGE_BODY_AT..BODY_END] {
             bail!("a page does not come back");
         }
     }

@@ -7,17 +7,20 @@ ghost use Rattle.places.specs.Places.{HasFile};
 ghost use Rattle.redo_text.specs.Block.{block_count};
 ghost use Rattle.redo_text.specs.Text.{text_of, AreAllowed};
 ghost use Rattle.crash_image.specs.LogForm.{log_places};
+ghost use Rattle.store_image.specs.View.{most_mtr_blocks};
 
 use crate::figure::timed;
 use aes_core::{Algorithm, BlockKey, cbc_tail_encrypt, ctr_apply};
 use anyhow::{Result, bail};
 use bytes_core::crc32c;
 use disk_model::{Disk, FileName, MemDisk};
-use redo_log::{Log, scan};
+use page_places::PAGE_BODY_AT;
+use redo_log::{BLOCK, BLOCK_BYTES, Log, scan};
 use redo_text::{Change, Mtr, Piece, RedoKey, encode};
 use std::alloc::{AllocError, Global};
 use std::io::Print;
 use std::time::Clock;
+use store_files::FRONT_BLOCKS;
 
 const LOCAL: [u8; 16] = [3; 16];
 
@@ -31,12 +34,17 @@ const MTRS: u64 = 4096;
 
 const BYTES: usize = 64 * 1024 * 1024;
 
+/// Where the ciphered bytes of a block begin, and where its checksum stands behind them.
+const BODY_AT: usize = 16;
+
+const SUM_AT: usize = store_files::BLOCK_SUM_AT;
+
 /// The ring that is scanned, and how many mini-transactions of four blocks fill it.
 const RING_BLOCKS: u64 = 4096;
 
 const RING_MTRS: u64 = 1024;
 
-const RING_BYTES: usize = 4096 * 4096;
+const RING_BYTES: usize = RING_BLOCKS as usize * BLOCK;
 
 fn bytes_of(alloc: Global, n: usize) -> Result<Vec<u8>, AllocError>
     ensures { IfOk result (λ v. length v.items ≡ n) }
@@ -48,14 +56,14 @@ fn bytes_of(alloc: Global, n: usize) -> Result<Vec<u8>, AllocError>
 fn mtr_of(alloc: Global) -> Result<Mtr, AllocError>
     ensures some { IfOk result (λ m. length m ≡ 1) }
     ensures allowed { IfOk result (λ m. AreAllowed m) }
-    ensures few { IfOk result (λ m. block_count (text_of m) ≤ 16) }
+    ensures few { IfOk result (λ m. block_count (text_of m) ≤ most_mtr_blocks) }
 {
     let bytes = Piece::of(bytes_of(alloc, PUT)?);
     let mut changes = Vec::new(alloc);
     let Ok(()) = changes.push(Change::Put {
         space: 5,
         page: 1,
-        at: 38,
+        at: PAGE_BODY_AT as u32,
         bytes,
     }) else {
         return Err(AllocError);
@@ -77,7 +85,7 @@ fn key_of(algorithm: Algorithm) -> RedoKey
 fn encode_all(alloc: Global, mtr: &Mtr, key: &RedoKey) -> Result<usize>
     requires some { 0 < length mtr.now }
     requires allowed { AreAllowed mtr.now }
-    requires few { block_count (text_of mtr.now) ≤ 16 }
+    requires few { block_count (text_of mtr.now) ≤ most_mtr_blocks }
     requires version { 1 ≤ key.now.version }
 {
     let mut total = 0usize;
@@ -89,14 +97,14 @@ fn encode_all(alloc: Global, mtr: &Mtr, key: &RedoKey) -> Result<usize>
 }
 
 // Cipher and checksum of as many blocks.
-fn cipher_all(key: &BlockKey, algorithm: Algorithm, block: &mut [u8; 4096]) -> u32 {
+fn cipher_all(key: &BlockKey, algorithm: Algorithm, block: &mut [u8; BLOCK]) -> u32 {
     let mut sums = 0u32;
     for _ in 0..4 * MTRS {
         match algorithm {
-            Algorithm::Cbc => cbc_tail_encrypt(key, &IV, &mut block[16..4092]),
-            Algorithm::Ctr => ctr_apply(key, &IV, &mut block[16..4092]),
+            Algorithm::Cbc => cbc_tail_encrypt(key, &IV, &mut block[BODY_AT..SUM_AT]),
+            Algorithm::Ctr => ctr_apply(key, &IV, &mut block[BODY_AT..SUM_AT]),
         }
-        sums = sums.wrapping_add(crc32c(&block[..4092]));
+        sums = sums.wrapping_add(crc32c(&block[..SUM_AT]));
     }
     sums
 }
@@ -117,7 +125,7 @@ fn measure_blocks(
     if total != BYTES {
         bail!("the blocks are {total} bytes");
     }
-    let mut block = [5; 4096];
+    let mut block = [5; BLOCK];
     let sums = timed!(
         rt,
         alone,
@@ -146,7 +154,7 @@ fn append_all(alloc: Global, log: &mut Log, mtr: &Mtr) -> Result<()>
     requires some { 0 < length mtr.now }
     requires many { length mtr.now ≤ 65536 }
     requires allowed { AreAllowed mtr.now }
-    requires few { block_count (text_of mtr.now) ≤ 16 }
+    requires few { block_count (text_of mtr.now) ≤ most_mtr_blocks }
     requires ring { log.old.blocks ≡ 4096 }
     ensures ring { log.new.blocks ≡ 4096 }
 {
@@ -160,7 +168,10 @@ fn made_log<D: Disk>(disk: &mut D) -> Result<()>
     requires { At (λ es. is_there LogFile es ≡ false) (D.past disk.old) }
     ensures { OnOk result (At (HasFile LogFile (log_places 4096)) (D.past disk.new)) }
 {
-    let Ok(()) = disk.make(FileName::Log, 4099 * 4096) else {
+    let Ok(()) = disk.make(
+        FileName::Log,
+        (FRONT_BLOCKS as u64 + RING_BLOCKS) * BLOCK_BYTES,
+    ) else {
         bail!("the log is not made");
     };
     Ok(())
