@@ -1,6 +1,16 @@
-//! A session on a store: its data, its answers and what it asks of its disk.
+//! A session on a store: its data, its answers and what it asks of its disk, with no word of images.
 //!
-//! A [`SessionCore`] has the parts of a running engine and makes each of its calls.
+//! A [`SessionCore`] has the parts of a running engine. Contracts see it as one record, and each call as a
+//! function on it. What every session keeps:
+//!
+//! 1. Its parts go together: header, spaces and homes, a log of as many blocks as the header says, and an
+//!    active version of 1 or more that the ring has under id 1 and under the key id of each space.
+//! 2. The journal's entries stand in a row from the number at the start up to the log's next block.
+//! 3. No more entries were acknowledged than the journal has.
+//! 4. The files are there with their lengths while the disk runs.
+//!
+//! A session is up until a call of its disk is answered an error. From then on each call that can be refused
+//! is refused: as down, with the number of the turn that failed, or for want of memory.
 #![tactic(auto)]
 
 mod activating;
