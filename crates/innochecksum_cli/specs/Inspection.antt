@@ -3,6 +3,7 @@ use Rattle.std.specs.Prelude.{ℕ, ◌+◌, ◌/◌, ◌%◌, ◌==◌, ◌&&◌
 use Rattle.std.specs.Prelude.{Option, Some, None, Result, Ok, Err}
 use Rattle.std.specs.List.{flat_map}
 use Rattle.byte_list.specs.Fields.{be32_at}
+use Rattle.space_head.specs.Head.{head_flags_at}
 use Rattle.space_head.specs.Sizes.{page_size}
 use Rattle.space_head.specs.declared.fault.HeadFault.{HeadFault}
 use Rattle.io_core.specs.Stream.{IsPartlyGiven, extended}
@@ -63,12 +64,16 @@ abbrev pub headed_report : Options → List ℕ → Result ℕ HeadFault → Rep
 headed_report options file (Err fault) = refused (Head fault)
 headed_report options file (Ok size) = sized_report options file size
 
+-- the bytes of the least page
+abbrev pub least_page_size : ℕ
+least_page_size = 4096
+
 -- The report on a file, or on a name that has none.
 unfoldable pub inspected : Options → Option (List ℕ) → Report
 inspected options None = refused Missing
 inspected options (Some file) =
-    if nat_lt (length file) 4096 then refused (Short (length file))
-    else headed_report options file (page_size (be32_at file 54))
+    if nat_lt (length file) least_page_size then refused (Short (length file))
+    else headed_report options file (page_size (be32_at file head_flags_at))
 
 -- A status, and what was given to the sink before it, agree with a report: either they are its own,
 -- or a fault or want of memory came, and a front of its text was given.

@@ -2,6 +2,7 @@
 use Rattle.std.specs.Prelude.{ℕ, ◌*◌, ◌/◌, ◌==◌, ◌&&◌, Bool, not, List, length, take, drop, map}
 use Rattle.std.specs.List.{list_all, range_with_len}
 use Rattle.byte_list.specs.Fields.{be16_at, be32_at}
+use Rattle.page_text.specs.Parts.{page_type_at}
 use Rattle.page_text.specs.State.{computed_sum, stored_sum}
 
 -- a whole page of a file: its number, from 0, and its bytes
@@ -26,7 +27,7 @@ is_mismatch page = not (is_zero page) && not (stored_sum page.bytes == computed_
 
 -- the type of a page that isn't zero
 unfoldable pub is_of_kind : ℕ → FilePage → Bool
-is_of_kind kind page = not (is_zero page) && (be16_at page.bytes 24 == kind)
+is_of_kind kind page = not (is_zero page) && (be16_at page.bytes page_type_at == kind)
 
 -- a page that isn't zero has a key version other than 0
 unfoldable pub is_ciphered_page : FilePage → Bool

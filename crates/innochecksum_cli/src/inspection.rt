@@ -1,5 +1,6 @@
 // The inspection of one file.
 ghost use Rattle.std.specs.Prelude.{◌≡◌, ◌≢◌, ◌≤◌, ◌⊎◌, Err, ℕ, List, IsSome, IfOk, IfErr, length};
+ghost use Rattle.space_head.specs.Head.{head_flags_at};
 ghost use Rattle.space_head.specs.Sizes.{IsPageSize, page_size};
 ghost use Rattle.io_core.specs.Told.{Told};
 ghost use Rattle.innochecksum_cli.specs.Inspection.{Agrees, inspected, sized_report};
@@ -20,6 +21,9 @@ use std::alloc::Global;
 
 /// The least page size in bytes, of which a file has at least one page.
 const LEAST: usize = 4096;
+
+// Where the flags of a tablespace stand in its page 0, in bytes.
+const FLAGS: usize = 54;
 
 /// The greatest page size in bytes.
 const MOST: usize = 65536;
@@ -42,7 +46,7 @@ fn length_of<L: Library>(files: &mut L, name: &str) -> Result<u64, CheckStatus>
 /// The page size that the flags of page 0 name. `front` is as long as the least page.
 fn size_of<L: Library>(files: &mut L, name: &str, front: &mut [u8]) -> Result<usize, CheckStatus>
     requires { length front.old ≡ LEAST }
-    ensures answer { OfFile (λ file. LEAST ≤ length file → IsSizeAnswer (page_size (be32_at file 54)) result) name.now (L.files files.old) }
+    ensures answer { OfFile (λ file. LEAST ≤ length file → IsSizeAnswer (page_size (be32_at file head_flags_at)) result) name.now (L.files files.old) }
     ensures one_of_five { IfOk result IsPageSize }
     ensures words { result ≢ Err CheckStatus.Usage }
     ensures same { L.files files.new ≡ L.files files.old }
@@ -56,7 +60,7 @@ fn size_of<L: Library>(files: &mut L, name: &str, front: &mut [u8]) -> Result<us
     if count < front.len() {
         return Err(CheckStatus::Short(count as u64));
     }
-    match page_size(be32_at(front, 54)) {
+    match page_size(be32_at(front, FLAGS)) {
         Ok(size) => Ok(size),
         Err(fault) => Err(CheckStatus::Head(fault)),
     }

@@ -9,6 +9,9 @@ use byte_list::fields::{be16_at, be32_at};
 use page_text::PageState;
 use std::alloc::{AllocError, Global};
 
+// Where the type stands in a page, in bytes.
+const TYPE: usize = 24;
+
 /// What the pages that were looked at add up to.
 #[derive(Drop)]
 pub struct Tally {
@@ -66,7 +69,7 @@ impl Tally {
             → IsTally (pages ++ record { number = number; bytes = page.now } ∷ []) self.new }
     {
         let is_used = !is_zero(state);
-        let kind = usize::from(be16_at(page, 24));
+        let kind = usize::from(be16_at(page, TYPE));
         let of_kind = counted(self.kinds[kind], is_used);
         self.kinds[kind] = of_kind;
         self.checked = counted(self.checked, true);

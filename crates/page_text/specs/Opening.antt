@@ -5,7 +5,7 @@ use Rattle.aes_core.specs.Algorithm.{deciphered}
 use Rattle.byte_list.specs.Bytes.{AreBytes}
 use Rattle.byte_list.specs.Fields.{be16_at, be32_at, be64_at}
 use Rattle.byte_list.specs.Bytes.{put}
-use Rattle.page_text.specs.Parts.{cipher_part}
+use Rattle.page_text.specs.Parts.{cipher_part, page_cipher_at, page_lsn_at, page_next_at, page_number_at, page_previous_at, page_space_at, page_trailer_size, page_type_at, page_version_at}
 use Rattle.page_text.specs.State.{computed_sum, stored_sum}
 use Rattle.page_text.specs.Text.{enciphered, page_key, page_iv}
 use Rattle.page_text.specs.declared.fault.OpenFault.{OpenFault}
@@ -20,18 +20,18 @@ fits_page page kind version = if page == 0 then (kind == 8) && (version == 0) el
 unfoldable pub clear_check : List ℕ → ℕ → Result (Unit {0}) OpenFault
 clear_check page number =
     if not (stored_sum page == computed_sum page) then Err (Checksum (stored_sum page) (computed_sum page))
-    else if not (be32_at page 4 == number) then Err (WrongPage number (be32_at page 4))
-    else if not (fits_page number (be16_at page 24) (be32_at page 0)) then Err (WrongKind (be16_at page 24) (be32_at page 0))
+    else if not (be32_at page page_number_at == number) then Err (WrongPage number (be32_at page page_number_at))
+    else if not (fits_page number (be16_at page page_type_at) (be32_at page page_version_at)) then Err (WrongKind (be16_at page page_type_at) (be32_at page page_version_at))
     else Ok tt
 
 -- of the deciphered page: its space, its end, and prev, next and flush LSN
 unfoldable pub inner_check : List ℕ → ℕ → Result (Unit {0}) OpenFault
 inner_check page space =
-    if not (be32_at page 34 == space) then Err (WrongSpace space (be32_at page 34))
-    else if not (be32_at page (length page - 8) == be64_at page 16 % 2 ^ 32) then Err (WrongEnd (be64_at page 16 % 2 ^ 32) (be32_at page (length page - 8)))
-    else if not (be32_at page 8 == 0xFFFFFFFF) then Err (WrongFill 8 (be32_at page 8))
-    else if not (be32_at page 12 == 0xFFFFFFFF) then Err (WrongFill 12 (be32_at page 12))
-    else if not (be64_at page 26 == 0) then Err (WrongFill 26 (be64_at page 26))
+    if not (be32_at page page_space_at == space) then Err (WrongSpace space (be32_at page page_space_at))
+    else if not (be32_at page (length page - page_trailer_size) == be64_at page page_lsn_at % 2 ^ 32) then Err (WrongEnd (be64_at page page_lsn_at % 2 ^ 32) (be32_at page (length page - page_trailer_size)))
+    else if not (be32_at page page_previous_at == 0xFFFFFFFF) then Err (WrongFill page_previous_at (be32_at page page_previous_at))
+    else if not (be32_at page page_next_at == 0xFFFFFFFF) then Err (WrongFill page_next_at (be32_at page page_next_at))
+    else if not (be64_at page page_cipher_at == 0) then Err (WrongFill page_cipher_at (be64_at page page_cipher_at))
     else Ok tt
 
 -- bytes that were under a key, or as they are without one
@@ -39,10 +39,10 @@ abbrev pub unciphered : Option PageKey → List ℕ → List ℕ → List ℕ
 unciphered None iv bytes = bytes
 unciphered (Some key) iv bytes = deciphered key.algorithm key.local iv bytes
 
--- the page with its part from byte 26 to the checksum deciphered, where its version isn't 0, and all else as it was
+-- the page with its part up to the checksum deciphered, where its version isn't 0, and all else as it was
 abbrev pub in_clear : ℕ → ℕ → Option PageKey → List ℕ → List ℕ
 in_clear space number key page =
-    put 26 (unciphered (page_key (be32_at page 0) key) (page_iv space number (be64_at page 16)) (cipher_part page)) page
+    put page_cipher_at (unciphered (page_key (be32_at page page_version_at) key) (page_iv space number (be64_at page page_lsn_at)) (cipher_part page)) page
 
 -- the first fault of two checks
 abbrev pub and_then : Result (Unit {0}) OpenFault → Result (Unit {0}) OpenFault → Result (Unit {0}) OpenFault

@@ -9,7 +9,7 @@ use Rattle.bytes_core.specs.Crc.{crc32c}
 use Rattle.byte_list.specs.Bytes.{AreBytes}
 use Rattle.byte_list.specs.Fields.{be16_at}
 use Rattle.space_head.specs.Sizes.{IsPageSize}
-use Rattle.page_text.specs.Parts.{body}
+use Rattle.page_text.specs.Parts.{body, page_frame_size, page_type_at}
 use Rattle.page_text.specs.declared.key.PageKey.{PageKey}
 
 -- a plain page: its type and its body
@@ -19,7 +19,7 @@ pub record Plain : Type 0 where
 
 -- the plain page in a page that is in clear
 abbrev pub plain_of : List ℕ → Plain
-plain_of page = record { kind = be16_at page 24; bytes = body page }
+plain_of page = record { kind = be16_at page page_type_at; bytes = body page }
 
 -- bytes 0 to 24: key version, page number, prev, next, LSN
 abbrev pub start : ℕ → ℕ → ℕ → List ℕ
@@ -69,7 +69,7 @@ pub record IsText (size space page lsn version : ℕ) (key : Option PageKey) (pl
   pub sized : IsPageSize size
   pub fits : FitsPage page plain.kind version
   pub keyed : version ≢ 0 → IsSome key
-  pub body_long : length plain.bytes + 46 ≡ size
+  pub body_long : length plain.bytes + page_frame_size ≡ size
   pub body_bytes : AreBytes plain.bytes
   pub kind_fits : plain.kind < 2 ^ 16
   pub lsn_fits : lsn < 2 ^ 64

@@ -5,7 +5,7 @@ ghost use Rattle.byte_list.specs.Bytes.{AreBytes};
 ghost use Rattle.byte_list.specs.Fields.{be16_at, be32_at, be64_at};
 ghost use Rattle.space_head.specs.Sizes.{IsPageSize};
 ghost use Rattle.page_text.specs.Opening.{Undoes, clear_check, fits_page, in_clear, inner_check, left_after, opening, unciphered};
-ghost use Rattle.page_text.specs.Parts.{cipher_part};
+ghost use Rattle.page_text.specs.Parts.{cipher_part, page_frame_size, page_lsn_at, page_type_at, page_version_at};
 ghost use Rattle.page_text.specs.State.{computed_sum};
 ghost use Rattle.page_text.specs.Text.{IsText, Plain, enciphered, key_lent, page_key, page_iv, plain_of};
 
@@ -32,7 +32,7 @@ fn fits_page(number: u32, kind: u16, version: u32) -> bool
 // What is looked at before the page is deciphered.
 #[tactic(auto, unfolding(crate::specs::Opening::clear_check))]
 fn check_clear(page: &[u8], number: u32) -> Result<(), OpenFault>
-    requires { 46 ≤ length page.now }
+    requires { page_frame_size ≤ length page.now }
     ensures value { result ≡ clear_check page.now number }
     ensures sum_fits { computed_sum page.now < 2 ^ 32 }
 {
@@ -63,7 +63,7 @@ fn check_clear(page: &[u8], number: u32) -> Result<(), OpenFault>
 // What is looked at in the deciphered page.
 #[tactic(auto, unfolding(crate::specs::Opening::inner_check))]
 fn check_inner(page: &[u8], space: u32) -> Result<(), OpenFault>
-    requires { 46 ≤ length page.now }
+    requires { page_frame_size ≤ length page.now }
     ensures { result ≡ inner_check page.now space }
 {
     let found = be32_at(page, SPACE);
@@ -126,10 +126,10 @@ fn page_key<'a>(version: u32, key: Option<&'a PageKey>) -> Option<&'a PageKey>
 // The fields of a page's first bytes are numbers of their widths.
 #[inline(always)]
 pub(crate) fn known_fields(page: &[u8])
-    requires { 46 ≤ length page.now }
-    ensures version { be32_at page.now 0 < 2 ^ 32 }
-    ensures lsn { be64_at page.now 16 < 2 ^ 64 }
-    ensures kind { be16_at page.now 24 < 2 ^ 16 }
+    requires { page_frame_size ≤ length page.now }
+    ensures version { be32_at page.now page_version_at < 2 ^ 32 }
+    ensures lsn { be64_at page.now page_lsn_at < 2 ^ 64 }
+    ensures kind { be16_at page.now page_type_at < 2 ^ 16 }
 {
     let _version = be32_at(page, VERSION);
     let _lsn = be64_at(page, LSN);
@@ -138,9 +138,9 @@ pub(crate) fn known_fields(page: &[u8])
 
 // Deciphers what stands from byte 26 to the checksum, where the page's version isn't 0.
 fn decipher_part(page: &mut [u8], space: u32, number: u32, key: Option<&PageKey>)
-    requires { 46 ≤ length page.old }
+    requires { page_frame_size ≤ length page.old }
     ensures value { page.new ≡ in_clear space number (key_lent key.entry) page.old }
-    ensures undoes { Undoes (page_key (be32_at page.old 0) (key_lent key.entry)) (page_iv space number (be64_at page.old 16)) (cipher_part page.old) }
+    ensures undoes { Undoes (page_key (be32_at page.old page_version_at) (key_lent key.entry)) (page_iv space number (be64_at page.old page_lsn_at)) (cipher_part page.old) }
 {
     let version = be32_at(page, VERSION);
     let iv = page_iv(space, number, be64_at(page, LSN));
@@ -155,10 +155,10 @@ fn open_text(
     key: Option<&PageKey>,
 ) -> Result<(), OpenFault>
     requires sized { IsPageSize (length page.old) }
-    requires keyed { be32_at page.old 0 ≢ 0 → IsSome key }
+    requires keyed { be32_at page.old page_version_at ≢ 0 → IsSome key }
     ensures value { result ≡ opening space number (key_lent key.entry) page.old }
     ensures left { page.new ≡ left_after result page.old (in_clear space number (key_lent key.entry) page.old) }
-    ensures accepted { result ≡ Ok tt → IsText (length page.old) space number (be64_at page.old 16) (be32_at page.old 0) (key_lent key.entry) (plain_of page.new) page.old }
+    ensures accepted { result ≡ Ok tt → IsText (length page.old) space number (be64_at page.old page_lsn_at) (be32_at page.old page_version_at) (key_lent key.entry) (plain_of page.new) page.old }
     ensures taken { (lsn version : ℕ) (plain : Plain) → IsText (length page.old) space number lsn version (key_lent key.entry) plain page.old → (result ≡ Ok tt) × (plain_of page.new ≡ plain) }
 {
     known_page(page);
@@ -185,12 +185,12 @@ pub fn unseal(
     key: Option<&PageKey>,
 ) -> Result<(), OpenFault>
     requires sized { IsPageSize (length page.old.bytes.now) }
-    requires keyed { be32_at page.old.bytes.now 0 ≢ 0 → IsSome key }
+    requires keyed { be32_at page.old.bytes.now page_version_at ≢ 0 → IsSome key }
     // The first fault in order, or none, and what is left after it.
     ensures value { result ≡ opening space number (key_lent key.entry) page.old.bytes.now }
     ensures left { page.new.bytes.now ≡ left_after result page.old.bytes.now (in_clear space number (key_lent key.entry) page.old.bytes.now) }
     // What is accepted is the text of the plain page that is left; each text is accepted, and its plain page is left.
-    ensures accepted { result ≡ Ok tt → IsText (length page.old.bytes.now) space number (be64_at page.old.bytes.now 16) (be32_at page.old.bytes.now 0) (key_lent key.entry) (plain_of page.new.bytes.now) page.old.bytes.now }
+    ensures accepted { result ≡ Ok tt → IsText (length page.old.bytes.now) space number (be64_at page.old.bytes.now page_lsn_at) (be32_at page.old.bytes.now page_version_at) (key_lent key.entry) (plain_of page.new.bytes.now) page.old.bytes.now }
     ensures taken { (lsn version : ℕ) (plain : Plain) → IsText (length page.old.bytes.now) space number lsn version (key_lent key.entry) plain page.old.bytes.now → (result ≡ Ok tt) × (plain_of page.new.bytes.now ≡ plain) }
     ensures same_reference { page.new.bytes.ghost_name ≡ page.old.bytes.ghost_name }
 {

@@ -2,7 +2,7 @@
 
 ghost use Rattle.std.specs.Prelude.{◌≡◌, ℕ, ◌+◌, ◌-◌, ◌≤◌, true, List, length, IfSome, MatchOption};
 ghost use Rattle.std.specs.Borrow.{sem, Lends, Array, u8};
-ghost use Rattle.page_text.specs.Parts.{IsPageSize, body, cipher_part, header, part_of, trailer, with_part};
+ghost use Rattle.page_text.specs.Parts.{IsPageSize, body, cipher_part, header, page_cipher_at, page_frame_size, page_header_size, page_sum_size, page_trailer_size, part_of, trailer, with_part};
 
 use crate::layout::{CHECKSUM, CIPHERED, HEADER, TRAILER};
 
@@ -97,20 +97,20 @@ impl<B: PageBytes> WritablePage<B> {
     /// Bytes 0 to 38, to be written. Each part needs the 46 bytes of header and trailer, which a page
     /// of every size has.
     pub fn header_mut(&mut self) -> &mut [u8]
-        requires { 46 ≤ length (B.bytes self.old.bytes) }
-        ensures* writes_back { sem 𝓛 (LendsPart B.row B.bytes B.with_bytes self.entry 0 38 result) }
+        requires { page_frame_size ≤ length (B.bytes self.old.bytes) }
+        ensures* writes_back { sem 𝓛 (LendsPart B.row B.bytes B.with_bytes self.entry 0 page_header_size result) }
         ensures value { result.now ≡ header (B.bytes self.old.bytes) }
-        ensures long { length result.now ≡ 38 }
+        ensures long { length result.now ≡ page_header_size }
     {
         self.bytes.part_mut(0, HEADER)
     }
 
     /// The bytes from 38 up to the last eight, to be written.
     pub fn body_mut(&mut self) -> &mut [u8]
-        requires { 46 ≤ length (B.bytes self.old.bytes) }
-        ensures* writes_back { sem 𝓛 (LendsPart B.row B.bytes B.with_bytes self.entry 38 (length (B.bytes self.old.bytes) - 8) result) }
+        requires { page_frame_size ≤ length (B.bytes self.old.bytes) }
+        ensures* writes_back { sem 𝓛 (LendsPart B.row B.bytes B.with_bytes self.entry page_header_size (length (B.bytes self.old.bytes) - page_trailer_size) result) }
         ensures value { result.now ≡ body (B.bytes self.old.bytes) }
-        ensures long { length result.now + 46 ≡ length (B.bytes self.old.bytes) }
+        ensures long { length result.now + page_frame_size ≡ length (B.bytes self.old.bytes) }
     {
         let end = self.bytes.count() - TRAILER;
         self.bytes.part_mut(HEADER, end)
@@ -118,8 +118,8 @@ impl<B: PageBytes> WritablePage<B> {
 
     /// The part that is ciphered, to be written: the bytes from 26 up to the last four.
     pub fn cipher_mut(&mut self) -> &mut [u8]
-        requires { 46 ≤ length (B.bytes self.old.bytes) }
-        ensures* writes_back { sem 𝓛 (LendsPart B.row B.bytes B.with_bytes self.entry 26 (length (B.bytes self.old.bytes) - 4) result) }
+        requires { page_frame_size ≤ length (B.bytes self.old.bytes) }
+        ensures* writes_back { sem 𝓛 (LendsPart B.row B.bytes B.with_bytes self.entry page_cipher_at (length (B.bytes self.old.bytes) - page_sum_size) result) }
         ensures value { result.now ≡ cipher_part (B.bytes self.old.bytes) }
         ensures long { length result.now + 30 ≡ length (B.bytes self.old.bytes) }
     {
@@ -129,10 +129,10 @@ impl<B: PageBytes> WritablePage<B> {
 
     /// The last eight bytes, to be written.
     pub fn trailer_mut(&mut self) -> &mut [u8]
-        requires { 46 ≤ length (B.bytes self.old.bytes) }
-        ensures* writes_back { sem 𝓛 (LendsPart B.row B.bytes B.with_bytes self.entry (length (B.bytes self.old.bytes) - 8) (length (B.bytes self.old.bytes)) result) }
+        requires { page_frame_size ≤ length (B.bytes self.old.bytes) }
+        ensures* writes_back { sem 𝓛 (LendsPart B.row B.bytes B.with_bytes self.entry (length (B.bytes self.old.bytes) - page_trailer_size) (length (B.bytes self.old.bytes)) result) }
         ensures value { result.now ≡ trailer (B.bytes self.old.bytes) }
-        ensures long { length result.now ≡ 8 }
+        ensures long { length result.now ≡ page_trailer_size }
     {
         let end = self.bytes.count();
         self.bytes.part_mut(end - TRAILER, end)

@@ -6,7 +6,7 @@ ghost use Rattle.bytes_core.specs.Crc.{crc32c};
 ghost use Rattle.byte_list.specs.Fields.{be16_at};
 ghost use Rattle.byte_list.specs.Bytes.{put};
 ghost use Rattle.space_head.specs.Sizes.{IsPageSize};
-ghost use Rattle.page_text.specs.Parts.{cipher_part};
+ghost use Rattle.page_text.specs.Parts.{cipher_part, page_cipher_at, page_frame_size, page_sum_size, page_type_at};
 ghost use Rattle.page_text.specs.Text.{FitsPage, IsText, enciphered, inner_start, page_iv, plain_of, start, text};
 
 use crate::layout::{CHECKSUM, CIPHERED, TRAILER, VERSION};
@@ -64,8 +64,8 @@ fn encipher(key: &Option<PageKey>, iv: &[u8; 16], bytes: &mut [u8])
 
 // Enciphers what stands from byte 26 to the checksum.
 fn encipher_part(page: &mut [u8], key: &Option<PageKey>, iv: &[u8; 16])
-    requires { 46 ≤ length page.old }
-    ensures value { page.new ≡ put 26 (enciphered key.now iv.now (cipher_part page.old)) page.old }
+    requires { page_frame_size ≤ length page.old }
+    ensures value { page.new ≡ put page_cipher_at (enciphered key.now iv.now (cipher_part page.old)) page.old }
     ensures long { length (enciphered key.now iv.now (cipher_part page.old)) + 30 ≡ length page.old }
 {
     let end = page.len() - CHECKSUM;
@@ -74,8 +74,8 @@ fn encipher_part(page: &mut [u8], key: &Option<PageKey>, iv: &[u8; 16])
 
 // Writes the checksum of all bytes before the last four into these.
 fn write_sum(page: &mut [u8])
-    requires { 46 ≤ length page.old }
-    ensures { page.new ≡ put (length page.old - 4) (to_be_bytes w32 (crc32c (take (length page.old - 4) page.old))) page.old }
+    requires { page_frame_size ≤ length page.old }
+    ensures { page.new ≡ put (length page.old - page_sum_size) (to_be_bytes w32 (crc32c (take (length page.old - page_sum_size) page.old))) page.old }
 {
     let end = page.len() - CHECKSUM;
     let sum = crc32c(&page[..end]);
@@ -112,7 +112,7 @@ fn write_text(page: &mut [u8], seal: &Seal)
 pub(crate) fn seal_bytes(page: &mut [u8], seal: &Seal)
     requires sized { IsPageSize (length page.old) }
     requires keyed { IsSome seal.now.local ↔ (seal.now.version ≢ 0) }
-    requires fits { FitsPage seal.now.page (be16_at page.old 24) seal.now.version }
+    requires fits { FitsPage seal.now.page (be16_at page.old page_type_at) seal.now.version }
     ensures { IsText (length page.old) seal.now.space seal.now.page seal.now.lsn seal.now.version seal.now.local (plain_of page.old) page.new }
 {
     known_page(page);
@@ -128,7 +128,7 @@ pub(crate) fn seal_bytes(page: &mut [u8], seal: &Seal)
 pub fn seal(page: &mut PageMut, seal: &Seal)
     requires sized { IsPageSize (length page.old.bytes.now) }
     requires keyed { IsSome seal.now.local ↔ (seal.now.version ≢ 0) }
-    requires fits { FitsPage seal.now.page (be16_at page.old.bytes.now 24) seal.now.version }
+    requires fits { FitsPage seal.now.page (be16_at page.old.bytes.now page_type_at) seal.now.version }
     ensures text { IsText (length page.old.bytes.now) seal.now.space seal.now.page seal.now.lsn seal.now.version seal.now.local (plain_of page.old.bytes.now) page.new.bytes.now }
     ensures same_reference { page.new.bytes.ghost_name ≡ page.old.bytes.ghost_name }
 {

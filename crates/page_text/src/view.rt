@@ -2,7 +2,7 @@
 
 ghost use Rattle.std.specs.Prelude.{◌≡◌, ℕ, ◌+◌, ◌++◌, List, length, MatchOption};
 ghost use Rattle.byte_list.specs.Fields.{be16_at, be32_at, be64_at};
-ghost use Rattle.page_text.specs.Parts.{IsPageSize, body, header, trailer};
+ghost use Rattle.page_text.specs.Parts.{IsPageSize, body, header, page_lsn_at, page_number_at, page_type_at, page_version_at, trailer};
 
 use crate::is_page_size;
 use crate::layout::{HEADER, LSN, PAGE_NUMBER, TRAILER, TYPE, VERSION};
@@ -61,28 +61,28 @@ impl<'a> PageView<'a> {
 
     /// The key version, in the four bytes from 0, the highest first.
     pub fn version(&self) -> u32
-        ensures { result ≡ be32_at self.now 0 }
+        ensures { result ≡ be32_at self.now page_version_at }
     {
         be32_at(self.bytes, VERSION)
     }
 
     /// The page's number, in the four bytes from 4, the highest first.
     pub fn page(&self) -> u32
-        ensures { result ≡ be32_at self.now 4 }
+        ensures { result ≡ be32_at self.now page_number_at }
     {
         be32_at(self.bytes, PAGE_NUMBER)
     }
 
     /// The LSN of the last change, in the eight bytes from 16, the highest first.
     pub fn lsn(&self) -> u64
-        ensures { result ≡ be64_at self.now 16 }
+        ensures { result ≡ be64_at self.now page_lsn_at }
     {
         be64_at(self.bytes, LSN)
     }
 
     /// The page's type, in the two bytes from 24, the highest first.
     pub fn kind(&self) -> u16
-        ensures { result ≡ be16_at self.now 24 }
+        ensures { result ≡ be16_at self.now page_type_at }
     {
         be16_at(self.bytes, TYPE)
     }

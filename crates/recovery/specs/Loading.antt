@@ -9,15 +9,17 @@ use Rattle.doublewrite.specs.declared.refuse.OpenRefuse.{OpenRefuse}
 use Rattle.doublewrite.specs.declared.refuse.OpenRefuse.TheVariants.{Mixed, Damaged, MissingKey}
 use Rattle.key_ring.specs.Local.{local_key}
 use Rattle.key_ring.specs.Ring.{RingEntry}
-use Rattle.page_places.specs.Texts.{page_bytes}
+use Rattle.page_places.specs.Texts.{page_bytes, page_lsn_at, page_number_at, page_type_at, page_version_at}
 use Rattle.page_pool.specs.Pages.{PoolState, held_page, is_dirty, is_name}
 use Rattle.page_pool.specs.declared.names.PageName.{PageName}
 use Rattle.page_text.specs.Opening.{opening}
+use Rattle.page_text.specs.Parts.{page_cipher_at, page_space_at}
 use Rattle.page_text.specs.Text.{IsText, FitsPage}
 use Rattle.page_text.specs.declared.fault.OpenFault.{OpenFault}
 use Rattle.page_text.specs.declared.fault.OpenFault.TheVariants.{Checksum, WrongEnd, WrongFill, WrongKind, WrongPage, WrongSpace}
 use Rattle.page_text.specs.declared.key.PageKey.{PageKey}
 use Rattle.places.specs.Places.{shown}
+use Rattle.redo_text.specs.Text.{page_body_end}
 use Rattle.space_head.specs.declared.space.SpaceInfo.{SpaceInfo}
 use Rattle.store_model.specs.Fold.{used}
 use Rattle.store_model.specs.declared.contents.PlainPage.{PlainPage}
@@ -37,11 +39,11 @@ page_key_in ring algorithm info version = option_map (λ local. record { local =
 -- a fault of the text in a home, as the refusal of the store: the place in the file, and the two values
 abbrev pub fault_refusal : ℕ → ℕ → OpenFault → OpenRefuse
 fault_refusal s p (Checksum stored computed) = Damaged (Space s) (p * page_bytes) stored computed
-fault_refusal s p (WrongPage wanted found) = Mixed (Space s) (p * page_bytes + 4) wanted found
-fault_refusal s p (WrongKind found version) = Mixed (Space s) (p * page_bytes + 24) 0 found
-fault_refusal s p (WrongSpace wanted found) = Mixed (Space s) (p * page_bytes + 34) wanted found
-fault_refusal s p (WrongEnd wanted found) = Mixed (Space s) (p * page_bytes + 16376) wanted found
-fault_refusal s p (WrongFill at found) = Mixed (Space s) (p * page_bytes + at) (if nat_eq at 26 then 0 else 0xFFFFFFFF) found
+fault_refusal s p (WrongPage wanted found) = Mixed (Space s) (p * page_bytes + page_number_at) wanted found
+fault_refusal s p (WrongKind found version) = Mixed (Space s) (p * page_bytes + page_type_at) 0 found
+fault_refusal s p (WrongSpace wanted found) = Mixed (Space s) (p * page_bytes + page_space_at) wanted found
+fault_refusal s p (WrongEnd wanted found) = Mixed (Space s) (p * page_bytes + page_body_end) wanted found
+fault_refusal s p (WrongFill at found) = Mixed (Space s) (p * page_bytes + at) (if nat_eq at page_cipher_at then 0 else 0xFFFFFFFF) found
 
 -- its place is in the page
 abbrev pub HasPlace : OpenFault → Type 0
@@ -54,12 +56,12 @@ HasPlace (WrongFill at found) = at < page_bytes
 
 -- why a home of these bytes can't be taken apart: the ring lacks the key of its version, or its text has a fault
 pub data IsHomeFault (ring : List RingEntry) (algorithm : Algorithm) (info : SpaceInfo) (p : ℕ) (home : List ℕ) (why : OpenRefuse) : Type 0 where
-  LacksKey : be32_at home 0 ≢ 0 → page_key_in ring algorithm info (be32_at home 0) ≡ None → why ≡ MissingKey info.key_id (be32_at home 0) → IsHomeFault ring algorithm info p home why
-  HasFault : (fault : OpenFault) → (be32_at home 0 ≢ 0 → IsSome (page_key_in ring algorithm info (be32_at home 0))) → opening info.space p (page_key_in ring algorithm info (be32_at home 0)) home ≡ Err fault → why ≡ fault_refusal info.space p fault → IsHomeFault ring algorithm info p home why
+  LacksKey : be32_at home page_version_at ≢ 0 → page_key_in ring algorithm info (be32_at home page_version_at) ≡ None → why ≡ MissingKey info.key_id (be32_at home page_version_at) → IsHomeFault ring algorithm info p home why
+  HasFault : (fault : OpenFault) → (be32_at home page_version_at ≢ 0 → IsSome (page_key_in ring algorithm info (be32_at home page_version_at))) → opening info.space p (page_key_in ring algorithm info (be32_at home page_version_at)) home ≡ Err fault → why ≡ fault_refusal info.space p fault → IsHomeFault ring algorithm info p home why
 
 -- The home has the text of this plain page.
 abbrev pub IsHomeText : List RingEntry → Algorithm → SpaceInfo → ℕ → List ℕ → PlainPage → Type 0
-IsHomeText ring algorithm info p home plain = IsText page_bytes info.space p (be64_at home 16) (be32_at home 0) (page_key_in ring algorithm info (be32_at home 0)) (record { kind = plain.kind; bytes = plain.body }) home
+IsHomeText ring algorithm info p home plain = IsText page_bytes info.space p (be64_at home page_lsn_at) (be32_at home page_version_at) (page_key_in ring algorithm info (be32_at home page_version_at)) (record { kind = plain.kind; bytes = plain.body }) home
 
 -- A page of these bytes in its home can't be taken apart: why, and that they are no text of it.
 pub record HasNoText (ring : List RingEntry) (algorithm : Algorithm) (info : SpaceInfo) (p : ℕ) (home : List ℕ) (why : OpenRefuse) : Type 0 where

@@ -21,7 +21,7 @@ ghost use Rattle.recovery.specs.Notes.{no_note};
 ghost use Rattle.recovery.specs.Loading.{HoldsHomes, HoldsMore, HoldsRange, HasNoText, HasPlace, IsHomeText, IsPageLoaded, MayHaveType, fault_refusal, is_unread, page_key_in, name_in};
 ghost use Rattle.recovery.specs.Rounds.{count_in, has_later};
 
-use crate::layout::PAGE_BYTES;
+use crate::layout::{PAGE_BYTES, PAGE_CIPHERED, PAGE_END, PAGE_NUMBER, PAGE_SPACE, PAGE_TYPE};
 use crate::notes::{NoteSource, PageNote, SpaceNotes};
 use crate::pages::read_home;
 use crate::rounds::{Round, has_later};
@@ -72,17 +72,29 @@ fn fault_refusal(space: u32, page: u32, fault: OpenFault) -> OpenRefuse
             computed,
         },
         OpenFault::WrongPage { wanted, found } => {
-            mixed(space, page, 4, u64::from(wanted), u64::from(found))
+            mixed(
+                space,
+                page,
+                PAGE_NUMBER,
+                u64::from(wanted),
+                u64::from(found),
+            )
         }
-        OpenFault::WrongKind { found, version: _ } => mixed(space, page, 24, 0, u64::from(found)),
+        OpenFault::WrongKind { found, version: _ } => mixed(
+            space,
+            page,
+            PAGE_TYPE,
+            0,
+            u64::from(found),
+        ),
         OpenFault::WrongSpace { wanted, found } => {
-            mixed(space, page, 34, u64::from(wanted), u64::from(found))
+            mixed(space, page, PAGE_SPACE, u64::from(wanted), u64::from(found))
         }
         OpenFault::WrongEnd { wanted, found } => {
-            mixed(space, page, 16376, u64::from(wanted), u64::from(found))
+            mixed(space, page, PAGE_END, u64::from(wanted), u64::from(found))
         }
         OpenFault::WrongFill { at, found } => {
-            let wanted = if at == 26 { 0 } else { 0xffff_ffff };
+            let wanted = if at == PAGE_CIPHERED { 0 } else { 0xffff_ffff };
             mixed(space, page, at as u64, wanted, found)
         }
     }

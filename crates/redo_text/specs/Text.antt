@@ -17,11 +17,21 @@ abbrev pub text_of : List Change → List ℕ
 text_of [] = []
 text_of (c ∷ cs) = change_text c ++ text_of cs
 
+-- where the body of a page of a store begins and ends, in bytes, and its length
+abbrev pub page_body_at : ℕ
+page_body_at = 38
+
+abbrev pub page_body_end : ℕ
+page_body_end = 16376
+
+abbrev pub page_body_bytes : ℕ
+page_body_bytes = 16338
+
 -- a range of a page that isn't empty and lies in its body
 pub record IsRange (at size : ℕ) : Type 0 where
   pub some : 0 < size
-  pub from : 38 ≤ at
-  pub to : at + size ≤ 16376
+  pub from : page_body_at ≤ at
+  pub to : at + size ≤ page_body_end
 
 -- A change that the format allows: numbers of 32 bits, types of 16, pages of a Put and a Kind from 1 on, and no type 8 or 9.
 abbrev pub IsAllowed : Change → Type 0

@@ -6,6 +6,7 @@ ghost use Rattle.redo_text.specs.Text.{IsRange};
 ghost use Rattle.redo_text.specs.Changes.{Begins, BeginsWithNone, IsLent, IsNextChange, ChangePlace, change_of};
 
 use crate::BadRecord;
+use crate::layout::{PAGE_BODY_AT, PAGE_BODY_END};
 use byte_list::fields::{be16_at, be32_at};
 use bytes_core::Cursor;
 use std::marker::Model;
@@ -51,7 +52,7 @@ fn may_put(page: u32, at: u32, size: u32) -> bool
     ensures yes { result ≡ true → (0 < page) × IsRange at size }
     ensures no { result ≡ false → 0 < page → IsRange at size → ⊥ }
 {
-    0 < page && 0 < size && 38 <= at && at <= 16376 && size <= 16376 - at
+    0 < page && 0 < size && PAGE_BODY_AT <= at && at <= PAGE_BODY_END && size <= PAGE_BODY_END - at
 }
 
 // Whether a page may have this type.

@@ -1,7 +1,7 @@
 -- Which statement of a script a store refuses, and why.
 use Rattle.std.specs.Prelude.{◌≡◌, ℕ, ◌+◌, Bool, ◌==◌, ◌&&◌, nat_lt, nat_le, if◌then◌else◌, List, [], ◌∷◌, length, map, replicate, Option, Some, None, is_some, option_map, Result, Ok, Err, MatchOption, IsTrue, ◌↔◌}
 use Rattle.redo_text.specs.Block.{block_count}
-use Rattle.redo_text.specs.Text.{text_of, IsRange}
+use Rattle.redo_text.specs.Text.{text_of, IsRange, page_body_at, page_body_end}
 use Rattle.redo_text.specs.declared.change.Change.{Change}
 use Rattle.redo_text.specs.declared.change.Change.TheVariants as redo
 use Rattle.space_head.specs.declared.space.SpaceInfo.{SpaceInfo}
@@ -45,9 +45,9 @@ page_past space page (Some pages) = if nat_le 1 page && nat_lt page pages then N
 abbrev pub missing_page : List SpaceInfo → ℕ → ℕ → Option Why
 missing_page spaces space page = page_past space page (page_count_of spaces space)
 
--- the range isn't empty, and lies in bytes 38 to 16376
+-- the range isn't empty, and lies in the body of a page
 abbrev pub is_range : ℕ → ℕ → Bool
-is_range at size = nat_le 1 size && (nat_le 38 at && nat_le (at + size) 16376)
+is_range at size = nat_le 1 size && (nat_le page_body_at at && nat_le (at + size) page_body_end)
 
 -- the test is that of the log's ranges
 abbrev pub TellsRange : ℕ → ℕ → Type 0
@@ -91,12 +91,16 @@ log_change (change.Kind space page kind) = redo.Kind space page kind
 abbrev pub log_text : List ScriptChange → List ℕ
 log_text changes = text_of (map log_change changes)
 
+-- the most blocks of a mini-transaction
+abbrev pub mtr_blocks_allowed : ℕ
+mtr_blocks_allowed = 16
+
 -- the blocks of that text
 abbrev pub blocks_of : List ScriptChange → ℕ
 blocks_of changes = block_count (log_text changes)
 
 abbrev pub too_long : List ScriptChange → Option Why
-too_long changes = if nat_le (blocks_of changes) 16 then None else Some (TooLong (blocks_of changes))
+too_long changes = if nat_le (blocks_of changes) mtr_blocks_allowed then None else Some (TooLong (blocks_of changes))
 
 -- each check over all changes, one check after another
 abbrev pub mtr_refusal : List SpaceInfo → List ScriptChange → Option Why

@@ -1,5 +1,6 @@
 -- The names of statements and of changes, and the fields that follow each.
 use Rattle.std.specs.Prelude.{ℕ, List, [], ◌∷◌, codes}
+use Rattle.redo_text.specs.Text.{page_body_bytes}
 use Rattle.script_core.specs.Words.{Word}
 use Rattle.script_core.specs.Fields.{Field, Numeral, PageType, Bytes, Byte, FreeBatch, HeldBatch, End}
 use Rattle.script_core.specs.declared.names.StatementName.{StatementName}
@@ -32,7 +33,7 @@ any_u32 = Numeral 0 4294967295
 -- the fields behind a statement's name; those of a mini-transaction go on with its changes
 unfoldable pub fields_of : StatementName → List Field
 fields_of Mtr = Numeral 1 16 ∷ []
-fields_of Read = Numeral 1 16 ∷ any_u32 ∷ any_u32 ∷ any_u32 ∷ Numeral 1 16338 ∷ End ∷ []
+fields_of Read = Numeral 1 16 ∷ any_u32 ∷ any_u32 ∷ any_u32 ∷ Numeral 1 page_body_bytes ∷ End ∷ []
 fields_of Sync = End ∷ []
 fields_of Flush = End ∷ []
 fields_of Check = End ∷ []

@@ -1,5 +1,6 @@
 -- What the words of a line say, and what is wrong with them.
 use Rattle.std.specs.Prelude.{◌≡◌, ◌≢◌, ◌⊎◌, ℕ, ◌+◌, ◌≤◌, ◌<◌, List, [], ◌∷◌, length, codes}
+use Rattle.redo_text.specs.Text.{page_body_bytes}
 use Rattle.script_core.specs.Words.{Word, IsNumber, IsPageType, IsHex}
 use Rattle.script_core.specs.Batches.{IsOut}
 use Rattle.script_core.specs.Fields.{Field, Numeral, FaultAt, Passes, FaultIn}
@@ -50,7 +51,7 @@ unfoldable pub AreArguments : List Act → Act → List Word → Type 0
 AreArguments before (Mtr session changes) words =
     (k : Word) × (rest : List Word) × (words ≡ k ∷ rest) × IsNumber k 1 16 session × AreChanges changes rest × (length changes ≤ 64)
 AreArguments before (Read session space page at length) words =
-    (k : Word) × (s : Word) × (p : Word) × (a : Word) × (l : Word) × (words ≡ k ∷ s ∷ p ∷ a ∷ l ∷ []) × IsNumber k 1 16 session × IsU32 s space × IsU32 p page × IsU32 a at × IsNumber l 1 16338 length
+    (k : Word) × (s : Word) × (p : Word) × (a : Word) × (l : Word) × (words ≡ k ∷ s ∷ p ∷ a ∷ l ∷ []) × IsNumber k 1 16 session × IsU32 s space × IsU32 p page × IsU32 a at × IsNumber l 1 page_body_bytes length
 AreArguments before Sync words = words ≡ []
 AreArguments before Flush words = words ≡ []
 AreArguments before Check words = words ≡ []

@@ -6,7 +6,7 @@ use Rattle.counted_disk.specs.declared.counted.Counted.{Counted}
 use Rattle.disk_model.specs.Past.{Past, At}
 use Rattle.disk_model.specs.declared.names.FileName.TheVariants.{Space}
 use Rattle.key_ring.specs.Ring.{RingEntry}
-use Rattle.page_places.specs.Texts.{page_bytes}
+use Rattle.page_places.specs.Texts.{page_body_at, page_bytes}
 use Rattle.page_pool.specs.Changes.{admitted, found_page}
 use Rattle.page_pool.specs.Pages.{PoolState, held_page, is_held, plain_page}
 use Rattle.page_pool.specs.declared.names.PageName.{PageName}
@@ -68,7 +68,7 @@ IsPoolAfter ring store past s p old new =
 
 -- the bytes of a page's body, by their place in the page; an unused page has zero bytes
 abbrev pub part_of_page : ℕ → ℕ → Option PlainPage → List ℕ
-part_of_page at size page = range (at - 38) size (used page).body
+part_of_page at size page = range (at - page_body_at) size (used page).body
 
 -- the page, with the bytes of it from a place on
 pub record ReadsPart {D : Type 0} (past : D → Past) (r : Running D) (s p at : ℕ) (bytes : List ℕ) : Type 0 where

@@ -17,7 +17,9 @@ use page_places::PAGE_BYTES;
 use page_pool::PageName;
 use space_head::SpaceInfo;
 
-// The first byte of a page's body, and the one behind it.
+// Where the type of a page stands, in bytes, the first byte of its body, and the one behind that.
+const PAGE_TYPE: usize = 24;
+
 const BODY_BEGINS: u32 = 38;
 
 const BODY_ENDS: usize = 16376;
@@ -68,7 +70,7 @@ fn kind_of(bytes: &[u8], is_used: bool) -> Option<u16>
     ensures { result ≡ option_map (λ x. x.kind) (if is_used then Some (plain_page bytes.now) else None) }
 {
     if is_used {
-        Some(be16_at(bytes, 24))
+        Some(be16_at(bytes, PAGE_TYPE))
     } else {
         None
     }

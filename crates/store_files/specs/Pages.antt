@@ -9,6 +9,7 @@ use Rattle.page_text.specs.Text.{Plain, IsText}
 use Rattle.page_text.specs.Parts.{body}
 use Rattle.page_text.specs.declared.key.PageKey.{PageKey}
 use Rattle.space_head.specs.Head.{with_head}
+use Rattle.space_head.specs.Record.{salt_size}
 use Rattle.space_head.specs.declared.head.SpaceHead.{SpaceHead}
 use Rattle.store_image.specs.View.{Text}
 use Rattle.store_model.specs.Fold.{used, plain_changed, floor_set, made_ciphered}
@@ -135,37 +136,9 @@ head_of_space info = record {
   crypt = Some (record { ciphered = info.ciphered; salt = info.salt; minimum = info.floor; key_id = info.key_id; mode = if info.ciphered then 1 else 2 });
 }
 
--- where the fields of a page 0 stand, in bytes: the space's id, its size and its flags
-abbrev pub head_space_at : ℕ
-head_space_at = 38
-
-abbrev pub head_pages_at : ℕ
-head_pages_at = 46
-
-abbrev pub head_flags_at : ℕ
-head_flags_at = 54
-
--- and its crypt record, which is that place of space_head in pages of this size: magic, type, the salt with its length, the least key version, the key's id and the mode
+-- where the crypt record of a page 0 stands, which is that place of space_head in pages of this size
 abbrev pub record_at : ℕ
 record_at = 10428
-
-abbrev pub record_type_at : ℕ
-record_type_at = 10434
-
-abbrev pub record_length_at : ℕ
-record_length_at = 10435
-
-abbrev pub record_salt_at : ℕ
-record_salt_at = 10436
-
-abbrev pub record_minimum_at : ℕ
-record_minimum_at = 10452
-
-abbrev pub record_key_at : ℕ
-record_key_at = 10456
-
-abbrev pub record_mode_at : ℕ
-record_mode_at = 10460
 
 -- the plain page 0 of a space: type 8, the head, and zero bytes elsewhere
 abbrev pub head_page : SpaceInfo → Plain
@@ -177,7 +150,7 @@ pub record IsTypedInfo (info : SpaceInfo) : Type 0 where
   pub pages_fit : info.pages < 2 ^ 32
   pub key_id_fits : info.key_id < 2 ^ 32
   pub floor_fits : info.floor < 2 ^ 32
-  pub salt_long : length info.salt ≡ 16
+  pub salt_long : length info.salt ≡ salt_size
 
 -- a key that is there has 16 bytes
 pub record HasKeyBytes (key : PageKey) : Type 0 where
