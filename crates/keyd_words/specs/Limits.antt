@@ -9,6 +9,7 @@ use Rattle.keyd_words.specs.declared.plan.DrillOptions.{DrillOptions}
 use Rattle.keyd_words.specs.declared.plan.MakeOptions.{MakeOptions}
 use Rattle.keyd_words.specs.declared.plan.Plan.{Plan}
 use Rattle.keyd_words.specs.declared.plan.Plan.TheVariants.{Create, Step, Run, Drill, Recover, Report, Make}
+use Rattle.keyd_words.specs.Table.{log_blocks_least, log_blocks_most, spaces_allowed}
 use Rattle.keyd_words.specs.Values.{pages_allowed, IsNewSpace, AreChoices}
 use Rattle.keyd_words.specs.Settings.{pages_of_spaces, AreDifferent}
 
@@ -28,11 +29,11 @@ pub record IsKeyPlan (keys : KeyOptions) : Type 0 where
 -- 1 to 16 tablespaces of different ids, each within its bounds and with 16384 pages together at most, and a log of 32 to 4096 blocks
 pub record IsStorePlan (store : CreateOptions) : Type 0 where
   pub keys : IsKeyPlan store.keys
-  pub spaces : IsFrom 1 16 (length store.spaces)
+  pub spaces : IsFrom 1 spaces_allowed (length store.spaces)
   pub each : All IsNewSpace store.spaces
   pub differ : AreDifferent store.spaces
   pub fit : pages_of_spaces store.spaces ≤ pages_allowed
-  pub log : IsFrom 32 4096 store.log
+  pub log : IsFrom log_blocks_least log_blocks_most store.log
 
 -- an age of 0 to 2^31
 pub record IsStepPlan (step : StepOptions) : Type 0 where

@@ -62,13 +62,23 @@ pub record TableRow : Type 0 where
 abbrev pub row : Argument → Option ValueForm → ℕ → OptionUses → TableRow
 row word form most columns = record { word = word; form = form; most = most; uses = columns }
 
+-- the most tablespaces of a store, and the least and the most blocks of its log's ring
+abbrev pub spaces_allowed : ℕ
+spaces_allowed = 16
+
+abbrev pub log_blocks_least : ℕ
+log_blocks_least = 32
+
+abbrev pub log_blocks_most : ℕ
+log_blocks_most = 4096
+
 -- the table: an option's word, the form of its value, how often it may stand, and whether create, step, run, drill, recover and report take it
 unfoldable pub row_of : OptionName → TableRow
 row_of name.KeyFile = row (codes "--key-file") (Some FileName) 64 (uses Must Must Must Must Must Must)
 row_of name.FileKey = row (codes "--filekey") (Some FileKey) 1 (uses May May May May May May)
 row_of name.Digest = row (codes "--digest") (Some Digest) 1 (uses May May May May May May)
-row_of name.Space = row (codes "--space") (Some Space) 16 (uses Must No No Must No No)
-row_of name.Log = row (codes "--log") (Some (Number 32 4096)) 1 (uses May No No May No No)
+row_of name.Space = row (codes "--space") (Some Space) spaces_allowed (uses Must No No Must No No)
+row_of name.Log = row (codes "--log") (Some (Number log_blocks_least log_blocks_most)) 1 (uses May No No May No No)
 row_of name.Algorithm = row (codes "--algorithm") (Some Algorithm) 1 (uses May No No May No No)
 row_of name.Active = row (codes "--active") (Some (Number 1 4294967295)) 1 (uses May May May May May May)
 row_of name.Age = row (codes "--age") (Some (Number 0 2147483648)) 1 (uses No May May May No No)

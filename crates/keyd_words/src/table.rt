@@ -7,6 +7,13 @@ use crate::command::Command;
 // The turns at which a disk can be stopped.
 const TURNS: u32 = 1_000_000;
 
+// The most tablespaces of a store, and the least and the most blocks of its log's ring.
+const MOST_SPACES: usize = 16;
+
+const LEAST_LOG_BLOCKS: u32 = 32;
+
+const MOST_LOG_BLOCKS: u32 = 4096;
+
 // An option of a command.
 #[derive(Clone, Copy, Debug, PartialEq, Eq)]
 pub(crate) enum OptionName {
@@ -231,8 +238,17 @@ impl OptionName {
             OptionName::KeyFile => often("--key-file", FileName, 64, each(Must)),
             OptionName::FileKey => once("--filekey", FileKey, each(May)),
             OptionName::Digest => once("--digest", Digest, each(May)),
-            OptionName::Space => often("--space", Space, 16, uses(Must, No, No, Must, No, No)),
-            OptionName::Log => once("--log", number(32, 4096), uses(May, No, No, May, No, No)),
+            OptionName::Space => often(
+                "--space",
+                Space,
+                MOST_SPACES,
+                uses(Must, No, No, Must, No, No),
+            ),
+            OptionName::Log => once(
+                "--log",
+                number(LEAST_LOG_BLOCKS, MOST_LOG_BLOCKS),
+                uses(May, No, No, May, No, No),
+            ),
             OptionName::Algorithm => once("--algorithm", Algorithm, uses(May, No, No, May, No, No)),
             OptionName::Active => once("--active", number(1, u32::MAX), each(May)),
             OptionName::Age => once("--age", number(0, 1 << 31), uses(No, May, May, May, No, No)),

@@ -7,9 +7,13 @@ use Rattle.disk_model.specs.Past.{Past, At}
 use Rattle.disk_model.specs.declared.names.FileName.TheVariants.{Space}
 use Rattle.doublewrite.specs.declared.refuse.OpenRefuse.{OpenRefuse}
 use Rattle.doublewrite.specs.declared.refuse.OpenRefuse.TheVariants.{Mixed, DiskFault, OutOfMemory}
+use Rattle.page_places.specs.Texts.{page_type_at, page_version_at}
+use Rattle.space_head.specs.Head.{head_flags_at, head_pages_at, head_space_at}
+use Rattle.space_head.specs.Record.{record_key_at, record_length_at, record_minimum_at, record_mode_at, record_salt_at, record_type_at, salt_size}
 use Rattle.space_head.specs.declared.space.SpaceInfo.{SpaceInfo}
 use Rattle.store_image.specs.View.{Text, IsChosen}
 use Rattle.store_files.specs.Header.{HeldSpace}
+use Rattle.store_files.specs.Pages.{record_at}
 use Rattle.recovery.specs.Notes.{disk_view}
 use Rattle.recovery.specs.Walks.{AllHave, FirstHas, PairsHave}
 use Rattle.recovery.specs.declared.heads.HeadField.{HeadField}
@@ -41,8 +45,8 @@ at_most at width wanted = record { at = at; width = width; wanted = wanted; is_m
 -- the fields of page 0, in the order in which they are looked at: the key version, the page type, the space's id and size, the flags, and of the crypt record the magic, the type, the length of the salt, the id of the key and the mode
 abbrev pub head_fields : HeldSpace → List HeadField
 head_fields h =
-    exactly 0 Four 0 ∷ exactly 24 Two 8 ∷ exactly 38 Four h.space ∷ exactly 46 Four h.pages ∷ exactly 54 Four 21
-    ∷ exactly 10428 Six 0x730E0C524574 ∷ at_most 10434 One 1 ∷ exactly 10435 One 16 ∷ exactly 10456 Four h.key_id ∷ at_most 10460 One 2 ∷ []
+    exactly page_version_at Four 0 ∷ exactly page_type_at Two 8 ∷ exactly head_space_at Four h.space ∷ exactly head_pages_at Four h.pages ∷ exactly head_flags_at Four 21
+    ∷ exactly record_at Six 0x730E0C524574 ∷ at_most (record_at + record_type_at) One 1 ∷ exactly (record_at + record_length_at) One salt_size ∷ exactly (record_at + record_key_at) Four h.key_id ∷ at_most (record_at + record_mode_at) One 2 ∷ []
 
 abbrev pub AreRight : List HeadField → List ℕ → Type 0
 AreRight fields text = AllHave (λ f. IsRight f text) fields
@@ -58,7 +62,7 @@ IsFirstWrong fields field text = FirstHas (λ f. IsRight f text) (IsWrong field 
 
 -- what page 0 says of a space, of which its header says the rest
 abbrev pub info_in : HeldSpace → List ℕ → SpaceInfo
-info_in h text = record { space = h.space; pages = h.pages; key_id = h.key_id; salt = range 10436 16 text; ciphered = nat_eq (slice_index_or text 10434 0) 1; floor = be32_at text 10452 }
+info_in h text = record { space = h.space; pages = h.pages; key_id = h.key_id; salt = range (record_at + record_salt_at) salt_size text; ciphered = nat_eq (slice_index_or text (record_at + record_type_at) 0) 1; floor = be32_at text (record_at + record_minimum_at) }
 
 -- a field isn't right, and this is the first
 abbrev pub IsFieldRefusal : HeldSpace → List ℕ → OpenRefuse → Type 0

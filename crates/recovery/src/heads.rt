@@ -11,6 +11,7 @@ ghost use Rattle.doublewrite.specs.Restore.{newest};
 ghost use Rattle.doublewrite.specs.declared.refuse.OpenRefuse.TheVariants.{DiskFault, OutOfMemory};
 ghost use Rattle.page_places.specs.Texts.{page_bytes, pages};
 ghost use Rattle.places.specs.Places.{HasFile};
+ghost use Rattle.space_head.specs.Record.{salt_size};
 ghost use Rattle.store_files.specs.Header.{are_allowed};
 ghost use Rattle.store_form.specs.Said.{header_said, space_said};
 ghost use Rattle.store_image.specs.View.{Text, IsChosen};
@@ -28,6 +29,34 @@ use doublewrite::{Copies, OpenRefuse, newest_copy};
 use space_head::SpaceInfo;
 use std::alloc::Global;
 use store_form::{Header, HeaderSpace, Spaces};
+
+// Where the fields of a page 0 stand, in bytes: the key version, the page's type, the space's id, its
+// size and its flags.
+const VERSION: usize = 0;
+
+const TYPE: usize = 24;
+
+const SPACE: usize = 38;
+
+const PAGES: usize = 46;
+
+const FLAGS: usize = 54;
+
+// And its crypt record, with the record's type, the salt's length, the salt, the floor, the key id and
+// the mode.
+const RECORD: usize = 10428;
+
+const RECORD_TYPE: usize = 10434;
+
+const SALT_LENGTH: usize = 10435;
+
+const SALT: usize = 10436;
+
+const FLOOR: usize = 10452;
+
+const KEY_ID: usize = 10456;
+
+const MODE: usize = 10460;
 
 /// How many bytes a number has.
 #[derive(Clone, Copy, Debug, PartialEq, Eq)]
@@ -93,16 +122,16 @@ fn head_fields(space: &HeaderSpace) -> [HeadField; 10]
     ensures { result ≡ head_fields (space_said space.now) }
 {
     [
-        exactly(0, Width::Four, 0),
-        exactly(24, Width::Two, 8),
-        exactly(38, Width::Four, u64::from(space.space)),
-        exactly(46, Width::Four, u64::from(space.pages)),
-        exactly(54, Width::Four, 21),
-        exactly(10428, Width::Six, 0x730e_0c52_4574),
-        at_most(10434, Width::One, 1),
-        exactly(10435, Width::One, 16),
-        exactly(10456, Width::Four, u64::from(space.key_id)),
-        at_most(10460, Width::One, 2),
+        exactly(VERSION, Width::Four, 0),
+        exactly(TYPE, Width::Two, 8),
+        exactly(SPACE, Width::Four, u64::from(space.space)),
+        exactly(PAGES, Width::Four, u64::from(space.pages)),
+        exactly(FLAGS, Width::Four, 21),
+        exactly(RECORD, Width::Six, 0x730e_0c52_4574),
+        at_most(RECORD_TYPE, Width::One, 1),
+        exactly(SALT_LENGTH, Width::One, 16),
+        exactly(KEY_ID, Width::Four, u64::from(space.key_id)),
+        at_most(MODE, Width::One, 2),
     ]
 }
 
@@ -125,6 +154,7 @@ fn first_wrong(fields: &[HeadField], text: &[u8]) -> Option<HeadField>
     requires { AllHave (λ field. field.at + 6 ≤ length text.now) fields.now }
     ensures some { IfSome result (λ field. IsFirstWrong fields.now field text.now) }
     ensures none { IfNone result (AreRight fields.now text.now) }
+    ensures inside { IfSome result (λ field. field.at + 6 ≤ length text.now) }
 {
     for field in fields {
         if !is_right(field, text) {
@@ -136,10 +166,10 @@ fn first_wrong(fields: &[HeadField], text: &[u8]) -> Option<HeadField>
 
 fn salt_in(text: &[u8]) -> [u8; 16]
     requires { length text.now ≡ page_bytes }
-    ensures { result ≡ range 10436 16 text.now }
+    ensures { result ≡ range SALT salt_size text.now }
 {
     let mut salt = [0; 16];
-    salt.copy_from_slice(&text[10436..10452]);
+    salt.copy_from_slice(&text[SALT..FLOOR]);
     salt
 }
 
@@ -153,8 +183,8 @@ fn info_in(space: &HeaderSpace, text: &[u8]) -> SpaceInfo
         pages: space.pages,
         key_id: space.key_id,
         salt: salt_in(text),
-        ciphered: text[10434] == 1,
-        floor: be32_at(text, 10452),
+        ciphered: text[RECORD_TYPE] == 1,
+        floor: be32_at(text, FLOOR),
     }
 }
 
