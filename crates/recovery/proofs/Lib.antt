@@ -21,3 +21,4 @@ pub mod LooksSteps
 pub mod KeySteps
 pub mod NotedChanges
 pub mod RunsPassed
+pub mod RunsApplied

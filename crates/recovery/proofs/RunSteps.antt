@@ -1,14 +1,17 @@
 -- What a run makes of the pages that a pool holds is what it makes of the pages of contents.
-use Rattle.std.proofs.Common.{◌≡◌, ◌≢◌, ℕ, ◌<◌, ◌≤◌, ◌⊎◌, inl, inr, Bool, true, false, nat_le, ◌||◌, if◌then◌else◌, List, [], ◌∷◌, ◌++◌, slice_index_or, Option, Some, None, refl, sym, ap, subst, ◌∙◌, arith}
+use Rattle.std.proofs.Common.{◌≡◌, ◌≢◌, ℕ, ◌+◌, ◌<◌, ◌≤◌, ◌⊎◌, inl, inr, Bool, true, false, nat_le, ◌||◌, if◌then◌else◌, List, [], ◌∷◌, ◌++◌, slice_index_or, Option, Some, None, refl, sym, ap, subst, ◌∙◌, arith}
 use Rattle.std.proofs.lemmas.Bool.Decides.{nat_tests}
 use Rattle.redo_text.specs.Text.{AreAllowed, IsAllowed}
 use Rattle.redo_text.specs.declared.change.Change.{Change}
 use Rattle.redo_text.specs.declared.change.Change.TheVariants.{Put, Kind, Touch, Floor, Encrypt}
 use Rattle.space_head.specs.declared.space.SpaceInfo.{SpaceInfo}
+use Rattle.key_ring.specs.Ring.{RingEntry}
+use Rattle.store_files.specs.Header.{HeldHeader}
+use Rattle.store_files.specs.Run.{AreLogEntries}
 use Rattle.store_image.specs.Recovers.{IsNamedBy, later_by}
 use Rattle.store_image.specs.View.{Logged}
-use Rattle.store_files.specs.Pages.{Page, Head, Unused, Used, IsTypedInfo, change_names, mtr_acts, mtr_names, page_after}
-use Rattle.store_files.proofs.PageLaws.{mtr_idle}
+use Rattle.store_files.specs.Pages.{Page, Head, Unused, Used, IsTypedInfo, change_names, is_used, mtr_acts, mtr_names, page_after}
+use Rattle.store_files.proofs.PageLaws.{mtr_idle, mtr_uses}
 use Rattle.store_model.specs.Fold.{floor_set, made_ciphered, used}
 use Rattle.store_model.specs.declared.contents.PlainPage.{PlainPage}
 use Rattle.page_pool.specs.Changes.{held_after}
@@ -20,6 +23,7 @@ use Rattle.recovery.specs.Changing.{ChangesRange}
 use Rattle.recovery.specs.Loading.{name_in}
 use Rattle.recovery.specs.Notes.{no_note}
 use Rattle.recovery.specs.Rounds.{has_later}
+use Rattle.recovery.specs.Walks.{AllHave}
 use Rattle.recovery.specs.declared.notes.PageNote.{PageNote}
 
 -- ---- one mini-transaction more
@@ -68,6 +72,14 @@ stands_acts (c ∷ cs) s p x is = stands_acts cs s p (if change_names c s p then
     by : (b : Bool) → MayStandAt p (if b then page_after c x else x)
     by true = stands_after c p x is
     by false = is
+
+pub stands_laters : (lsn : ℕ) (run : List (Logged (List Change))) (s p : ℕ) (x : Page) → MayStandAt p x → MayStandAt p (later_by mtr_acts lsn run s p x)
+stands_laters lsn [] s p x is = is
+stands_laters lsn (e ∷ es) s p x is = stands_laters lsn es s p (if nat_le e.lsn lsn then x else mtr_acts e.mtr s p x) (by (nat_le e.lsn lsn))
+  where
+    by : (b : Bool) → MayStandAt p (if b then x else mtr_acts e.mtr s p x)
+    by true = is
+    by false = stands_acts e.mtr s p x is
 
 pub held_laters : (lsn : ℕ) (run : List (Logged (List Change))) (s p : ℕ) (x : Page) → IsAllowedRun run → MayStandAt p x → held_later lsn run s p (plain_in_page x) ≡ plain_in_page (later_by mtr_acts lsn run s p x)
 held_laters lsn [] s p x allowed stands = refl
@@ -127,6 +139,23 @@ names_later lsn l run s p is above = subst (λ (r : List (Logged (List Change)))
     walk [] = inl (over, is.named)
     walk (e ∷ es) = inr (walk es)
 
+-- a page that is used stays so
+used_still : (lsn : ℕ) (run : List (Logged (List Change))) (s p : ℕ) (x : Page) → is_used x ≡ true → is_used (later_by mtr_acts lsn run s p x) ≡ true
+used_still lsn [] s p x used = used
+used_still lsn (e ∷ es) s p x used = used_still lsn es s p (if nat_le e.lsn lsn then x else mtr_acts e.mtr s p x) (by (nat_le e.lsn lsn) (mtr_names e.mtr s p) refl)
+  where
+    by : (b n : Bool) → mtr_names e.mtr s p ≡ n → is_used (if b then x else mtr_acts e.mtr s p x) ≡ true
+    by true n is = used
+    by false true is = mtr_uses e.mtr s p x is
+    by false false is = ap is_used (mtr_idle e.mtr s p x is) ∙ used
+
+-- and one that is named is used behind it
+pub used_later : (lsn : ℕ) (run : List (Logged (List Change))) (s p : ℕ) (x : Page) → NamesLater lsn run s p → is_used (later_by mtr_acts lsn run s p x) ≡ true
+used_later lsn [] s p x names = absurd names
+used_later lsn (e ∷ es) s p x (inl (above, named)) =
+    ap (λ (b : Bool). is_used (later_by mtr_acts lsn es s p (if b then x else mtr_acts e.mtr s p x))) above ∙ used_still lsn es s p (mtr_acts e.mtr s p x) (mtr_uses e.mtr s p x named)
+used_later lsn (e ∷ es) s p x (inr later) = used_later lsn es s p (if nat_le e.lsn lsn then x else mtr_acts e.mtr s p x) later
+
 -- ---- the head of a space keeps its widths
 
 typed_after : (c : Change) (info : SpaceInfo) → IsAllowed c → IsTypedInfo info → (new : SpaceInfo) × (page_after c (Head info) ≡ Head new) × IsTypedInfo new
@@ -156,3 +185,15 @@ typed_later lsn (e ∷ es) s p x allowed typed = typed_later lsn es s p (if nat_
     by : (b : Bool) → IsTypedHead (if b then x else mtr_acts e.mtr s p x)
     by true = typed
     by false = typed_acts e.mtr s p x allowed.0 typed
+
+-- ---- the run of a log
+
+-- each of its changes is allowed
+pub entries_allowed : (header : HeldHeader) (keys : List RingEntry) (file : List ℕ) (n : ℕ) (run : List (Logged (List Change))) (end : ℕ) → AreLogEntries header keys file n run end → IsAllowedRun run
+entries_allowed header keys file n [] end is = tt
+entries_allowed header keys file n (e ∷ es) end (k, text, whole, has, says, first, lsn, rest) = (says.allowed, entries_allowed header keys file (n + k) es end rest)
+
+-- and each LSN is above 0
+pub entries_above : (header : HeldHeader) (keys : List RingEntry) (file : List ℕ) (n : ℕ) (run : List (Logged (List Change))) (end : ℕ) → AreLogEntries header keys file n run end → AllHave (λ e. 0 < e.lsn) run
+entries_above header keys file n [] end is = tt
+entries_above header keys file n (e ∷ es) end (k, text, whole, has, says, first, lsn, rest) = ((let some = whole.some in omega (arith, lsn, some)), entries_above header keys file (n + k) es end rest)

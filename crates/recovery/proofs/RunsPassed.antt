@@ -31,7 +31,7 @@ use Rattle.store_files.specs.Pages.{Page, Head, mtr_acts, mtr_names}
 use Rattle.store_files.specs.RingBlock.{IsMtrText, begins_mtr, ends_mtr, is_ring_block}
 use Rattle.store_files.specs.Run.{AreLogEntries, HasText, MakeWholeMtr, MakeWholeMtrs, block_at}
 use Rattle.recovery.specs.Changes.{AreBlocksKeyed, AreRunChanges, AreLastChanges, AreLaterHeads, FitLast, HasBadMtr, HasNoStoreChangeAt, IsByRecord, IsLastChange, IsTextRefusal, IsUnchanged, Last, Never, NotesMtr, head_lsn, lsn_at}
-use Rattle.recovery.specs.Passed.{IsAtBlock, IsMtrPart, IsPassRefusal, IsRecordKind, Passed}
+use Rattle.recovery.specs.Passed.{IsAtBlock, IsMtrPart, IsPassRefusal, IsRecordKind, Passed, RunPassed}
 use Rattle.recovery.specs.RunText.{AddsText, IsBlockRefusal}
 use Rattle.recovery.specs.Notes.{FitNotes}
 use Rattle.recovery.specs.SpaceList.{held_at, no_held}
@@ -109,10 +109,7 @@ module _ (header : HeldHeader) (keys : List RingEntry) (file : List ℕ) where
 
 -- ---- the blocks that are passed
 
-module _ (header : HeldHeader) (keys : List RingEntry) (from end : ℕ) (notes : List (List PageNote)) (infos : List SpaceInfo) where
-  abbrev hs : List HeldSpace
-  hs = header.spaces
-
+module _ (header : HeldHeader) (keys : List RingEntry) (from end : ℕ) where
   abbrev at : List Event → ℕ → List ℕ
   at es n = block_at header.blocks (reads Log es) n
 
@@ -121,20 +118,10 @@ module _ (header : HeldHeader) (keys : List RingEntry) (from end : ℕ) (notes :
   begins es first [] rest = (refl, refl)
   begins es first (k ∷ ks) rest = let some = rest.0.some in (omega arith, omega (arith, some), subst (Reads header keys (reads Log es) first k []) (omega arith) (reads_none header keys (reads Log es) first k))
 
-  pub passed_none : (es : List Event) (now : RunChanges) → (sizes : List ℕ) → MakeWholeMtrs header.blocks (reads Log es) from sizes end → ((i p : ℕ) → i < length hs → p < (held_at hs i).pages → lsn_at now.last i p ≡ 0) → now.spaces ≡ infos → Passed header keys from end notes infos from from [] now es
-  passed_none es now sizes rest zero_is same = record {
-    run = [];
-    entries = refl;
-    of_store = tt;
-    most = λ s p n named. absurd (not_empty named.entry named.before named.behind named.is);
-    last = record { each = λ i p lt below. Never (zero_is i p lt below) (λ n named. not_empty named.entry named.before named.behind named.is) };
-    heads = record { each = λ i lt. ap (λ (l : List SpaceInfo). Head (space_at l i)) same };
-    sizes = sizes;
-    rest = rest;
-    part = begins es from sizes rest;
-  }
+  pub run_none_passed : (es : List Event) (sizes : List ℕ) → MakeWholeMtrs header.blocks (reads Log es) from sizes end → RunPassed header keys from end from from [] [] es
+  run_none_passed es sizes rest = record { entries = refl; sizes = sizes; rest = rest; part = begins es from sizes rest }
 
-  module _ (es : List Event) (first number : ℕ) (text : List ℕ) (now : RunChanges) (passed : Passed header keys from end notes infos first number text now es) where
+  module _ (es : List Event) (first number : ℕ) (text : List ℕ) (run : List Entry) (passed : RunPassed header keys from end first number text run es) where
     -- at the end of the run nothing is left
     pub passed_end : end ≤ number → first ≡ end
     passed_end le = by passed.sizes passed.rest passed.part
@@ -147,14 +134,8 @@ module _ (header : HeldHeader) (keys : List RingEntry) (from end : ℕ) (notes :
         by [] rest part = rest
         by (k ∷ ks) rest part = let below = part.1 in let more = ascends (first + k) ks rest.1 in absurd (omega (arith, below, more, le))
 
-    pub passed_done : end ≤ number → AreRunChanges header keys from end notes infos now es
-    passed_done le = record {
-      run = passed.run;
-      entries = subst (AreLogEntries header keys (reads Log es) from passed.run) (passed_end le) passed.entries;
-      of_store = passed.of_store;
-      last = passed.last;
-      heads = passed.heads;
-    }
+    pub entries_end : end ≤ number → AreLogEntries header keys (reads Log es) from run end
+    entries_end le = subst (AreLogEntries header keys (reads Log es) from run) (passed_end le) passed.entries
 
     -- the next mini-transaction
     pub record IsNext (k : ℕ) (ks : List ℕ) : Type 0 where
@@ -164,7 +145,7 @@ module _ (header : HeldHeader) (keys : List RingEntry) (from end : ℕ) (notes :
       pub below : number < first + k
       pub reads : Reads header keys (reads Log es) first k text (number - first)
 
-    passed_next : number < end → (k : ℕ) × (ks : List ℕ) × IsNext k ks
+    pub passed_next : number < end → (k : ℕ) × (ks : List ℕ) × IsNext k ks
     passed_next lt = by passed.sizes passed.rest passed.part
       where
         by : (sizes : List ℕ) → MakeWholeMtrs header.blocks (reads Log es) first sizes end → IsMtrPart header keys from end es first number text sizes → (k : ℕ) × (ks : List ℕ) × IsNext k ks
@@ -183,7 +164,7 @@ module _ (header : HeldHeader) (keys : List RingEntry) (from end : ℕ) (notes :
         subst (λ (n : ℕ). is_ring_block n (at es n) ≡ true) same (next.whole.valid (number - first) within)
 
     from_first : from ≤ first
-    from_first = ascends from passed.run passed.entries
+    from_first = ascends from run passed.entries
       where
         ascends : (n : ℕ) (run : List Entry) → AreLogEntries header keys (reads Log es) n run first → n ≤ first
         ascends n [] is = omega (arith, is)
@@ -215,20 +196,15 @@ module _ (header : HeldHeader) (keys : List RingEntry) (from end : ℕ) (notes :
           subst (λ (n : ℕ). ends_mtr (at es n) ≡ nat_eq (number - first + 1) k) same (next.whole.last (number - first) within)
 
       -- a block within a mini-transaction
-      pub passed_block : ends_mtr (at es number) ≡ false → Passed header keys from end notes infos first (number + 1) new now es
-      passed_block going =
+      pub run_within : ends_mtr (at es number) ≡ false → RunPassed header keys from end first (number + 1) new run es
+      run_within going =
           let (k, ks, next) = passed_next lt in
           let (same, within) = in_mtr k ks next in
           let test : nat_eq (number - first + 1) k ≡ false = sym (last_is k ks next) ∙ going in
           let more : number - first + 1 < k = grind (arith, nat_tests) in
           let order = next.order in
           record {
-            run = passed.run;
             entries = passed.entries;
-            of_store = passed.of_store;
-            most = passed.most;
-            last = passed.last;
-            heads = passed.heads;
             sizes = k ∷ ks;
             rest = (next.whole, next.rest);
             part = (omega (arith, order), omega (arith, order, more), subst (Reads header keys (reads Log es) first k new) (omega (arith, order)) (reads_on k ks next));
@@ -241,7 +217,7 @@ module _ (header : HeldHeader) (keys : List RingEntry) (from end : ℕ) (notes :
         pub behind : first + k ≡ number + 1
         pub has : HasText header keys (reads Log es) first k new
 
-      passed_mtr : ends_mtr (at es number) ≡ true → (k : ℕ) × (ks : List ℕ) × IsEnd k ks
+      pub passed_mtr : ends_mtr (at es number) ≡ true → (k : ℕ) × (ks : List ℕ) × IsEnd k ks
       passed_mtr ends =
           let (k, ks, next) = passed_next lt in
           let (same, within) = in_mtr k ks next in
@@ -258,38 +234,85 @@ module _ (header : HeldHeader) (keys : List RingEntry) (from end : ℕ) (notes :
             },
           )
 
-      -- whose text doesn't say changes of the store's pages
-      pub passed_bad : ends_mtr (at es number) ≡ true → (bad : ℕ) → HasNoStoreChangeAt hs new bad → HasBadMtr header keys from end first bad es
-      passed_bad ends bad none =
+      -- whose text says these changes
+      pub run_further : ends_mtr (at es number) ≡ true → (lsn : ℕ) → lsn ≡ (number + 1) * 4096 → (cs : List Change) → IsMtrText new cs → RunPassed header keys from end (number + 1) (number + 1) [] (run ++ record { first = first; lsn = lsn; mtr = cs } ∷ []) es
+      run_further ends lsn lsn_is cs says =
           let (k, ks, last) = passed_mtr ends in
           let behind = last.behind in
-          record { before = passed.run; lead = passed.entries; of_store = passed.of_store; count = k; whole = last.whole; within = omega (arith, behind, lt); text = new; has = last.has; none = none }
-
-      -- or does, and they are noted
-      pub passed_more : ends_mtr (at es number) ≡ true → (lsn : ℕ) → lsn ≡ (number + 1) * 4096 → (cs : List Change) (next : RunChanges) → IsMtrText new cs → AreOfStore hs cs → NotesMtr hs notes lsn cs now next → Passed header keys from end notes infos (number + 1) (number + 1) [] next es
-      passed_more ends lsn lsn_is cs next says of_store takes =
-          let (k, ks, last) = passed_mtr ends in
-          let behind = last.behind in
-          let e : Entry = record { first = first; lsn = lsn; mtr = cs } in
-          let low : first * 4096 ≤ lsn = let some = last.whole.some in omega (arith, lsn_is, behind, some) in
           let rest : MakeWholeMtrs header.blocks (reads Log es) (number + 1) ks end = subst (λ (n : ℕ). MakeWholeMtrs header.blocks (reads Log es) n ks end) behind last.rest in
           record {
-            run = passed.run ++ e ∷ [];
-            entries = entries_next header keys (reads Log es) from passed.run first e (number + 1) passed.entries (k, new, last.whole, last.has, says, refl, lsn_is ∙ ap (λ (n : ℕ). n * 4096) (sym behind), behind);
-            of_store = of_store_next hs passed.run e passed.of_store of_store;
-            most = λ s p n named. ⊎_elim (λ (old : IsNamedBy mtr_names passed.run s p n). let le = passed.most s p n old in omega (arith, le, low, lsn_is)) (λ (own : (n ≡ lsn) × (mtr_names cs s p ≡ true)). let same = own.0 in omega (arith, same, lsn_is)) (named_parted passed.run e s p n named);
-            last = record { each = λ i p below within. last_next passed.run e (held_at hs i).space p (lsn_at now.last i p) (lsn_at next.last i p) (passed.last.each i p below within) (λ n named. let le = passed.most (held_at hs i).space p n named in omega (arith, le, low)) (takes.last i p below within) };
-            heads = record { each = λ i below. heads_next i below };
+            entries = entries_next header keys (reads Log es) from run first (record { first = first; lsn = lsn; mtr = cs }) (number + 1) passed.entries (k, new, last.whole, last.has, says, refl, lsn_is ∙ ap (λ (n : ℕ). n * 4096) (sym behind), behind);
             sizes = ks;
             rest = rest;
             part = begins es (number + 1) ks rest;
           }
+
+-- ---- and noted
+
+module _ (header : HeldHeader) (keys : List RingEntry) (from end : ℕ) (notes : List (List PageNote)) (infos : List SpaceInfo) where
+  abbrev hs : List HeldSpace
+  hs = header.spaces
+
+  pub passed_none : (es : List Event) (now : RunChanges) → (sizes : List ℕ) → MakeWholeMtrs header.blocks (reads Log es) from sizes end → ((i p : ℕ) → i < length hs → p < (held_at hs i).pages → lsn_at now.last i p ≡ 0) → now.spaces ≡ infos → Passed header keys from end notes infos from from [] now es
+  passed_none es now sizes rest zero_is same = record {
+    run = [];
+    passed = run_none_passed header keys from end es sizes rest;
+    of_store = tt;
+    most = λ s p n named. absurd (not_empty named.entry named.before named.behind named.is);
+    last = record { each = λ i p lt below. Never (zero_is i p lt below) (λ n named. not_empty named.entry named.before named.behind named.is) };
+    heads = record { each = λ i lt. ap (λ (l : List SpaceInfo). Head (space_at l i)) same };
+  }
+
+  module _ (es : List Event) (first number : ℕ) (text : List ℕ) (now : RunChanges) (noted : Passed header keys from end notes infos first number text now es) where
+    pub passed_done : end ≤ number → AreRunChanges header keys from end notes infos now es
+    passed_done le = record {
+      run = noted.run;
+      entries = entries_end header keys from end es first number text noted.run noted.passed le;
+      of_store = noted.of_store;
+      last = noted.last;
+      heads = noted.heads;
+    }
+
+    module _ (lt : number < end) (new : List ℕ) (adds : AddsText header keys (block_at header.blocks (reads Log es) number) text new) where
+      -- a block within a mini-transaction
+      pub passed_block : ends_mtr (block_at header.blocks (reads Log es) number) ≡ false → Passed header keys from end notes infos first (number + 1) new now es
+      passed_block going = record {
+        run = noted.run;
+        passed = run_within header keys from end es first number text noted.run noted.passed lt new adds going;
+        of_store = noted.of_store;
+        most = noted.most;
+        last = noted.last;
+        heads = noted.heads;
+      }
+
+      -- the last one of a mini-transaction, whose text doesn't say changes of the store's pages
+      pub passed_bad : ends_mtr (block_at header.blocks (reads Log es) number) ≡ true → (bad : ℕ) → HasNoStoreChangeAt hs new bad → HasBadMtr header keys from end first bad es
+      passed_bad ends bad none =
+          let (k, ks, last) = passed_mtr header keys from end es first number text noted.run noted.passed lt new adds ends in
+          let behind = last.behind in
+          record { before = noted.run; lead = noted.passed.entries; of_store = noted.of_store; count = k; whole = last.whole; within = omega (arith, behind, lt); text = new; has = last.has; none = none }
+
+      -- or does, and they are noted
+      pub passed_more : ends_mtr (block_at header.blocks (reads Log es) number) ≡ true → (lsn : ℕ) → lsn ≡ (number + 1) * 4096 → (cs : List Change) (next : RunChanges) → IsMtrText new cs → AreOfStore hs cs → NotesMtr hs notes lsn cs now next → Passed header keys from end notes infos (number + 1) (number + 1) [] next es
+      passed_more ends lsn lsn_is cs next says of_store takes =
+          let (k, ks, last) = passed_mtr header keys from end es first number text noted.run noted.passed lt new adds ends in
+          let behind = last.behind in
+          let e : Entry = record { first = first; lsn = lsn; mtr = cs } in
+          let low : first * 4096 ≤ lsn = let some = last.whole.some in omega (arith, lsn_is, behind, some) in
+          record {
+            run = noted.run ++ e ∷ [];
+            passed = run_further header keys from end es first number text noted.run noted.passed lt new adds ends lsn lsn_is cs says;
+            of_store = of_store_next hs noted.run e noted.of_store of_store;
+            most = λ s p n named. ⊎_elim (λ (old : IsNamedBy mtr_names noted.run s p n). let le = noted.most s p n old in omega (arith, le, low, lsn_is)) (λ (own : (n ≡ lsn) × (mtr_names cs s p ≡ true)). let same = own.0 in omega (arith, same, lsn_is)) (named_parted noted.run e s p n named);
+            last = record { each = λ i p below within. last_next noted.run e (held_at hs i).space p (lsn_at now.last i p) (lsn_at next.last i p) (noted.last.each i p below within) (λ n named. let le = noted.most (held_at hs i).space p n named in omega (arith, le, low)) (takes.last i p below within) };
+            heads = record { each = λ i below. heads_next i below };
+          }
         where
-          heads_next : (i : ℕ) → i < length hs → Head (space_at next.spaces i) ≡ later_by mtr_acts (head_lsn notes i) (passed.run ++ record { first = first; lsn = lsn; mtr = cs } ∷ []) (held_at hs i).space 0 (Head (space_at infos i))
+          heads_next : (i : ℕ) → i < length hs → Head (space_at next.spaces i) ≡ later_by mtr_acts (head_lsn notes i) (noted.run ++ record { first = first; lsn = lsn; mtr = cs } ∷ []) (held_at hs i).space 0 (Head (space_at infos i))
           heads_next i below =
               takes.heads i below
-              ∙ ap (λ (x : Page). if nat_le lsn (head_lsn notes i) then x else mtr_acts cs (held_at hs i).space 0 x) (passed.heads.each i below)
-              ∙ sym (later_next (head_lsn notes i) passed.run (record { first = first; lsn = lsn; mtr = cs }) (held_at hs i).space 0 (Head (space_at infos i)))
+              ∙ ap (λ (x : Page). if nat_le lsn (head_lsn notes i) then x else mtr_acts cs (held_at hs i).space 0 x) (noted.heads.each i below)
+              ∙ sym (later_next (head_lsn notes i) noted.run (record { first = first; lsn = lsn; mtr = cs }) (held_at hs i).space 0 (Head (space_at infos i)))
 
 -- ---- the run that a scan finds
 
@@ -341,8 +364,8 @@ module _ (keys : Keys) (N : ℕ) (file : List ℕ) where
 
 module _ (header : HeldHeader) (keys : List RingEntry) (notes : List (List PageNote)) (first number : ℕ) (block text : List ℕ) (now : RunChanges) (from end : ℕ) (infos : List SpaceInfo) (es : List Event) (is_at : IsAtBlock header keys from end notes infos first number block text now es) where
   pub block_refused : (why : OpenRefuse) → IsBlockRefusal header keys number block why → IsPassRefusal header keys from end why es
-  block_refused (Damaged file place stored computed) is = absurd (true≢false (sym (passed_valid header keys from end notes infos es first number text now is_at.passed is_at.within) ∙ ap (is_ring_block number) (sym is_at.here) ∙ is.1))
-  block_refused (MissingKey id version) is = absurd (passed_keyed header keys from end notes infos es first number text now is_at.passed is_at.within is_at.keyed (subst (λ (b : List ℕ). IsBlockText header keys b None) is_at.here is.2))
+  block_refused (Damaged file place stored computed) is = absurd (true≢false (sym (passed_valid header keys from end es first number text is_at.passed.run is_at.passed.passed is_at.within) ∙ ap (is_ring_block number) (sym is_at.here) ∙ is.1))
+  block_refused (MissingKey id version) is = absurd (passed_keyed header keys from end es first number text is_at.passed.run is_at.passed.passed is_at.within is_at.keyed (subst (λ (b : List ℕ). IsBlockText header keys b None) is_at.here is.2))
   block_refused OutOfMemory is = tt
   block_refused NotFormatted is = absurd is
   block_refused (Mixed file place wanted found) is = absurd is

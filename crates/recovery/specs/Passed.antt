@@ -24,18 +24,22 @@ module _ (header : HeldHeader) (keys : List RingEntry) (from end : ℕ) where
   IsMtrPart es first number text [] = (number ≡ first) × (text ≡ [])
   IsMtrPart es first number text (k ∷ ks) = (first ≤ number) × (number < first + k) × Reads header keys (reads Log es) first k text (number - first)
 
+  -- The blocks up to a number are passed: the whole mini-transactions up to first are these, and this is the text of the blocks behind them.
+  pub record RunPassed (first number : ℕ) (text : List ℕ) (run : List (Logged (List Change))) (es : List Event) : Type 0 where
+    pub entries : AreLogEntries header keys (reads Log es) from run first
+    pub sizes : List ℕ
+    pub rest : MakeWholeMtrs header.blocks (reads Log es) first sizes end
+    pub part : IsMtrPart es first number text sizes
+
   module _ (notes : List (List PageNote)) (infos : List SpaceInfo) where
-    -- The blocks up to a number are passed: the changes of the whole mini-transactions up to first are noted, and this is the text of the blocks behind them.
+    -- And the changes of those mini-transactions are noted.
     pub record Passed (first number : ℕ) (text : List ℕ) (now : RunChanges) (es : List Event) : Type 0 where
       pub run : List (Logged (List Change))
-      pub entries : AreLogEntries header keys (reads Log es) from run first
+      pub passed : RunPassed first number text run es
       pub of_store : RunIsOfStore header.spaces run
       pub most : (s p n : ℕ) → IsNamedBy mtr_names run s p n → n ≤ first * block_bytes
       pub last : AreLastChanges run header.spaces now.last
       pub heads : AreLaterHeads run header.spaces notes infos now.spaces
-      pub sizes : List ℕ
-      pub rest : MakeWholeMtrs header.blocks (reads Log es) first sizes end
-      pub part : IsMtrPart es first number text sizes
 
     -- The block of this number was read, and it is one of the run.
     pub record IsAtBlock (first number : ℕ) (block text : List ℕ) (now : RunChanges) (es : List Event) : Type 0 where

@@ -22,10 +22,11 @@
 //!
 //! Of what applies the run's later changes between these two, a round of pages at a time: [`next_range`]
 //! finds the pages that a round takes, [`load_pages`] loads them from their homes into a pool, and
-//! [`apply_text`] makes the changes of a mini-transaction there; [`seal_range`] seals pages of it, and
-//! [`write_group`] puts a group of them.
+//! [`apply_run`] makes the run's changes there, with [`apply_text`] for each mini-transaction;
+//! [`seal_range`] seals pages of it, and [`write_group`] puts a group of them.
 #![tactic(auto)]
 
+mod applying;
 mod changes;
 mod changing;
 mod checkpoint;
@@ -47,6 +48,7 @@ mod run_text;
 mod sealing;
 mod space_list;
 
+pub use applying::apply_run;
 pub use changes::{PageLsns, RunChanges, SpaceLsns, find_changes};
 pub use changing::apply_text;
 pub use checkpoint::find_checkpoint;
