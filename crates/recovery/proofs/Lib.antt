@@ -22,3 +22,4 @@ pub mod KeySteps
 pub mod NotedChanges
 pub mod RunsPassed
 pub mod RunsApplied
+pub mod OtherHomes

@@ -154,12 +154,12 @@ from_start R b m is r = record { here = λ t here. subst (λ (l : List Event). R
 -- ---- the files go on
 
 -- writes of whole places and a sync behind them
-writes_fit : (f g : FileName) (layout : Layout) (n : ℕ) (b : Batch) (k : ℕ) → ((j : ℕ) → j < k → b.place j * n + length (b.bytes j) ≤ layout.count * layout.size) → (es : List Event) → HasFile f layout es → HasFile f layout (writes_of g n b k ++ es)
+pub writes_fit : (f g : FileName) (layout : Layout) (n : ℕ) (b : Batch) (k : ℕ) → ((j : ℕ) → j < k → b.place j * n + length (b.bytes j) ≤ layout.count * layout.size) → (es : List Event) → HasFile f layout es → HasFile f layout (writes_of g n b k ++ es)
 writes_fit f g layout n b zero fits es has = has
 writes_fit f g layout n b (suc k) fits es has =
     file_write f g layout (b.place k * n) (b.bytes k) (b.bytes k) (writes_of g n b k ++ es) (fits k (omega arith)) (writes_fit f g layout n b k (λ j lt. fits j (omega (arith, lt))) es has)
 
-writes_leave : (f g : FileName) → same_file g f ≡ false → (n : ℕ) (b : Batch) (k : ℕ) → AllAre (LeavesFile g) (writes_of f n b k)
+pub writes_leave : (f g : FileName) → same_file g f ≡ false → (n : ℕ) (b : Batch) (k : ℕ) → AllAre (LeavesFile g) (writes_of f n b k)
 writes_leave f g apart n b zero = tt
 writes_leave f g apart n b (suc k) = (apart, writes_leave f g apart n b k)
 

@@ -19,7 +19,7 @@ use Rattle.store_image.specs.Opening.{InRestore, MayRestore, Stopped}
 use Rattle.store_image.specs.Places.{LogView, log_of}
 use Rattle.store_image.specs.Recovers.{PageContents, Theory}
 use Rattle.store_image.specs.View.{Holds, Text, View}
-use Rattle.store_image.proofs.OpeningSteps.{applying_begins}
+use Rattle.store_image.proofs.OpeningSteps.{applying_begins, restored_homes}
 use Rattle.redo_text.specs.declared.change.Change.{Change}
 use Rattle.crash_image.specs.Opened.{StoreOpened, IsOpenedAt, FilesOpened, FilesSettled, SpaceStands, opened_theory}
 use Rattle.crash_image.proofs.OpeningFiles.{files_begin, files_spaces, space_left_alone, space_places}
@@ -28,7 +28,7 @@ use Rattle.doublewrite.specs.Copies.{copies_to}
 use Rattle.doublewrite.specs.Restore.{HasPages, HaveAll, HaveFiles, HomesRestored, HomesRestoring, IsRestoreEvent, space_at, wanted}
 use Rattle.doublewrite.proofs.NewestCopy.{wanted_chosen}
 use Rattle.doublewrite.proofs.RestoreLifts.{all_settled, listed_or_not, restore_all, restore_restores, restore_within}
-use Rattle.recovery.specs.Putting.{BetweenGroups, ImagesRecover, opened_places}
+use Rattle.recovery.specs.Putting.{AreAsChosen, BetweenGroups, ImagesRecover, opened_places}
 use Rattle.recovery.specs.Restoring.{AreAllListed}
 
 -- the spaces have their places
@@ -101,3 +101,9 @@ module _ (o : StoreOpened) (last : ℕ) (spaces : List SpaceInfo) (listed : AreA
           spaces = all_settled v may_log spaces s m opened.reads_as since restored;
         };
       }
+
+  pub restored_chosen : HomesRestored spaces s m → AreAsChosen o m
+  restored_chosen restored =
+      let filling : HomesRestoring spaces s m = λ i lt. (restored i lt).filled.filling in
+      λ z p here. restored_homes T v c o.active (opened_places o m) (λ y q there. let page = opened.recovers.pages y q there in (page.chosen, page.is))
+      (restore_restores T v c o.active may_log spaces s m opened.reads_as since restored filling listed) (restore_all T v c o.active may_log spaces s m opened.reads_as since restored filling listed) z p here

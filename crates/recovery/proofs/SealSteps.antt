@@ -121,3 +121,11 @@ module _ (has : ℕ → Bool) (s : ℕ) (last : List ℕ) (version : ℕ) (key :
       let number = number_of_text s last version key pool is.page (slice_index_or texts i []) is.sealed in
       let high = is.high in
       omega (arith, number, high, le)
+
+  pub numbers_in : (i : ℕ) → i < length texts → (from ≤ page_number_of (slice_index_or texts i [])) × (page_number_of (slice_index_or texts i []) < end)
+  numbers_in i lt =
+      let is = all_index (IsTextIn has s last version key pool from end) [] texts are.each i lt in
+      let number = number_of_text s last version key pool is.page (slice_index_or texts i []) is.sealed in
+      let low = is.low in
+      let high = is.high in
+      (omega (arith, number, low), omega (arith, number, high))

@@ -1,11 +1,13 @@
 -- Pages whose changes are applied, as they are sealed while a store is opened.
-use Rattle.std.specs.Prelude.{◌≡◌, ◌⊎◌, ℕ, ◌<◌, ◌≤◌, Bool, true, if◌then◌else◌, List, Option, Some, IfSome, slice_index_or}
+use Rattle.std.specs.Prelude.{◌≡◌, ◌≢◌, ◌⊎◌, ℕ, ◌<◌, ◌≤◌, Bool, true, if◌then◌else◌, List, Option, Some, IfSome, slice_index_or}
 use Rattle.disk_model.specs.Does.{IsOn}
-use Rattle.disk_model.specs.Event.{Event}
-use Rattle.disk_model.specs.declared.names.FileName.TheVariants.{Double, Space}
+use Rattle.disk_model.specs.Event.{Event, reads}
+use Rattle.disk_model.specs.declared.names.FileName.TheVariants.{Double, Log, Space}
+use Rattle.page_places.specs.Texts.{page_bytes}
 use Rattle.page_pool.specs.Contents.{MayStandAt, plain_in_page}
 use Rattle.page_pool.specs.Pages.{PoolState, held_page}
 use Rattle.page_text.specs.declared.key.PageKey.{PageKey}
+use Rattle.places.specs.Places.{shown}
 use Rattle.space_head.specs.declared.space.SpaceInfo.{SpaceInfo}
 use Rattle.store_files.specs.Pages.{Head, HasKeyBytes, IsTypedInfo, is_ciphered, is_used, key_at, pages_of, salts_of}
 use Rattle.store_image.specs.Recovers.{IsNamed}
@@ -48,3 +50,12 @@ pub record IsRangeApplied (o : StoreOpened) (entry : List Event) (has : ℕ → 
 -- an event of a group of this space
 abbrev pub IsApplyEvent : ℕ → Event → Type 0
 IsApplyEvent s e = IsOn Double e ⊎ IsOn (Space s) e
+
+-- the page isn't one of these of the space
+abbrev pub IsBeside : ℕ → ℕ → ℕ → ℕ → ℕ → Type 0
+IsBeside s from end z p = (z ≢ s) ⊎ ((p < from) ⊎ (end ≤ p))
+
+-- Since b the bytes of each home are as they were, but for those of these pages of the space, and so are those of the log.
+pub record LeavesOthers (s from end : ℕ) (b m : List Event) : Type 0 where
+  pub homes : (z p : ℕ) → IsBeside s from end z p → shown (Space z) page_bytes p m ≡ shown (Space z) page_bytes p b
+  pub log : reads Log m ≡ reads Log b

@@ -1,18 +1,19 @@
 -- A group of sealed pages is stored and written home while a store is opened: what holds at each moment, and behind it.
-use Rattle.std.specs.Prelude.{◌≡◌, ◌⊎◌, ℕ, List, length}
+use Rattle.std.specs.Prelude.{◌≡◌, ◌⊎◌, ℕ, true, List, length, Option}
 use Rattle.disk_model.specs.Event.{Event}
 use Rattle.disk_model.specs.Image.{Image, IsImage}
 use Rattle.disk_model.specs.Past.{Past}
 use Rattle.disk_model.specs.declared.names.FileName.TheVariants.{Double, Space}
+use Rattle.places.specs.Places.{shown}
 use Rattle.places.specs.Writes.{grows, IsPart}
-use Rattle.page_places.specs.Texts.{page_bytes, slot_size}
+use Rattle.page_places.specs.Texts.{held, page_bytes, slot_size}
 use Rattle.page_places.specs.Views.{places_by}
 use Rattle.redo_text.specs.declared.change.Change.{Change}
-use Rattle.store_files.specs.Pages.{pages_of}
+use Rattle.store_files.specs.Pages.{has_page, pages_of}
 use Rattle.store_image.specs.Groups.{IsAmong}
-use Rattle.store_image.specs.Opening.{AreSealed, Between, IsDone, MayApply}
+use Rattle.store_image.specs.Opening.{AreSealed, Between, IsDone, MayApply, held_of}
 use Rattle.store_image.specs.Places.{Places, log_of}
-use Rattle.store_image.specs.View.{Text}
+use Rattle.store_image.specs.View.{Text, IsChosen}
 use Rattle.crash_image.specs.Opened.{StoreOpened, opened_theory, FilesOpened, FilesSettled}
 use Rattle.crash_image.specs.Stands.{Lucky, RecoversRotated}
 use Rattle.doublewrite.specs.Batch.{home_batch, slot_batch, slot_events}
@@ -31,6 +32,14 @@ IsSealedBatch o batch = AreSealed (opened_theory o) o.view (pages_of o.contents)
 -- the home has the page's sealed text
 abbrev pub IsPageDone : StoreOpened → List Event → ℕ → ℕ → Type 0
 IsPageDone o m z p = IsDone (opened_theory o) o.view (pages_of o.contents) o.active (opened_places o m) z p
+
+-- or it is as the page's chosen text says
+abbrev pub IsAsChosen : StoreOpened → List Event → ℕ → ℕ → Type 0
+IsAsChosen o m z p = (chosen : Option Text) × IsChosen o.view z p chosen × (held p (shown (Space z) page_bytes p m) ≡ held_of chosen)
+
+-- so is each home
+abbrev pub AreAsChosen : StoreOpened → List Event → Type 0
+AreAsChosen o m = (z p : ℕ) → has_page o.header.spaces z p ≡ true → IsAsChosen o m z p
 
 -- Each moment while groups are applied, also after a call that was refused; s is the opening's entry.
 pub record MayApplyGroups (o : StoreOpened) (s m : List Event) : Type 0 where

@@ -17,7 +17,7 @@ ghost use Rattle.doublewrite.specs.Restore.{AreSpacesApart, HaveAll, HaveFiles, 
 ghost use Rattle.doublewrite.specs.declared.refuse.OpenRefuse.TheVariants.{DiskFault, OutOfMemory};
 ghost use Rattle.crash_image.specs.LogForm.{log_places};
 ghost use Rattle.crash_image.specs.Opened.{StoreOpened, IsOpenedAt};
-ghost use Rattle.recovery.specs.Putting.{BetweenGroups, ImagesRecover};
+ghost use Rattle.recovery.specs.Putting.{AreAsChosen, BetweenGroups, ImagesRecover};
 ghost use Rattle.recovery.specs.Restoring.{AreAllListed};
 
 use disk_model::Disk;
@@ -27,7 +27,7 @@ use std::alloc::Global;
 
 /// Restores the homes of a store that is opened, as [`restore`] does. Where the disk is one that an
 /// opening begins with, each lucky image of each moment recovers to what was opened, and at Ok groups
-/// may be applied.
+/// may be applied, and each home is as its page's chosen text says.
 ///
 /// # Errors
 /// Those of [`restore`].
@@ -39,7 +39,7 @@ pub fn restore_homes<D: Disk>(
     requires apart { AreSpacesApart spaces.now }
     requires double { At (HasFile Double slots) (D.past disk.old) }
     requires places { At (HaveFiles spaces.now) (D.past disk.old) }
-    ensures restores { (o : StoreOpened) (last : ℕ) → At (IsOpenedAt o last) (D.past disk.old) → AreAllListed o.header.spaces spaces.now → Does (ImagesRecover o last) (IsRestoreEvent spaces.now) (From (BetweenGroups o) (D.past disk.old)) (D.past disk.old) (D.past disk.new) result }
+    ensures restores { (o : StoreOpened) (last : ℕ) → At (IsOpenedAt o last) (D.past disk.old) → AreAllListed o.header.spaces spaces.now → Does (ImagesRecover o last) (IsRestoreEvent spaces.now) (From (λ s m. BetweenGroups o s m × AreAsChosen o m) (D.past disk.old)) (D.past disk.old) (D.past disk.new) result }
     ensures does { At (HaveAll spaces.now) (D.past disk.old) → Does (From (HomesRestoring spaces.now) (D.past disk.old)) (IsRestoreEvent spaces.now) (From (HomesRestored spaces.now) (D.past disk.old)) (D.past disk.old) (D.past disk.new) result }
     ensures chosen { At (HaveAll spaces.now) (D.past disk.old) → (v : View (Unit {0})) → At (IsReadAs (λ l. l ≡ log_of v) v) (D.past disk.old) → Does (ChosenMay v) (IsRestoreEvent spaces.now) (ChosenHold v spaces.now) (D.past disk.old) (D.past disk.new) result }
     ensures refuses { IfErr result IsDiskRefuse }

@@ -1,12 +1,13 @@
-use Rattle.std.proofs.Common.{◌≡◌, ◌⊎◌, ℕ, ◌<◌, ◌≤◌, length, Ok, Err}
+use Rattle.std.proofs.Common.{◌≡◌, ◌⊎◌, ℕ, ◌<◌, ◌≤◌, length, Ok, Err, arith}
 use Rattle.disk_model.proofs.Layers.{does_nothing}
 use Rattle.disk_model.proofs.Moments.{at_each, weaker}
 use Rattle.doublewrite.specs.declared.refuse.OpenRefuse.TheVariants.{DiskFault, OutOfMemory}
 use Rattle.doublewrite.specs.declared.texts.Texts.{Texts}
 use Rattle.recovery.specs.Rounds.{has_later}
 use Rattle.recovery.proofs.GroupSteps.{between_may, done_by, failed_as, group_does}
+use Rattle.recovery.proofs.OtherHomes.{group_leaves}
 use Rattle.recovery.proofs.PutGroups.{groups_recover}
-use Rattle.recovery.proofs.SealSteps.{numbers_apart, numbers_within}
+use Rattle.recovery.proofs.SealSteps.{numbers_apart, numbers_in, numbers_within}
 use Rattle.recovery.proofs.SealedPages.{are_sealed}
 use Rattle.recovery.proofs.groups.write_group.Goals as goal
 
@@ -77,3 +78,15 @@ returns-clause-applies g c = λ o s between under due.
 
 pub returns-clause-recovers : goal.returns-clause-recovers
 returns-clause-recovers g c = λ o end s opened between under due. weaker (λ m may. groups_recover o end s opened m may) (returns-clause-applies g c o s between under due).moments
+
+pub returns-in-Ok-put_group-clause-beside : goal.returns-in-Ok-put_group-clause-beside
+returns-in-Ok-put_group-clause-beside g c =
+    let group = c.args.group.now in
+    let texts = c.in-Ok.ensures.texts in
+    let batch : Texts = record { space = group.info.space; batch = c.args.batch; pages = c.in-Ok.pages } in
+    let has = has_later c.args.notes.now c.args.last.now in
+    let few : length c.in-Ok.pages ≤ 64 = let count = texts.count in let most = c.requires.few in omega (arith, count, most) in
+    group_leaves batch c.are_texts.ensures few (length c.args.notes.now) group.from group.end
+    (numbers_in has group.info.space c.args.last.now c.args.under.now.version c.args.under.now.key c.args.pool.now group.from group.end c.in-Ok.pages texts) (g.D.Disk.past c.args.disk.now) (g.D.Disk.past c.put_group.new.disk)
+    (at_each (λ es has_file. record { file = has_file; within = numbers_within has group.info.space c.args.last.now c.args.under.now.version c.args.under.now.key c.args.pool.now group.from group.end c.in-Ok.pages texts (length c.args.notes.now) c.requires.noted }) c.requires.file)
+    c.in-Ok-put_group.ensures.exact

@@ -10,10 +10,10 @@ use Rattle.crash_image.specs.LogForm.{log_places}
 use Rattle.doublewrite.specs.Events.{restore_events}
 use Rattle.doublewrite.specs.Restore.{HaveFiles}
 use Rattle.crash_image.specs.Opened.{IsOpenedAt}
-use Rattle.recovery.specs.Putting.{BetweenGroups}
+use Rattle.recovery.specs.Putting.{AreAsChosen, BetweenGroups}
 use Rattle.recovery.proofs.PutGroups.{from_start}
 use Rattle.recovery.proofs.RestoredFiles.{at_behind_all, other_restored, spaces_restored}
-use Rattle.recovery.proofs.RestoredHomes.{have_all, restored_between, restoring_recovers}
+use Rattle.recovery.proofs.RestoredHomes.{have_all, restored_between, restored_chosen, restoring_recovers}
 use Rattle.recovery.proofs.restoring.restore_homes.Goals as goal
 
 pub returns-clause-restores : goal.returns-clause-restores
@@ -22,7 +22,7 @@ returns-clause-restores g c = λ o last opened listed.
     let old = g.D.Disk.past c.args.disk.now in
     let known : At (λ s. IsOpenedAt o last s × HaveFiles spaces s × (old ≡ Some s)) old = record { here = λ es is. (opened.here es is, c.requires.places.here es is, is) } in
     lift_from known (λ s m k since w. restoring_recovers o last spaces listed s m k.0 k.1 since w)
-    (λ s m k since r. from_start (BetweenGroups o) s m k.2 (restored_between o last spaces listed s m k.0 k.1 since r)) (λ e k. k)
+    (λ s m k since r. from_start (λ b n. BetweenGroups o b n × AreAsChosen o n) s m k.2 (restored_between o last spaces listed s m k.0 k.1 since r, restored_chosen o last spaces listed s m k.0 k.1 since r)) (λ e k. k)
     (c.restore.ensures.does (at_each (λ es k. have_all o last es spaces k.0 k.1) known))
 
 pub returns-clause-double : goal.returns-clause-double
