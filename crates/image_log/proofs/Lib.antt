@@ -2,6 +2,5 @@ pub mod WholeMtrs
 pub mod MtrTexts
 pub mod ChangeLists
 pub mod Entries
-pub mod Headers
 pub mod Clear
 pub mod Checkpoints
