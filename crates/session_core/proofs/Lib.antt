@@ -6,3 +6,4 @@ pub mod FetchLaws
 pub mod ReadLaws
 pub mod FloorLaws
 pub mod PoolLaws
+pub mod SettleLaws

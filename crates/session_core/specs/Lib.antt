@@ -7,3 +7,4 @@ pub mod Start
 pub mod Opening
 pub mod Reading
 pub mod Activating
+pub mod Syncing

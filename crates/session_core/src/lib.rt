@@ -22,6 +22,7 @@ mod missing;
 mod options;
 mod reading;
 mod session;
+mod settling;
 mod stopping;
 mod tablespaces;
 

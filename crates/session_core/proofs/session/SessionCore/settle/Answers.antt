@@ -1,0 +1,44 @@
+use Rattle.std.proofs.Common.{◌≡◌, length, subst, rules}
+use Rattle.std.specs.Prelude.{IsErrAnd}
+use Rattle.cause_core.proofs.Causes.{handed}
+use Rattle.counted_disk.specs.Counting.{IsCounted, count_of, counts_then}
+use Rattle.disk_model.specs.declared.names.Mark.TheVariants.{Acked}
+use Rattle.session_core.specs.Files.{HasStoreFiles}
+use Rattle.session_core.specs.Session.{Running}
+use Rattle.session_core.proofs.SettleLaws.{files_told, session_synced, unwritten}
+use Rattle.session_core.proofs.StartLaws.{at_grown}
+use Rattle.session_core.proofs.session.SessionCore.settle.Goals as goal
+
+pub returns-in_err-write_log-clause-refused : goal.returns-in_err-write_log-clause-refused
+returns-in_err-write_log-clause-refused g c =
+    let is : IsErrAnd c.from_residual.result (λ e. e ≡ c.in_err-write_log.field-0.0) = search rules in
+    let failed = c.in_err-write_log.ensures in
+    handed _ c.from_residual.result c.in_err-write_log.field-0.0 is
+    (unwritten g.D.Disk.past c.args.self.now _ c.write_log.new.disk c.write_log.new.log c.in_err-write_log.field-0.0 c.self.view_is failed.stopped failed.kept failed.part)
+
+pub returns-in_err-write_log-clause-later : goal.returns-in_err-write_log-clause-later
+returns-in_err-write_log-clause-later g c =
+    subst (λ (r : Running _). g.D.Disk.is_later r.disk.disk c.write_log.new.disk.disk × IsCounted (count_of g.D.Disk.past g.D.Disk.faults g.D.Disk.memory_refusals r.disk) (count_of g.D.Disk.past g.D.Disk.faults g.D.Disk.memory_refusals c.write_log.new.disk))
+    c.self.view_is c.write_log.ensures.later
+
+pub returns-in_err-tell_mark-clause-later : goal.returns-in_err-tell_mark-clause-later
+returns-in_err-tell_mark-clause-later g c =
+    let first = c.write_log.ensures.later in
+    let second = c.tell_mark.ensures.later in
+    subst (λ (r : Running _). g.D.Disk.is_later r.disk.disk c.tell_mark.new.disk.disk × IsCounted (count_of g.D.Disk.past g.D.Disk.faults g.D.Disk.memory_refusals r.disk) (count_of g.D.Disk.past g.D.Disk.faults g.D.Disk.memory_refusals c.tell_mark.new.disk))
+    c.self.view_is (g.met.D.Disk.is_later_transitive _ _ _ first.0 second.0, counts_then _ _ _ first.1 second.1)
+
+pub returns-clause-later : goal.returns-clause-later
+returns-clause-later g c =
+    let first = c.write_log.ensures.later in
+    let second = c.tell_mark.ensures.later in
+    subst (λ (r : Running _). g.D.Disk.is_later r.disk.disk c.tell_mark.new.disk.disk × IsCounted (count_of g.D.Disk.past g.D.Disk.faults g.D.Disk.memory_refusals r.disk) (count_of g.D.Disk.past g.D.Disk.faults g.D.Disk.memory_refusals c.tell_mark.new.disk))
+    c.self.view_is (g.met.D.Disk.is_later_transitive _ _ _ first.0 second.0, counts_then _ _ _ first.1 second.1)
+
+pub invariant_of-self-2 : goal.invariant_of-self-2
+invariant_of-self-2 g c =
+    let blocks = c.self.inside.store.header.blocks in
+    let spaces = c.self.inside.store.spaces in
+    let count : c.len-count.result ≡ length c.self.inside.journal.items = search rules in
+    session_synced g.D.Disk.past _ c.tell_mark.new.disk c.write_log.new.log c.len-count.result c.self.invariant c.in_ok-write_log.ensures.written c.write_log.ensures.open count
+    (at_grown (HasStoreFiles blocks spaces) (Acked c.len-count.result) _ _ (λ es files. files_told blocks spaces (Acked c.len-count.result) es files) c.in_ok-write_log.ensures.files c.in_ok-tell_mark.ensures.told)
