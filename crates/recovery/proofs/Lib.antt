@@ -23,3 +23,4 @@ pub mod NotedChanges
 pub mod RunsPassed
 pub mod RunsApplied
 pub mod OtherHomes
+pub mod DuePages

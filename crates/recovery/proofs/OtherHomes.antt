@@ -8,7 +8,6 @@ use Rattle.disk_model.specs.Does.{Since}
 use Rattle.disk_model.specs.Past.{Past, At}
 use Rattle.disk_model.specs.declared.names.FileName.{FileName}
 use Rattle.disk_model.specs.declared.names.FileName.TheVariants.{Double, Log, Space}
-use Rattle.places.specs.Batches.{From}
 use Rattle.places.specs.Beside.{LeavesFile}
 use Rattle.places.specs.Places.{HasFile, shown}
 use Rattle.places.specs.Writes.{grows, writes_of}
@@ -19,8 +18,8 @@ use Rattle.doublewrite.specs.Batch.{home_batch, home_events, slot_batch, slot_ev
 use Rattle.doublewrite.specs.Layer.{FitsSpace}
 use Rattle.doublewrite.specs.Text.{ArePageTexts, page_number_of}
 use Rattle.doublewrite.specs.declared.texts.Texts.{Texts}
-use Rattle.recovery.specs.Groups.{IsBeside, LeavesOthers}
-use Rattle.recovery.proofs.PutGroups.{from_start, space_stored, writes_fit, writes_leave}
+use Rattle.recovery.specs.Groups.{IsBeside, LeavesOthers, LeavesSince}
+use Rattle.recovery.proofs.PutGroups.{space_stored, writes_fit, writes_leave}
 
 -- what is of no file that is written
 module _ (batch : Texts) where
@@ -75,10 +74,37 @@ module _ (batch : Texts) (texts : ArePageTexts batch.pages) (few : length batch.
         by : (z p : ℕ) → IsBeside batch.space from end z p → (batch.space ≡ z) ⊎ (batch.space ≢ z) → shown (Space z) 16384 p (home_events batch ++ mid) ≡ shown (Space z) 16384 p es
         by z p beside which = homed z p beside which ∙ stored z p
 
-    pub group_leaves : (old new : Past) → At (FitsSpace batch count) old → new ≡ grows (home_events batch) (grows (slot_events batch) old) → At (From (LeavesOthers batch.space from end) old) new
-    group_leaves None new fits is = record { here = λ m now. absurd (none-some m (sym is ∙ now)) }
+    pub group_leaves : (old new : Past) → At (FitsSpace batch count) old → new ≡ grows (home_events batch) (grows (slot_events batch) old) → LeavesSince batch.space from end old new
+    group_leaves None new fits is = record { since = λ m now. absurd (none-some m (sym is ∙ now)); told = λ b begun. absurd (none-some b begun) }
     group_leaves (Some b) new fits is = record {
-      here = λ m now.
+      since = λ m now.
           let same : home_events batch ++ (slot_events batch ++ b) ≡ m = same_Some _ m (sym is ∙ now) in
-          from_start (LeavesOthers batch.space from end) b m refl (subst (LeavesOthers batch.space from end b) same (others_left b (fits.here b refl)));
+          (b, refl, subst (LeavesOthers batch.space from end b) same (others_left b (fits.here b refl)));
+      told = λ x begun. (home_events batch ++ (slot_events batch ++ b), is);
     }
+
+-- ---- one range behind another
+
+-- the first of two ranges that meet, and the second, leave what is beside both
+module _ (s from mid end : ℕ) (low : from ≤ mid) (high : mid ≤ end) where
+  in_first : (z p : ℕ) → IsBeside s from end z p → IsBeside s from mid z p
+  in_first z p (inl other) = inl other
+  in_first z p (inr (inl below)) = inr (inl below)
+  in_first z p (inr (inr above)) = inr (inr (omega (arith, above, high)))
+
+  in_second : (z p : ℕ) → IsBeside s from end z p → IsBeside s mid end z p
+  in_second z p (inl other) = inl other
+  in_second z p (inr (inl below)) = inr (inl (omega (arith, below, low)))
+  in_second z p (inr (inr above)) = inr (inr above)
+
+  pub leaves_then : (old between new : Past) → LeavesSince s from mid old between → LeavesSince s mid end between new → LeavesSince s from end old new
+  leaves_then old between new first next = record {
+    since = λ m now.
+        let (t, there, later) = next.since m now in
+        let (b, begun, earlier) = first.since t there in
+        (b, begun, record { homes = λ z p beside. later.homes z p (in_second z p beside) ∙ earlier.homes z p (in_first z p beside); log = later.log ∙ earlier.log });
+    told = λ b begun. let (t, there) = first.told b begun in next.told t there;
+  }
+
+pub leaves_none : (s from end : ℕ) (old new : Past) → new ≡ old → LeavesSince s from end old new
+leaves_none s from end old new same = record { since = λ m now. (m, sym same ∙ now, record { homes = λ z p beside. refl; log = refl }); told = λ b begun. (b, same ∙ begun) }

@@ -1,5 +1,5 @@
 -- Pages of a range are counted one after another.
-use Rattle.std.proofs.Common.{◌≡◌, ℕ, zero, suc, ◌+◌, ◌-◌, ◌≤◌, ◌<◌, Bool, true, false, if◌then◌else◌, refl, ap, ◌∙◌, arith}
+use Rattle.std.proofs.Common.{◌≡◌, ℕ, zero, suc, ◌+◌, ◌-◌, ◌≤◌, ◌<◌, Bool, true, false, if◌then◌else◌, refl, sym, ap, ◌∙◌, arith}
 use Rattle.recovery.specs.Rounds.{count_in}
 
 pub count_next : (has : ℕ → Bool) (from page : ℕ) → from ≤ page → count_in has from (page + 1 - from) ≡ count_in has from (page - from) + (if has page then 1 else 0)
@@ -40,3 +40,19 @@ count_to has from page end low high =
     let more = count_next has from page low in
     let less = count_less has from (page + 1 - from) (end - from) (omega (arith, low, high)) in
     omega (arith, more, less)
+
+both_parts : (has : ℕ → Bool) (from m k : ℕ) → count_in has from (m + k) ≡ count_in has from m + count_in has (from + m) k
+both_parts has from m zero = let none : m + 0 ≡ m = omega arith in let n = count_in has from m in ap (count_in has from) none ∙ omega arith
+both_parts has from m (suc k) =
+    let longer : m + suc k ≡ suc (m + k) = omega arith in
+    let here : from + (m + k) ≡ from + m + k = omega arith in
+    let before = both_parts has from m k in
+    let more : count_in has from (m + suc k) ≡ count_in has from (m + k) + (if has (from + m + k) then 1 else 0) = ap (count_in has from) longer ∙ ap (λ (q : ℕ). count_in has from (m + k) + (if has q then 1 else 0)) here in
+    omega (arith, more, before)
+
+-- a range has as many as its two parts
+pub count_parts : (has : ℕ → Bool) (from mid end : ℕ) → from ≤ mid → mid ≤ end → count_in has from (end - from) ≡ count_in has from (mid - from) + count_in has mid (end - mid)
+count_parts has from mid end low high =
+    let whole : (mid - from) + (end - mid) ≡ end - from = omega (arith, low, high) in
+    let here : from + (mid - from) ≡ mid = omega (arith, low) in
+    sym (ap (count_in has from) whole) ∙ both_parts has from (mid - from) (end - mid) ∙ ap (λ (q : ℕ). count_in has from (mid - from) + count_in has q (end - mid)) here

@@ -2,6 +2,7 @@
 use Rattle.std.specs.Prelude.{◌≡◌, ◌≢◌, ◌⊎◌, ℕ, ◌<◌, ◌≤◌, Bool, true, if◌then◌else◌, List, Option, Some, IfSome, slice_index_or}
 use Rattle.disk_model.specs.Does.{IsOn}
 use Rattle.disk_model.specs.Event.{Event, reads}
+use Rattle.disk_model.specs.Past.{Past}
 use Rattle.disk_model.specs.declared.names.FileName.TheVariants.{Double, Log, Space}
 use Rattle.page_places.specs.Texts.{page_bytes}
 use Rattle.page_pool.specs.Contents.{MayStandAt, plain_in_page}
@@ -59,3 +60,8 @@ IsBeside s from end z p = (z ≢ s) ⊎ ((p < from) ⊎ (end ≤ p))
 pub record LeavesOthers (s from end : ℕ) (b m : List Event) : Type 0 where
   pub homes : (z p : ℕ) → IsBeside s from end z p → shown (Space z) page_bytes p m ≡ shown (Space z) page_bytes p b
   pub log : reads Log m ≡ reads Log b
+
+-- Since the past first they are, and what was told of the disk still is.
+pub record LeavesSince (s from end : ℕ) (first now : Past) : Type 0 where
+  pub since : (m : List Event) → now ≡ Some m → (b : List Event) × (first ≡ Some b) × LeavesOthers s from end b m
+  pub told : (b : List Event) → first ≡ Some b → (m : List Event) × (now ≡ Some m)

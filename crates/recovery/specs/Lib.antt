@@ -16,3 +16,4 @@ pub mod Keys
 pub mod RunText
 pub mod Changes
 pub mod Passed
+pub mod Due

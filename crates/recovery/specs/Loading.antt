@@ -45,6 +45,13 @@ fault_refusal s p (WrongSpace wanted found) = Mixed (Space s) (p * page_bytes + 
 fault_refusal s p (WrongEnd wanted found) = Mixed (Space s) (p * page_bytes + page_body_end) wanted found
 fault_refusal s p (WrongFill at found) = Mixed (Space s) (p * page_bytes + at) (if nat_eq at page_cipher_at then 0 else 0xFFFFFFFF) found
 
+-- what a home can be refused for
+abbrev pub IsHomeFaultKind : OpenRefuse → Type 0
+IsHomeFaultKind (Mixed file at wanted found) = Unit {0}
+IsHomeFaultKind (Damaged file at stored computed) = Unit {0}
+IsHomeFaultKind (MissingKey id version) = Unit {0}
+IsHomeFaultKind r = ⊥
+
 -- its place is in the page
 abbrev pub HasPlace : OpenFault → Type 0
 HasPlace (Checksum stored computed) = Unit {0}
@@ -116,3 +123,7 @@ HoldsHome ring algorithm info note p pool es = (plain : PlainPage) × IsHomePage
 -- So is each of the range.
 pub record HoldsHomes (ring : List RingEntry) (algorithm : Algorithm) (info : SpaceInfo) (notes : List PageNote) (has : ℕ → Bool) (from end : ℕ) (pool : PoolState) (es : List Event) : Type 0 where
   pub each : (p : ℕ) → from ≤ p → p < end → has p ≡ true → HoldsHome ring algorithm info (slice_index_or notes p no_note) p pool es
+
+-- each of the range is one that is as its home has it
+pub record HaveTexts (ring : List RingEntry) (algorithm : Algorithm) (info : SpaceInfo) (notes : List PageNote) (has : ℕ → Bool) (from end : ℕ) (es : List Event) : Type 0 where
+  pub each : (p : ℕ) → from ≤ p → p < end → has p ≡ true → (plain : PlainPage) × IsHomePage ring algorithm info (slice_index_or notes p no_note) p plain es

@@ -12,7 +12,7 @@ ghost use Rattle.doublewrite.specs.declared.refuse.OpenRefuse.TheVariants.{DiskF
 ghost use Rattle.page_places.specs.Texts.{pages, slots};
 ghost use Rattle.places.specs.Batches.{From};
 ghost use Rattle.places.specs.Places.{HasFile};
-ghost use Rattle.recovery.specs.Groups.{AreSealable, IsApplyEvent, IsRangeApplied, IsSealedUnder, LeavesOthers};
+ghost use Rattle.recovery.specs.Groups.{AreSealable, IsApplyEvent, IsRangeApplied, IsSealedUnder, LeavesSince};
 ghost use Rattle.recovery.specs.Loading.{AreDirty};
 ghost use Rattle.recovery.specs.Putting.{BetweenGroups, ImagesRecover, MayApplyGroups};
 ghost use Rattle.recovery.specs.Rounds.{count_in, has_later};
@@ -56,7 +56,7 @@ pub fn write_group<D: Disk>(
     ensures applies { (o : StoreOpened) (s : List Event) → At (BetweenGroups o s) (D.past disk.old) → IsSealedUnder o group.now.info.space under.now.version under.now.key → AreSealable o (has_later notes.now last.now) group.now.info.space last.now group.now.from group.now.end pool.old → Does (MayApplyGroups o s) (IsApplyEvent group.now.info.space) (From (IsRangeApplied o s (has_later notes.now last.now) group.now.info.space group.now.from group.now.end) (D.past disk.old)) (D.past disk.old) (D.past disk.new) result }
     ensures recovers { (o : StoreOpened) (end : ℕ) (s : List Event) → IsOpenedAt o end s → At (BetweenGroups o s) (D.past disk.old) → IsSealedUnder o group.now.info.space under.now.version under.now.key → AreSealable o (has_later notes.now last.now) group.now.info.space last.now group.now.from group.now.end pool.old → Throughout (ImagesRecover o end) (D.past disk.old) (D.past disk.new) }
     // No home is written but those of these pages, nor is the log.
-    ensures beside { OnOk result (At (From (LeavesOthers group.now.info.space group.now.from group.now.end) (D.past disk.old)) (D.past disk.new)) }
+    ensures beside { OnOk result (LeavesSince group.now.info.space group.now.from group.now.end (D.past disk.old) (D.past disk.new)) }
     ensures same { pool.new ≡ pool.old }
     ensures double { OnOk result (At (HasFile Double slots) (D.past disk.new)) }
     ensures spaces { OnOk result ((z count : ℕ) → At (HasFile (Space z) (pages count)) (D.past disk.old) → At (HasFile (Space z) (pages count)) (D.past disk.new)) }

@@ -22,8 +22,9 @@
 //!
 //! Of what applies the run's later changes between these two, a round of pages at a time: [`next_range`]
 //! finds the pages that a round takes, [`load_pages`] loads them from their homes into a pool, and
-//! [`apply_run`] makes the run's changes there, with [`apply_text`] for each mini-transaction;
-//! [`seal_range`] seals pages of it, and [`write_group`] puts a group of them.
+//! [`apply_run`] makes the run's changes there, with [`apply_text`] for each mini-transaction, both
+//! together [`load_round`];
+//! [`seal_range`] seals pages of it, and [`write_group`] puts a group of them, [`write_groups`] all of a range.
 #![tactic(auto)]
 
 mod applying;
@@ -31,6 +32,7 @@ mod changes;
 mod changing;
 mod checkpoint;
 mod floors;
+mod group_writing;
 mod groups;
 mod header;
 mod heads;
@@ -43,6 +45,7 @@ mod pages;
 mod putting;
 mod reading;
 mod restoring;
+mod round_loading;
 mod rounds;
 mod run_text;
 mod sealing;
@@ -53,6 +56,7 @@ pub use changes::{PageLsns, RunChanges, SpaceLsns, find_changes};
 pub use changing::apply_text;
 pub use checkpoint::find_checkpoint;
 pub use floors::{check_floors, check_numbers};
+pub use group_writing::write_groups;
 pub use groups::write_group;
 pub use header::find_header;
 pub use heads::find_heads;
@@ -63,6 +67,7 @@ pub use notes::{NoteSource, PageNote, PageNotes, SpaceNotes};
 pub use pages::find_pages;
 pub use putting::put_group;
 pub use restoring::restore_homes;
+pub use round_loading::load_round;
 pub use rounds::{Round, next_range};
 pub use sealing::{SealKey, seal_range};
 

@@ -18,7 +18,7 @@ ghost use Rattle.store_files.specs.Pages.{HasKeyBytes};
 ghost use Rattle.store_model.specs.Fold.{used};
 ghost use Rattle.store_model.specs.declared.contents.PlainPage.{PlainPage};
 ghost use Rattle.recovery.specs.Notes.{no_note};
-ghost use Rattle.recovery.specs.Loading.{HoldsHomes, HoldsMore, HoldsRange, HasNoText, HasPlace, IsHomeText, IsPageLoaded, MayHaveType, fault_refusal, is_unread, page_key_in, name_in};
+ghost use Rattle.recovery.specs.Loading.{HoldsHomes, HoldsMore, HoldsRange, HasNoText, HasPlace, IsHomeText, IsHomeFaultKind, IsPageLoaded, MayHaveType, fault_refusal, is_unread, page_key_in, name_in};
 ghost use Rattle.recovery.specs.Rounds.{count_in, has_later};
 
 use crate::layout::{PAGE_BYTES, PAGE_CIPHERED, PAGE_END, PAGE_NUMBER, PAGE_SPACE, PAGE_TYPE};
@@ -49,7 +49,8 @@ pub struct Loaded {
 // A number at a byte of a page isn't the wanted one.
 fn mixed(space: u32, page: u32, at: u64, wanted: u64, found: u64) -> OpenRefuse
     requires { at < page_bytes }
-    ensures { result ≡ Mixed (Space space) (page * page_bytes + at) wanted found }
+    ensures value { result ≡ Mixed (Space space) (page * page_bytes + at) wanted found }
+    ensures kind { IsHomeFaultKind result }
 {
     OpenRefuse::Mixed {
         file: FileName::Space(space),
@@ -62,7 +63,8 @@ fn mixed(space: u32, page: u32, at: u64, wanted: u64, found: u64) -> OpenRefuse
 // The refusal of the store for a fault of a page's text.
 fn fault_refusal(space: u32, page: u32, fault: OpenFault) -> OpenRefuse
     requires { HasPlace fault }
-    ensures { result ≡ fault_refusal space page fault }
+    ensures value { result ≡ fault_refusal space page fault }
+    ensures kind { IsHomeFaultKind result }
 {
     match fault {
         OpenFault::Checksum { stored, computed } => OpenRefuse::Damaged {
@@ -163,6 +165,7 @@ fn open_home(
     ensures opened { OnOk result (IsHomeText ring.now algorithm info.now page home.old (plain_page home.new)) }
     ensures typed { OnOk result (MayHaveType page (plain_page home.new).kind) }
     ensures refused { IfErr result (HasNoText ring.now algorithm info.now page home.old) }
+    ensures kind { IfErr result IsHomeFaultKind }
     ensures long { length home.new ≡ page_bytes }
 {
     let version = be32_at(home, 0);
@@ -222,6 +225,7 @@ fn load_page<D: Disk>(
     requires alone { pool.old.clean ≡ [] }
     ensures held { IfOk result (λ why. IfNone why ((plain : PlainPage) × HoldsMore (name_in info.now.space page) plain pool.old pool.new × MayHaveType page plain.kind × At (λ es. IsHomeText ring.now algorithm info.now page (shown (Space info.now.space) page_bytes page es) plain) (D.past disk.old))) }
     ensures fault { IfOk result (λ why. IfSome why (λ e. (pool.new ≡ pool.old) × At (λ es. HasNoText ring.now algorithm info.now page (shown (Space info.now.space) page_bytes page es) e) (D.past disk.old))) }
+    ensures kind { IfOk result (λ why. IfSome why IsHomeFaultKind) }
     ensures refused { IfErr result IsDiskRefuse }
     ensures long { length home.new ≡ page_bytes }
     ensures same { D.past disk.new ≡ D.past disk.old }
@@ -267,6 +271,7 @@ fn load_noted<D: Disk>(
     requires alone { pool.old.clean ≡ [] }
     ensures held { IfOk result (λ why. IfNone why (IsPageLoaded ring.now algorithm info.now note.now page pool.old pool.new (D.past disk.old))) }
     ensures fault { IfOk result (λ why. IfSome why (λ e. (pool.new ≡ pool.old) × At (λ es. HasNoText ring.now algorithm info.now page (shown (Space info.now.space) page_bytes page es) e) (D.past disk.old))) }
+    ensures kind { IfOk result (λ why. IfSome why IsHomeFaultKind) }
     ensures refused { IfErr result IsDiskRefuse }
     ensures long { length home.new ≡ page_bytes }
     ensures same { D.past disk.new ≡ D.past disk.old }
@@ -307,6 +312,7 @@ fn load_later<D: Disk>(
     requires alone { pool.old.clean ≡ [] }
     ensures held { IfOk result (λ why. IfNone why (MatchBool (has_later notes.now last.now page) (IsPageLoaded ring.now algorithm info.now (slice_index_or notes.now page no_note) page pool.old pool.new (D.past disk.old)) (pool.new ≡ pool.old))) }
     ensures fault { IfOk result (λ why. IfSome why (λ e. (has_later notes.now last.now page ≡ true) × (pool.new ≡ pool.old) × At (λ es. HasNoText ring.now algorithm info.now page (shown (Space info.now.space) page_bytes page es) e) (D.past disk.old))) }
+    ensures kind { IfOk result (λ why. IfSome why IsHomeFaultKind) }
     ensures refused { IfErr result IsDiskRefuse }
     ensures long { length home.new ≡ page_bytes }
     ensures same { D.past disk.new ≡ D.past disk.old }
@@ -354,6 +360,7 @@ pub fn load_pages<D: Disk>(
     ensures whole { IfOk result (λ loaded. IfNone loaded.fault (loaded.end ≡ round.now.end)) }
     // The page at which it ended has later changes, and its home can't be taken apart.
     ensures fault { IfOk result (λ loaded. IfSome loaded.fault (λ why. (loaded.end < round.now.end) × (has_later notes.now last.now loaded.end ≡ true) × At (λ es. HasNoText ring.now algorithm round.now.info loaded.end (shown (Space round.now.info.space) page_bytes loaded.end es) why) (D.past disk.old))) }
+    ensures kind { IfOk result (λ loaded. IfSome loaded.fault IsHomeFaultKind) }
     ensures refused { IfErr result IsDiskRefuse }
     ensures long { length home.new ≡ page_bytes }
     ensures same { D.past disk.new ≡ D.past disk.old }

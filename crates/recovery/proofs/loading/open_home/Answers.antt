@@ -30,7 +30,7 @@ returns-in-Err-clause-refused c =
       | else-version-ne0-via-else-version-ne0 w ↦ (λ ne. absurd (ne (sym c.be32_at-version.ensures ∙ w.if-version-ne0.false)))
     ] in
     record {
-      fault = HasFault c.in-Err.fault some (subst (λ (k : Option PageKey). opening s p k home ≡ Err c.in-Err.fault) lent (sym c.in-Err.ensures.value)) c.fault_refusal.ensures;
+      fault = HasFault c.in-Err.fault some (subst (λ (k : Option PageKey). opening s p k home ≡ Err c.in-Err.fault) lent (sym c.in-Err.ensures.value)) c.fault_refusal.ensures.value;
       none = λ plain is.
           let taken = c.take_apart.ensures.taken (be64_at home 16) _ (keyed s p (be64_at home 16) version _ (key_lent c.as_ref.result) _ home lent is) in
           let bad = c.in-Err.is in
