@@ -7,3 +7,6 @@ pub mod ReadLaws
 pub mod FloorLaws
 pub mod PoolLaws
 pub mod SettleLaws
+pub mod HeldPages
+pub mod ToldLaws
+pub mod LogWrites

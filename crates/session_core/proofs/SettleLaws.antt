@@ -22,6 +22,9 @@ use Rattle.redo_log.specs.Log.{IsOpen, handed_over, pending_count, written_out}
 use Rattle.redo_log.specs.State.{LogState}
 use Rattle.space_head.specs.declared.space.SpaceInfo.{SpaceInfo}
 use Rattle.store_image.specs.View.{block_bytes}
+use Rattle.session_core.specs.Dirty.{AreDirtyOf}
+use Rattle.session_core.specs.Told.{ReadsAsTold}
+use Rattle.session_core.proofs.LogWrites.{dirty_out}
 use Rattle.session_core.specs.Files.{HasStoreFiles, IsStopOf}
 use Rattle.session_core.specs.Session.{AreEntries, IsSession, Running}
 use Rattle.session_core.specs.Syncing.{InPart, IsSyncRefusal, IsSyncedInPart, Unwritten}
@@ -73,8 +76,8 @@ module _ {D : Type 0} (past : D → Past) (old : Running D) where
 
   -- what the type keeps, once the log was written out and its entries were told as acknowledged
   pub session_synced : (disk : Counted D) (log : LogState) (count : ℕ) → IsSession past old → log ≡ written_out old.log → IsOpen log → count ≡ length old.journal → At (HasStoreFiles old.store.header.blocks old.store.spaces) (past disk.disk)
-      → IsSession past (record old { disk = disk; log = log; acked = count })
-  session_synced disk log count kept is numbers all files =
+      → At (ReadsAsTold old.store (written_out old.log) old.pool) (past disk.disk) → IsSession past (record old { disk = disk; log = log; acked = count })
+  session_synced disk log count kept is numbers all files reads =
       let next : old.log.next ≡ log.next = sym (ap (λ (l : LogState). l.next) is) in
       record {
         spaces = kept.spaces;
@@ -84,7 +87,9 @@ module _ {D : Type 0} (past : D → Past) (old : Running D) where
         numbers = numbers;
         entries = subst (λ (n : ℕ). AreEntries old.store.header.spaces old.begins old.journal n) next kept.entries;
         acked = omega (arith, all);
+        dirty = subst (λ (l : LogState). AreDirtyOf old.store l old.pool) (sym is) (dirty_out old.store old.log old.pool kept.dirty);
         files = λ up. files;
+        reads = λ up. subst (λ (l : LogState). At (ReadsAsTold old.store l old.pool) (past disk.disk)) (sym is) reads;
       }
 
   -- a session that wasn't stopped isn't synced as its disk was stopped in the call

@@ -142,6 +142,14 @@ and_false false = refl
 pub page_zero : (p n : ℕ) → p ≡ 0 → (not (nat_eq p 0) && nat_lt p n) ≡ false
 page_zero p n is = ap (λ (b : Bool). not b && nat_lt p n) (eq-eqb p 0 is)
 
+pub page_some : (ss : List SpaceInfo) (s p : ℕ) → is_page ss s p ≡ true → p ≡ 0 → ⊥
+page_some [] s p is none = true≢false (sym is)
+page_some (x ∷ ss) s p is none = by (nat_eq x.space s) is (λ below. page_some ss s p below none)
+  where
+    by : (b : Bool) → (if b then (not (nat_eq p 0) && nat_lt p x.pages) else is_page ss s p) ≡ true → (is_page ss s p ≡ true → ⊥) → ⊥
+    by true at later = true≢false (sym at ∙ page_zero p x.pages none)
+    by false at later = later at
+
 pub page_past : (p n : ℕ) → n ≤ p → (not (nat_eq p 0) && nat_lt p n) ≡ false
 page_past p n past = let over : nat_lt p n ≡ false = grind (arith, nat_tests) in ap (λ (b : Bool). not (nat_eq p 0) && b) over ∙ and_false (not (nat_eq p 0))
 

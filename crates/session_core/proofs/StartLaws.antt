@@ -1,6 +1,7 @@
 -- What a store at rest gives a session, and that the mark that is told changes nothing of it.
-use Rattle.std.proofs.Common.{◌≡◌, ◌⊎◌, ℕ, suc, zero, ◌<◌, ◌≤◌, List, [], ◌∷◌, length, slice_index_or, Option, Some, None, refl, sym, ap, ◌∙◌, subst, inl, inr, arith}
+use Rattle.std.proofs.Common.{◌≡◌, ◌⊎◌, ℕ, suc, zero, ◌<◌, ◌≤◌, Bool, true, false, true≢false, nat_eq, if◌then◌else◌, List, [], ◌∷◌, length, slice_index_or, Option, Some, None, Ok, refl, sym, ap, ◌∙◌, subst, inl, inr, arith}
 use Rattle.std.specs.List.{All}
+use Rattle.std.proofs.lemmas.Bool.Decides.{nat_tests}
 use Rattle.std.proofs.lemmas.Option.{none-some, same_Some}
 use Rattle.disk_model.specs.Event.{Event, Tell}
 use Rattle.disk_model.specs.Past.{Past, At, Is, MayGrow, grow}
@@ -10,22 +11,26 @@ use Rattle.disk_model.specs.declared.names.DiskError.TheVariants.{Failed, NoMemo
 use Rattle.disk_model.specs.declared.names.FileName.TheVariants.{Space}
 use Rattle.disk_model.specs.declared.names.Mark.{Mark}
 use Rattle.key_ring.specs.Ring.{RingEntry}
-use Rattle.page_places.specs.Texts.{pages}
-use Rattle.places.specs.Places.{HasFile}
+use Rattle.page_places.specs.Texts.{page_bytes, pages}
+use Rattle.places.specs.Places.{HasFile, shown}
+use Rattle.space_head.specs.Head.{head_of}
 use Rattle.space_head.specs.declared.space.Home.{Home}
+use Rattle.space_head.specs.declared.space.Home.TheVariants.{Dirty, Unused}
 use Rattle.space_head.specs.declared.space.SpaceInfo.{SpaceInfo}
 use Rattle.store_files.specs.Header.{HeldHeader, HeldSpace}
-use Rattle.store_form.specs.Rest.{HaveHomes, IsRestForm, ReadsAtRest, SpaceReads, SpacesRead, StoreAtRest, with_disk}
+use Rattle.store_form.specs.Rest.{AreNoneDirty, HaveHomes, IsRestForm, ReadsAtRest, SpaceReads, SpacesRead, StoreAtRest, head_in_mode, home_told, homes_of, with_disk}
 use Rattle.counted_disk.specs.declared.counted.Counted.{Counted}
 use Rattle.disk_model.proofs.Moments.{at_each}
 use Rattle.disk_model.specs.declared.names.Mark.TheVariants.{Started}
 use Rattle.page_pool.specs.Pages.{PoolState}
-use Rattle.redo_log.specs.Log.{IsOpen, empty_log}
+use Rattle.redo_log.specs.Log.{IsOpen, empty_log, pending_count}
 use Rattle.redo_log.specs.State.{LogState}
+use Rattle.session_core.specs.Dirty.{AreDirtyOf}
 use Rattle.session_core.specs.Files.{HasStoreFiles}
-use Rattle.session_core.specs.Session.{IsSession}
+use Rattle.session_core.specs.Session.{IsSession, empty_pool}
 use Rattle.session_core.specs.declared.journal.Entry.{Entry}
-use Rattle.session_core.specs.Spaces.{AreSpaces, HaveLists, StoreSpaces}
+use Rattle.session_core.specs.Spaces.{AreSpaces, HaveLists, StoreSpaces, space_with_id}
+use Rattle.session_core.specs.Told.{ReadsAsTold}
 use Rattle.session_core.specs.Start.{IsHandedBack, IsStartRefusal, MayStart, start_fault}
 use Rattle.session_core.specs.declared.fault.StartFault.{StartFault}
 
@@ -110,17 +115,91 @@ pub start_refused : {D : Type 0} (past : D → Past) (faults refusals : D → �
 start_refused past faults refusals ring active old new Failed why may back failed refused is = subst (IsStartRefusal past faults refusals ring active old new) (sym is) (may, back, failed refl)
 start_refused past faults refusals ring active old new NoMemory why may back failed refused is = subst (IsStartRefusal past faults refusals ring active old new) (sym is) (may, inr (back, refused refl))
 
+-- ---- what is known of the homes of a store at rest
+
+none_at : (o : List Home) → AreNoneDirty o → (p : ℕ) → slice_index_or o p Unused ≡ Dirty → ⊥
+none_at [] none p is = absurd (cc)
+none_at (x ∷ o) none zero is = none 0 x (omega arith) is
+none_at (x ∷ o) none (suc p) is = none_at o (λ k d lt. none (suc k) d (omega (arith, lt))) p is
+
+-- none of them is marked as dirty
+none_dirty : (hs : List HeldSpace) (ss : List SpaceInfo) (os : List (List Home)) → HaveHomes hs ss os → (s p : ℕ) → slice_index_or (homes_of ss os s) p Unused ≡ Dirty → ⊥
+none_dirty hs [] os have s p is = absurd (cc)
+none_dirty [] (x ∷ ss) os have s p is = absurd have
+none_dirty (h ∷ hs) (x ∷ ss) [] have s p is = absurd have
+none_dirty (h ∷ hs) (x ∷ ss) (o ∷ os) (space, pages, key_id, long, none, rest) s p is = by (nat_eq x.space s) is (none_dirty hs ss os rest s p)
+  where
+    by : (b : Bool) → slice_index_or (if b then o else homes_of ss os s) p Unused ≡ Dirty → (slice_index_or (homes_of ss os s) p Unused ≡ Dirty → ⊥) → ⊥
+    by true at later = none_at o none p at
+    by false at later = later at
+
+-- each tells what its page is, and page 0 the space
+pub record IsSpaceTold (ss : List SpaceInfo) (os : List (List Home)) (s : ℕ) (info : SpaceInfo) (es : List Event) : Type 0 where
+  pub homes : (p : ℕ) → p < info.pages → slice_index_or (homes_of ss os s) p Unused ≡ home_told (shown (Space s) page_bytes p es)
+  pub mode : ℕ
+  pub head : head_of (shown (Space info.space) page_bytes 0 es) ≡ Ok (head_in_mode mode info)
+
+space_told : (ss : List SpaceInfo) (os : List (List Home)) (s : ℕ) (info : SpaceInfo) (es : List Event) → SpacesRead ss os es → space_with_id ss s ≡ Some info → IsSpaceTold ss os s info es
+space_told [] os s info es read is = absurd (none-some info is)
+space_told (x ∷ ss) [] s info es read is = absurd read
+space_told (x ∷ ss) (o ∷ os) s info es read is = by (nat_eq x.space s) refl (λ below. space_told ss os s info es read.1 below)
+  where
+    by : (b : Bool) → nat_eq x.space s ≡ b → (space_with_id ss s ≡ Some info → IsSpaceTold ss os s info es) → IsSpaceTold (x ∷ ss) (o ∷ os) s info es
+    by true test later =
+        let e : x ≡ info = same_Some x info (ap (λ (b : Bool). if b then Some x else space_with_id ss s) (sym test) ∙ is) in
+        let own : x.space ≡ s = grind (arith, nat_tests) in
+        let homes : homes_of (x ∷ ss) (o ∷ os) s ≡ o = ap (λ (b : Bool). if b then o else homes_of ss os s) test in
+        record {
+          homes = λ p below.
+              let same : x.pages ≡ info.pages = ap (λ (i : SpaceInfo). i.pages) e in
+              ap (λ (l : List Home). slice_index_or l p Unused) homes ∙ read.0.told p (omega (arith, same, below)) ∙ ap (λ (n : ℕ). home_told (shown (Space n) page_bytes p es)) own;
+          mode = read.0.head.0;
+          head = subst (λ (i : SpaceInfo). head_of (shown (Space i.space) page_bytes 0 es) ≡ Ok (head_in_mode read.0.head.0 i)) e read.0.head.1;
+        }
+    by false test later =
+        let told = later (ap (λ (b : Bool). if b then Some x else space_with_id ss s) (sym test) ∙ is) in
+        let homes : homes_of (x ∷ ss) (o ∷ os) s ≡ homes_of ss os s = ap (λ (b : Bool). if b then o else homes_of ss os s) test in
+        record {
+          homes = λ p below. ap (λ (l : List Home). slice_index_or l p Unused) homes ∙ told.homes p below;
+          mode = told.mode;
+          head = told.head;
+        }
+
+-- no page is dirty, and none is held
+empty_dirty : (header : HeldHeader) (spaces : List SpaceInfo) (homes : List (List Home)) (next sequence : ℕ) (log : LogState) → IsRestForm header spaces homes next sequence → pending_count log ≡ 0
+    → AreDirtyOf (record { header = header; spaces = spaces; homes = homes }) log empty_pool
+empty_dirty header spaces homes next sequence log form none = record {
+  marks = record {
+    marked = λ s p is. absurd (true≢false (sym is));
+    only = λ s p is. absurd (none_dirty header.spaces spaces homes form.have s p is);
+  };
+  typed = λ name page is. absurd (none-some page is);
+  within = λ k d lt. absurd (omega (arith, lt));
+  pending = λ some. absurd (omega (arith, some, none));
+}
+
+-- and the disk reads as is told
+empty_told : (header : HeldHeader) (spaces : List SpaceInfo) (homes : List (List Home)) (next sequence : ℕ) (es : List Event) → ReadsAtRest header spaces homes next sequence es
+    → ReadsAsTold (record { header = header; spaces = spaces; homes = homes }) (empty_log header.blocks next sequence) empty_pool es
+empty_told header spaces homes next sequence es read = record {
+  front = record { is_header = read.is_header; checkpoint = read.checkpoint };
+  homes = λ s p info is below clean. (space_told spaces homes s info es read.spaces_read is).homes p below;
+  heads = λ s info is.
+      let told = space_told spaces homes s info es read.spaces_read is in
+      record { mode = told.mode; home = λ clean. told.head; held = λ page held. absurd (none-some page held) };
+}
+
 -- what the type of a session keeps, as it begins
 pub session_kept : {D : Type 0} (past : D → Past) (rest : StoreAtRest D) (ring : List RingEntry) (active age : ℕ) (disk : Counted D) (store : StoreSpaces) (journal : List Entry) (log : LogState) (pool : PoolState)
     → IsRestForm rest.header rest.spaces rest.homes rest.next rest.sequence → At (ReadsAtRest rest.header rest.spaces rest.homes rest.next rest.sequence) (past rest.disk) → past disk.disk ≡ grow (Tell Started) (past rest.disk)
-    → store ≡ record { header = rest.header; spaces = rest.spaces; homes = rest.homes } → journal ≡ [] → log ≡ empty_log rest.header.blocks rest.next rest.sequence → IsOpen log → MayStart ring active rest.spaces → 1 ≤ active
+    → store ≡ record { header = rest.header; spaces = rest.spaces; homes = rest.homes } → journal ≡ [] → log ≡ empty_log rest.header.blocks rest.next rest.sequence → IsOpen log → pool ≡ empty_pool → MayStart ring active rest.spaces → 1 ≤ active
     → IsSession past (record { disk = disk; ring = ring; store = store; journal = journal; log = log; pool = pool; active = active; age = age; begins = rest.next; acked = 0; batch = 1 })
-session_kept {D} past rest ring active age disk store journal log pool form reads told store_is journal_is log_is numbers may some =
+session_kept {D} past rest ring active age disk store journal log pool form reads told store_is journal_is log_is numbers pool_is may some =
     let own : StoreSpaces = record { header = rest.header; spaces = rest.spaces; homes = rest.homes } in
     let none : List Entry = [] in
     let empty : LogState = empty_log rest.header.blocks rest.next rest.sequence in
     let open_empty : IsOpen empty = subst IsOpen log_is numbers in
-    let kept : IsSession past (record { disk = disk; ring = ring; store = own; journal = none; log = empty; pool = pool; active = active; age = age; begins = rest.next; acked = 0; batch = 1 }) = record {
+    let kept : IsSession past (record { disk = disk; ring = ring; store = own; journal = none; log = empty; pool = empty_pool; active = active; age = age; begins = rest.next; acked = 0; batch = 1 }) = record {
       spaces = rest_spaces rest.header rest.spaces rest.homes rest.next rest.sequence form;
       active = some;
       keyed = may.keyed;
@@ -128,13 +207,14 @@ session_kept {D} past rest ring active age disk store journal log pool form read
       numbers = open_empty;
       entries = refl;
       acked = omega arith;
-      files = λ up. at_grown_files told;
+      dirty = empty_dirty rest.header rest.spaces rest.homes rest.next rest.sequence empty form refl;
+      files = λ up. at_each (λ es read. rest_files rest.header rest.spaces rest.homes rest.next rest.sequence es read) at_grown_rest;
+      reads = λ up. at_each (λ es read. empty_told rest.header rest.spaces rest.homes rest.next rest.sequence es read) at_grown_rest;
     } in
     subst (λ (s : StoreSpaces). IsSession past (record { disk = disk; ring = ring; store = s; journal = journal; log = log; pool = pool; active = active; age = age; begins = rest.next; acked = 0; batch = 1 })) (sym store_is)
     (subst (λ (j : List Entry). IsSession past (record { disk = disk; ring = ring; store = own; journal = j; log = log; pool = pool; active = active; age = age; begins = rest.next; acked = 0; batch = 1 })) (sym journal_is)
-    (subst (λ (l : LogState). IsSession past (record { disk = disk; ring = ring; store = own; journal = none; log = l; pool = pool; active = active; age = age; begins = rest.next; acked = 0; batch = 1 })) (sym log_is) kept))
+    (subst (λ (l : LogState). IsSession past (record { disk = disk; ring = ring; store = own; journal = none; log = l; pool = pool; active = active; age = age; begins = rest.next; acked = 0; batch = 1 })) (sym log_is)
+    (subst (λ (p : PoolState). IsSession past (record { disk = disk; ring = ring; store = own; journal = none; log = empty; pool = p; active = active; age = age; begins = rest.next; acked = 0; batch = 1 })) (sym pool_is) kept)))
   where
-    at_grown_files : past disk.disk ≡ grow (Tell Started) (past rest.disk) → At (HasStoreFiles rest.header.blocks rest.spaces) (past disk.disk)
-    at_grown_files grown =
-        at_each (λ es read. rest_files rest.header rest.spaces rest.homes rest.next rest.sequence es read)
-        (at_grown (ReadsAtRest rest.header rest.spaces rest.homes rest.next rest.sequence) Started (past rest.disk) (past disk.disk) (λ es read. told_reads rest.header rest.spaces rest.homes rest.next rest.sequence es Started read) reads grown)
+    at_grown_rest : At (ReadsAtRest rest.header rest.spaces rest.homes rest.next rest.sequence) (past disk.disk)
+    at_grown_rest = at_grown (ReadsAtRest rest.header rest.spaces rest.homes rest.next rest.sequence) Started (past rest.disk) (past disk.disk) (λ es read. told_reads rest.header rest.spaces rest.homes rest.next rest.sequence es Started read) reads told

@@ -2,6 +2,8 @@ pub mod Keys
 pub mod Spaces
 pub mod Stops
 pub mod Files
+pub mod Dirty
+pub mod Told
 pub mod Session
 pub mod Start
 pub mod Opening

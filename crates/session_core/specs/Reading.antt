@@ -9,7 +9,6 @@ use Rattle.key_ring.specs.Ring.{RingEntry}
 use Rattle.page_places.specs.Texts.{page_body_at, page_bytes}
 use Rattle.page_pool.specs.Changes.{admitted, found_page}
 use Rattle.page_pool.specs.Pages.{PoolState, held_page, is_held, plain_page}
-use Rattle.page_pool.specs.declared.names.PageName.{PageName}
 use Rattle.places.specs.Places.{shown}
 use Rattle.space_head.specs.declared.space.Home.{Home}
 use Rattle.space_head.specs.declared.space.Home.TheVariants.{Unused}
@@ -17,6 +16,7 @@ use Rattle.space_head.specs.declared.space.SpaceInfo.{SpaceInfo}
 use Rattle.store_form.specs.declared.fault.RestFault.{RestFault}
 use Rattle.store_model.specs.Fold.{used}
 use Rattle.store_model.specs.declared.contents.PlainPage.{PlainPage}
+pub use Rattle.session_core.specs.Dirty.{name_of_page}
 use Rattle.session_core.specs.Files.{IsStopOf}
 use Rattle.session_core.specs.Opening.{IsHomeAnswered, home_fault}
 use Rattle.session_core.specs.Session.{Running}
@@ -39,9 +39,6 @@ IsFetchFault ring algorithm info p past disk left e = MatchOption (home_fault e)
 abbrev pub FetchesPage : {D : Type 0} → List RingEntry → Algorithm → SpaceInfo → ℕ → Past → Counted D → List ℕ → Result (Unit {0}) EngineFault → Type 0
 FetchesPage ring algorithm info p past disk left (Ok done) = (home : Home) × IsHomeRead ring algorithm info p past left (Ok home)
 FetchesPage ring algorithm info p past disk left (Err e) = IsFetchFault ring algorithm info p past disk left e
-
-abbrev pub name_of_page : ℕ → ℕ → PageName
-name_of_page s p = record { space = s; page = p }
 
 -- The page that a session reads: the one that it holds; else none, where its home is unused; else the plain page of its home.
 pub data IsPageOf (ring : List RingEntry) (store : StoreSpaces) (pool : PoolState) (past : Past) (s p : ℕ) : Option PlainPage → Type 0 where

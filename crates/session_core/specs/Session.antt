@@ -15,7 +15,9 @@ use Rattle.store_files.specs.Header.{HeldSpace}
 use Rattle.store_image.specs.View.{block_bytes}
 use Rattle.session_core.specs.Keys.{HasVersion}
 use Rattle.session_core.specs.Spaces.{StoreSpaces, AreSpaces}
+use Rattle.session_core.specs.Dirty.{AreDirtyOf}
 use Rattle.session_core.specs.Files.{HasStoreFiles}
+use Rattle.session_core.specs.Told.{ReadsAsTold}
 use Rattle.session_core.specs.declared.journal.Entry.{Entry}
 
 -- A session: its disk, with its turns and what stopped it; the keys of its ring; the spaces of its store; the journal, the oldest entry first; the log and the pages in memory; the version that new texts are ciphered under, and the age of the age rule; the number of the first block of the journal; how many entries were told as acknowledged; and the number of the next batch of the doublewrite file.
@@ -63,7 +65,9 @@ AreEntries spaces number (e ∷ es) next = IsEntryAt spaces number e × AreEntri
 --
 -- Form: the spaces go together, and the ring has the active version under id 1 and each key id.
 -- Numbers: the entries' blocks stand in a row up to the log's next one, and no more entries were acknowledged than there are.
+-- Dirty pages: as `AreDirtyOf` says.
 -- Files: while its disk isn't stopped, each file of the store is there with its length.
+-- Reads: while its disk isn't stopped, it reads as the session tells.
 pub record IsSession {D : Type 0} (past : D → Past) (r : Running D) : Type 0 where
   pub spaces : AreSpaces r.store
   pub active : 1 ≤ r.active
@@ -72,7 +76,9 @@ pub record IsSession {D : Type 0} (past : D → Past) (r : Running D) : Type 0 w
   pub numbers : IsOpen r.log
   pub entries : AreEntries r.store.header.spaces r.begins r.journal r.log.next
   pub acked : r.acked ≤ length r.journal
+  pub dirty : AreDirtyOf r.store r.log r.pool
   pub files : r.disk.stop ≡ None → At (HasStoreFiles r.store.header.blocks r.store.spaces) (past r.disk.disk)
+  pub reads : r.disk.stop ≡ None → At (ReadsAsTold r.store r.log r.pool) (past r.disk.disk)
 
 -- ---- the session as it begins
 

@@ -7,7 +7,10 @@
 //!    active version of 1 or more that the ring has under id 1 and under the key id of each space.
 //! 2. The journal's entries stand in a row from the number at the start up to the log's next block.
 //! 3. No more entries were acknowledged than the journal has.
-//! 4. The files are there with their lengths while the disk runs.
+//! 4. The dirty pages are those that are marked as dirty, and begin behind the last checkpoint; while blocks of
+//!    the log are pending one of them needs them all. Each page that is held has a type that it may have.
+//! 5. While the disk runs the files are there with their lengths, and it reads as the session tells: the
+//!    header, the last checkpoint, page 0 of each space, and the homes of the pages that aren't dirty.
 //!
 //! A session is up until a call of its disk is answered an error. From then on each call that can be refused
 //! is refused: as down, with the number of the turn that failed, or for want of memory.

@@ -17,4 +17,4 @@ of-store-requires g c = let p = c.args.parts in rest_spaces (header_said p.heade
 pub invariant_of-result : goal.invariant_of-result
 invariant_of-result g c =
     session_kept g.D.Disk.past (rest_of c.args.parts) c.args.keys c.args.options.active c.args.options.age c.new-counted.result c.of-store.result c.new-journal.result.items c.args.log c.args.pool
-    c.requires.form c.requires.reads (ap g.D.Disk.past c.new-counted.ensures.disk ∙ c.in-Ok.ensures.ok) c.of-store.ensures c.new-journal.ensures.items c.requires.log c.requires.numbers c.requires.may c.requires.some
+    c.requires.form c.requires.reads (ap g.D.Disk.past c.new-counted.ensures.disk ∙ c.in-Ok.ensures.ok) c.of-store.ensures c.new-journal.ensures.items c.requires.log c.requires.numbers c.requires.pool c.requires.may c.requires.some
