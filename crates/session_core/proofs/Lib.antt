@@ -9,4 +9,5 @@ pub mod PoolLaws
 pub mod SettleLaws
 pub mod HeldPages
 pub mod ToldLaws
+pub mod CheckpointLaws
 pub mod LogWrites

@@ -17,6 +17,13 @@ module _ {D : Type 0} (old new : Counted D) where
   stop_of : (e : DiskError) (fault : EngineFault) → ((s : Stop) × (new.stop ≡ Some s) × (s.error ≡ e)) → fault ≡ device_fault e new.turns → IsStopOf new fault
   stop_of e fault (s, is, error) same = (s, is, same ∙ ap (λ (x : DiskError). device_fault x new.turns) (sym error))
 
+  -- the error that a stretch of calls answered has stopped a disk that ran
+  pub stopped_in : (e : DiskError) (fault : EngineFault) → old.stop ≡ None → HasDiskCause {T = Unit {0}} (faults_told old.stop old.faults_since) (faults_told new.stop new.faults_since) (Err e)
+      → HasDiskMemoryCause {T = Unit {0}} (refusals_told old.stop old.refusals_since) (refusals_told new.stop new.refusals_since) (Err e) → fault ≡ device_fault e new.turns → IsStopOf new fault
+  stopped_in e fault none cause memory same =
+      let answer : Result (Unit {0}) DiskError = Err e in
+      stop_of e fault (stopped_by old.stop new.stop old.faults_since new.faults_since old.refusals_since new.refusals_since answer none cause memory) same
+
   -- a fault that was counted has stopped a disk that ran
   pub failed_stop : (fault : EngineFault) → old.stop ≡ None → Rose (faults_told old.stop old.faults_since) (faults_told new.stop new.faults_since) → refusals_told old.stop old.refusals_since ≤ refusals_told new.stop new.refusals_since
       → faults_told old.stop old.faults_since ≤ faults_told new.stop new.faults_since → fault ≡ device_fault Failed new.turns → IsStopOf new fault

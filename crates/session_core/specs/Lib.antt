@@ -10,3 +10,4 @@ pub mod Opening
 pub mod Reading
 pub mod Activating
 pub mod Syncing
+pub mod Checking

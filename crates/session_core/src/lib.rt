@@ -17,6 +17,8 @@
 #![tactic(auto)]
 
 mod activating;
+mod checkpoints;
+mod closing;
 mod fault;
 mod fetching;
 mod journal;
@@ -29,6 +31,7 @@ mod settling;
 mod stopping;
 mod tablespaces;
 
+pub use closing::Halted;
 pub use fault::{EngineFault, StartFault};
 pub use journal::{Author, Entry, Journal, Receipt};
 pub use options::SessionOptions;
