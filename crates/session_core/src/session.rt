@@ -2,6 +2,7 @@
 ghost use Rattle.std.specs.Prelude.{◌≡◌, ◌≤◌, IfErr, IfOk, OnOk};
 ghost use Rattle.disk_model.specs.Past.{At};
 ghost use Rattle.redo_log.specs.Log.{IsOpen, empty_log};
+ghost use Rattle.store_files.specs.Header.{most_spaces};
 ghost use Rattle.store_form.specs.Rest.{IsRestForm, ReadsAtRest};
 ghost use Rattle.space_head.specs.declared.space.SpaceInfo.{SpaceInfo};
 ghost use Rattle.session_core.specs.Session.{empty_pool};
@@ -174,6 +175,8 @@ fn begin<D: Disk + Drop>(
     pool: Pool,
     options: SessionOptions,
 ) -> Result<SessionCore<D>, StartRefusal<D>>
+    requires format { parts.header.format ≡ 2 }
+    requires count { parts.header.count ≤ most_spaces }
     requires form { IsRestForm (rest_of parts).header parts.spaces parts.homes parts.next parts.sequence }
     requires reads { At (ReadsAtRest (rest_of parts).header parts.spaces parts.homes parts.next parts.sequence) (D.past parts.disk) }
     requires log { log ≡ empty_log (rest_of parts).header.blocks parts.next parts.sequence }

@@ -14,10 +14,11 @@ use Rattle.space_head.specs.declared.head.SpaceHead.{SpaceHead}
 use Rattle.space_head.specs.declared.space.SpaceInfo.{SpaceInfo}
 use Rattle.space_head.specs.declared.space.Home.{Home}
 use Rattle.space_head.specs.declared.space.Home.TheVariants.{Unused, Clean, Dirty}
-use Rattle.store_files.specs.Header.{HeldHeader, HeldSpace, header_in, are_allowed}
+use Rattle.store_files.specs.Header.{HeldHeader, HeldSpace, header_in, are_allowed, most_spaces}
 use Rattle.store_files.specs.Checkpoint.{IsNewestCheckpoint}
 use Rattle.store_image.specs.Checkpoint.{front_blocks}
 use Rattle.store_image.specs.View.{block_bytes, slot_count}
+use Rattle.store_form.specs.declared.header.Header.{Header}
 
 -- no page that was changed since it was written
 abbrev pub AreNoneDirty : List Home → Type 0
@@ -100,8 +101,10 @@ store_at_rest_code {D} disk algorithm space home =
     (λ r. (r.disk, (r.header, (r.spaces, (r.homes, (r.next, r.sequence))))))
     (λ p. record { disk = p.0; header = p.1.0; spaces = p.1.1.0; homes = p.1.1.1.0; next = p.1.1.1.1.0; sequence = p.1.1.1.1.1 }) (λ _. refl)
 
--- The type of a store at rest keeps this: what it tells fits together, and is what its disk reads as, where that is told.
-pub record IsStoreAtRest {D : Type 0} (past : D → Past) (r : StoreAtRest D) : Type 0 where
+-- The type of a store at rest keeps this of the header that it holds and of what it tells: the header is of format 2 and counts no more spaces than it has places for, and what is told fits together, and is what its disk reads as, where that is told.
+pub record IsStoreAtRest {D : Type 0} (past : D → Past) (header : Header) (r : StoreAtRest D) : Type 0 where
+  pub format : header.format ≡ 2
+  pub count : header.count ≤ most_spaces
   pub form : IsRestForm r.header r.spaces r.homes r.next r.sequence
   pub reads : At (ReadsAtRest r.header r.spaces r.homes r.next r.sequence) (past r.disk)
 

@@ -104,6 +104,7 @@ fn header_spaces(plans: &[SpacePlan]) -> [HeaderSpace; MOST_SPACES]
 pub(crate) fn header_of(plan: &StorePlan, plans: &[SpacePlan], salt: [u8; 16]) -> Header
     requires { length plans.now ≤ most_spaces }
     ensures said { header_said result ≡ record { algorithm = plan.now.algorithm; blocks = plan.now.blocks; salt = salt; spaces = map held_plan plans.now } }
+    ensures format { result.format ≡ 2 }
     ensures count { result.count ≤ most_spaces }
     ensures blocks { result.blocks ≡ plan.now.blocks }
 {

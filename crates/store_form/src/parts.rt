@@ -1,6 +1,7 @@
 // A store at rest is taken apart.
-ghost use Rattle.std.specs.Prelude.{◌≡◌};
+ghost use Rattle.std.specs.Prelude.{◌≡◌, ◌≤◌};
 ghost use Rattle.disk_model.specs.Past.{At};
+ghost use Rattle.store_files.specs.Header.{most_spaces};
 ghost use Rattle.store_form.specs.Rest.{IsRestForm, ReadsAtRest};
 ghost use Rattle.store_form.specs.Said.{header_said};
 
@@ -24,6 +25,8 @@ impl<D: Disk + Drop> AtRest<D> {
     pub fn into_parts(self) -> RestParts<D>
         ensures disk { result.disk ≡ self.disk }
         ensures header { header_said result.header ≡ self.header }
+        ensures format { result.header.format ≡ 2 }
+        ensures count { result.header.count ≤ most_spaces }
         ensures spaces { result.spaces ≡ self.spaces }
         ensures homes { result.homes ≡ self.homes }
         ensures next { result.next ≡ self.next }

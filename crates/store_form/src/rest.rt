@@ -32,7 +32,7 @@ impl<D: Disk + Drop> Model for AtRest<D> {
 
     ghost view = { λ s. record { disk = s.disk; header = header_said s.header; spaces = s.spaces; homes = s.homes; next = s.next; sequence = s.sequence } };
 
-    ghost invariant = { λ s. IsStoreAtRest D.past (record { disk = s.disk; header = header_said s.header; spaces = s.spaces; homes = s.homes; next = s.next; sequence = s.sequence }) };
+    ghost invariant = { λ s. IsStoreAtRest D.past s.header (record { disk = s.disk; header = header_said s.header; spaces = s.spaces; homes = s.homes; next = s.next; sequence = s.sequence }) };
 }
 
 impl<D: Disk + Drop> AtRest<D> {
@@ -41,6 +41,7 @@ impl<D: Disk + Drop> AtRest<D> {
     ghost use Rattle.cause_core.specs.Cause.{HasCauseOf};
     ghost use Rattle.disk_model.specs.Past.{At};
     ghost use Rattle.page_places.specs.Texts.{page_bytes};
+    ghost use Rattle.store_files.specs.Header.{most_spaces};
     ghost use Rattle.crash_image.specs.Rest.{IsAtRest};
     ghost use Rattle.store_files.specs.Pages.{has_page, pages_of};
     ghost use Rattle.store_form.specs.Contents.{IsReadOfPage};
@@ -50,8 +51,8 @@ impl<D: Disk + Drop> AtRest<D> {
     ghost use Rattle.store_form.specs.Said.{header_said};
     ghost use Rattle.store_form.specs.declared.fault.RestFault.TheVariants.{DiskFault, OutOfMemory};
 
-    /// The store of a disk that reads as these say. `next` is the next block's number, that of the
-    /// newest checkpoint, and `sequence` the checkpoint's.
+    /// The store of a disk that reads as these say, with a header of format 2. `next` is the next
+    /// block's number, that of the newest checkpoint, and `sequence` the checkpoint's.
     pub fn new(
         disk: D,
         header: Header,
@@ -60,6 +61,8 @@ impl<D: Disk + Drop> AtRest<D> {
         next: u64,
         sequence: u64,
     ) -> AtRest<D>
+        requires format { header.format ≡ 2 }
+        requires count { header.count ≤ most_spaces }
         requires form { IsRestForm (header_said header) spaces homes next sequence }
         requires reads { At (ReadsAtRest (header_said header) spaces homes next sequence) (D.past disk) }
         ensures disk { result.disk ≡ disk }

@@ -74,6 +74,7 @@ fn draw_store<R: Rng>(
     ensures spaces { IfOk result (λ made. made.spaces ≡ spaces_made plan.now (R.stream rng.old)) }
     ensures homes { IfOk result (λ made. made.homes ≡ homes_made (spaces_made plan.now (R.stream rng.old))) }
     ensures can { IfOk result (λ made. CanBeMade (header_made plan.now (R.stream rng.old)) (spaces_made plan.now (R.stream rng.old))) }
+    ensures format { IfOk result (λ made. made.header.format ≡ 2) }
     ensures count { IfOk result (λ made. made.header.count ≤ most_spaces) }
     ensures blocks { IfOk result (λ made. made.header.blocks ≡ plan.now.blocks) }
     ensures few { IfOk result (λ made. length made.spaces ≡ length plan.now.spaces) }
@@ -137,6 +138,8 @@ pub(crate) fn make_store<D: Disk, R: Rng>(
     ensures header { IfOk result (λ made. header_said made.header ≡ header_made plan.now (R.stream rng.old)) }
     ensures spaces { IfOk result (λ made. made.spaces ≡ spaces_made plan.now (R.stream rng.old)) }
     ensures homes { IfOk result (λ made. made.homes ≡ homes_made (spaces_made plan.now (R.stream rng.old))) }
+    ensures format { IfOk result (λ made. made.header.format ≡ 2) }
+    ensures count { IfOk result (λ made. made.header.count ≤ most_spaces) }
     ensures can { OnOk result (CanBeMade (header_made plan.now (R.stream rng.old)) (spaces_made plan.now (R.stream rng.old))) }
     ensures none { OnOk result (At (λ es. first_file_there (in_id_order plan.now.spaces) es ≡ None) (D.past disk.old)) }
     ensures keys { OnOk result (HasNeededKeys ring.now plan.now.active plan.now.spaces) }
