@@ -11,3 +11,4 @@ pub mod HeldPages
 pub mod ToldLaws
 pub mod CheckpointLaws
 pub mod LogWrites
+pub mod SpaceEdits

@@ -18,8 +18,8 @@ use Rattle.session_core.specs.Stops.{device_fault, up_or_refused}
 use Rattle.session_core.specs.declared.fault.EngineFault.{EngineFault}
 
 -- the session with no pending block and all entries acknowledged
-abbrev pub synced : {D : Type 0} → Running D → Counted D → Running D
-synced r disk = record r { disk = disk; log = written_out r.log; acked = length r.journal }
+abbrev pub synced_session : {D : Type 0} → Running D → Counted D → Running D
+synced_session r disk = record r { disk = disk; log = written_out r.log; acked = length r.journal }
 
 -- the past once the pending blocks were written, in order, and the log was synced where there was one
 abbrev pub written_past : LogState → Past → Past

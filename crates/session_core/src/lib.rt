@@ -24,6 +24,7 @@ mod fetching;
 mod journal;
 mod keys;
 mod missing;
+mod naming;
 mod options;
 mod reading;
 mod session;

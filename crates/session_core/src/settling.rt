@@ -9,7 +9,7 @@ ghost use Rattle.redo_log.specs.Events.{block_batch};
 ghost use Rattle.redo_log.specs.Log.{IsOpen, handed_over, pending_count, written_out};
 ghost use Rattle.store_image.specs.View.{block_bytes};
 ghost use Rattle.session_core.specs.Files.{HasStoreFiles, IsStopOf};
-ghost use Rattle.session_core.specs.Syncing.{IsStopBesideTurns, IsSyncRefusal, IsSyncedInPart, synced, synced_past, written_past};
+ghost use Rattle.session_core.specs.Syncing.{IsStopBesideTurns, IsSyncRefusal, IsSyncedInPart, synced_session, synced_past, written_past};
 
 use crate::stopping::fault_of;
 use crate::tablespaces::Tablespaces;
@@ -65,7 +65,7 @@ impl<D: Disk + Drop> SessionCore<D> {
     /// Does what [`SessionCore::sync`] does, for a session whose disk wasn't stopped.
     pub(crate) fn settle(&mut self) -> Result<u64, EngineFault>
         requires up { self.old.disk.stop ≡ None }
-        ensures synced { OnOk result (self.new ≡ synced self.old self.new.disk) }
+        ensures synced { OnOk result (self.new ≡ synced_session self.old self.new.disk) }
         ensures count { IfOk result (λ count. count ≡ length self.old.journal) }
         ensures exact { OnOk result (D.past self.new.disk.disk ≡ synced_past self.old.log (length self.old.journal) (D.past self.old.disk.disk)) }
         ensures refused { IfErr result (IsSyncedInPart D.past self.old self.new) }
@@ -89,7 +89,7 @@ impl<D: Disk + Drop> SessionCore<D> {
     /// was stopped in this call. Some of the blocks may then be on the disk, and they stay pending; or all
     /// are durable, and the mark may be there.
     pub fn sync(&mut self) -> Result<u64, EngineFault>
-        ensures synced { OnOk result (self.new ≡ synced self.old self.new.disk) }
+        ensures synced { OnOk result (self.new ≡ synced_session self.old self.new.disk) }
         ensures count { IfOk result (λ count. count ≡ length self.old.journal) }
         ensures exact { OnOk result (D.past self.new.disk.disk ≡ synced_past self.old.log (length self.old.journal) (D.past self.old.disk.disk)) }
         ensures refused { IfErr result (IsSyncRefusal D.past self.old self.new) }
