@@ -24,3 +24,4 @@ pub mod RunsPassed
 pub mod RunsApplied
 pub mod OtherHomes
 pub mod DuePages
+pub mod RoundPages
