@@ -25,3 +25,4 @@ pub mod RunsApplied
 pub mod OtherHomes
 pub mod DuePages
 pub mod RoundPages
+pub mod SpaceSteps

@@ -51,6 +51,7 @@ mod rounds;
 mod run_text;
 mod sealing;
 mod space_list;
+mod space_rounds;
 
 pub use applying::apply_run;
 pub use changes::{PageLsns, RunChanges, SpaceLsns, find_changes};
@@ -72,6 +73,7 @@ pub use round::apply_round;
 pub use round_loading::load_round;
 pub use rounds::{Round, next_range};
 pub use sealing::{SealKey, seal_range};
+pub use space_rounds::apply_space;
 
 #[cfg(test)]
 mod fixture;
