@@ -26,3 +26,4 @@ pub mod OtherHomes
 pub mod DuePages
 pub mod RoundPages
 pub mod SpaceSteps
+pub mod OpenRefusals

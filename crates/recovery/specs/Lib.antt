@@ -17,3 +17,4 @@ pub mod RunText
 pub mod Changes
 pub mod Passed
 pub mod Due
+pub mod Looking

@@ -16,6 +16,9 @@
 //! 8. [`check_floors`] refuses the first space whose least version is above the active one, and
 //!    [`check_numbers`] a log whose numbers end before the store could go on.
 //!
+//! [`look`] is these steps, one after another: what it is refused for is the refusal of the first step
+//! that doesn't find what it looks for.
+//!
 //! Behind them stand the parts that write to homes: [`restore_homes`] writes the torn ones from
 //! their copies, and [`put_group`] a group of sealed pages. Each lucky image of each moment of theirs
 //! recovers to what was opened.
@@ -40,6 +43,7 @@ mod keys;
 mod layout;
 mod lengths;
 mod loading;
+mod looking;
 mod notes;
 mod pages;
 mod putting;
@@ -65,6 +69,7 @@ pub use heads::find_heads;
 pub use keys::check_keys;
 pub use lengths::check_lengths;
 pub use loading::{Loaded, load_pages};
+pub use looking::{Analysis, look};
 pub use notes::{NoteSource, PageNote, PageNotes, SpaceNotes};
 pub use pages::find_pages;
 pub use putting::put_group;
