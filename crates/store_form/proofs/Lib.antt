@@ -7,6 +7,7 @@ pub mod FirstPages
 pub mod RestPages
 pub mod PageContents
 pub mod HeaderWrites
+pub mod HomeWrites
 pub mod CreationSteps
 pub mod SettledFiles
 pub mod ZeroPlaces

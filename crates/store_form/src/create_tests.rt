@@ -1,6 +1,6 @@
 // A store of 32 ring blocks and one space, 5, of 4 pages, ciphered under key 1, salts of bytes 11 hex,
 // is created. The checksums are those of a CRC-32C bit by bit.
-ghost use Rattle.std.specs.Prelude.{◌≡◌, ◌<◌, ◌≤◌, ◌+◌, ◌∷◌, [], IfOk, length, replicate};
+ghost use Rattle.std.specs.Prelude.{◌≡◌, ◌<◌, ◌≤◌, ◌+◌, ◌∷◌, [], IfOk, length, replicate, true};
 ghost use Rattle.store_form.specs.Plan.{IsCreatable};
 
 use crate::{CreateFault, SpacePlan, SpacePlans, StorePlan, create};
@@ -14,7 +14,7 @@ use std::test::Fail;
 
 // A generator of bytes 11 hex.
 #[derive(Drop)]
-struct Elevens;
+pub(crate) struct Elevens;
 
 impl Rng for Elevens {
     ghost stream = { λ _. record { u32_after = λ _. 286331153; u64_after = λ _. 1229782938247303441; bytes_after = λ _ n. replicate n 17 } };
@@ -35,8 +35,9 @@ impl Rng for Elevens {
     }
 }
 
-fn plan_of(alloc: Global, algorithm: Algorithm) -> Result<StorePlan, AllocError>
-    ensures { IfOk result IsCreatable }
+pub(crate) fn plan_of(alloc: Global, algorithm: Algorithm) -> Result<StorePlan, AllocError>
+    ensures can { IfOk result IsCreatable }
+    ensures spaces { IfOk result (λ plan. plan.spaces ≡ record { space = 5; pages = 4; key_id = 1; ciphered = true } ∷ []) }
 {
     let mut plans = Vec::new(alloc);
     plans.push(SpacePlan {

@@ -49,6 +49,8 @@ pub use rest::AtRest;
 #[cfg(test)]
 mod create_tests;
 #[cfg(test)]
+mod home_tests;
+#[cfg(test)]
 mod page_tests;
 #[cfg(test)]
 mod tests;

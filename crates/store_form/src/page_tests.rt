@@ -24,7 +24,7 @@ fn space_5() -> SpaceInfo {
 }
 
 // The text of page 3 of space 5 with type 0 and a body of bytes 41.
-fn write_text(rt: &impl Abort, page: &mut [u8], local: Option<PageKey>)
+pub(crate) fn write_text(rt: &impl Abort, page: &mut [u8], local: Option<PageKey>)
     requires { length page.old ≡ 16384 }
 {
     page.fill(0x41);
@@ -56,7 +56,7 @@ fn write_text(rt: &impl Abort, page: &mut [u8], local: Option<PageKey>)
     }
 }
 
-fn key_of_one(ring: &Ring) -> Option<PageKey> {
+pub(crate) fn key_of_one(ring: &Ring) -> Option<PageKey> {
     let local = ring.local(1, 1, &[0x11; 16])?;
     Some(PageKey {
         local,
@@ -64,7 +64,7 @@ fn key_of_one(ring: &Ring) -> Option<PageKey> {
     })
 }
 
-fn ring_of_one(rt: &HostRuntime) -> Result<Ring, Fail> {
+pub(crate) fn ring_of_one(rt: &HostRuntime) -> Result<Ring, Fail> {
     let mut ring = Ring::new(rt.alloc());
     if ring.add(1, 1, &[7; 16]).is_err() {
         return Err(Fail::new("no key"));

@@ -66,7 +66,7 @@ pub fn read_home<D: Disk>(
     }
 }
 
-fn are_zero(bytes: &[u8]) -> bool
+pub(crate) fn are_zero(bytes: &[u8]) -> bool
     ensures yes { result ≡ true → All (λ byte. byte ≡ 0) bytes.now }
     ensures no { All (λ byte. byte ≡ 0) bytes.now → result ≡ true }
 {
