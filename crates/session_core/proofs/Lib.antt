@@ -11,3 +11,5 @@ pub mod HeldPages
 pub mod ToldLaws
 pub mod CheckpointLaws
 pub mod LogWrites
+pub mod CopyLaws
+pub mod TakeLaws

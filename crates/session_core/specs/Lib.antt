@@ -11,3 +11,4 @@ pub mod Reading
 pub mod Activating
 pub mod Syncing
 pub mod Checking
+pub mod Taking
