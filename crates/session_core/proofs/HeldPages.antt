@@ -81,7 +81,7 @@ is_held_by s name page is = by (is_dirty name s.dirty) is
     by false at = ap is_some at
 
 -- a page more is held, and each other that is held was held
-admitted_held : (name other : PageName) (page held : PlainPage) (old : PoolState)
+pub admitted_held : (name other : PageName) (page held : PlainPage) (old : PoolState)
     → held_page other (record { dirty = old.dirty; clean = admitted name page (found_page name old).clean }) ≡ Some held → (held_page other old ≡ Some held) ⊎ ((name ≡ other) × (page ≡ held))
 admitted_held name other page held old is = by (is_dirty other old.dirty) is
   where
