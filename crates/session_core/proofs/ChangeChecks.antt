@@ -1,5 +1,6 @@
 -- What is checked of a mini-transaction before it is entered: its pages, its ranges and its numbers.
-use Rattle.std.proofs.Common.{◌≡◌, ◌≢◌, ℕ, ◌+◌, ◌<◌, ◌≤◌, ◌&&◌, Bool, true, false, true≢false, eq-eqb, nat_eq, nat_le, nat_lt, not, if◌then◌else◌, List, [], ◌∷◌, length, Option, Some, None, refl, sym, ap, ◌∙◌, subst, arith}
+use Rattle.std.proofs.Common.{◌≡◌, ◌≢◌, ℕ, ◌+◌, ◌<◌, ◌≤◌, ◌&&◌, Bool, true, false, true≢false, eq-eqb, nat_eq, nat_le, nat_lt, not, if◌then◌else◌, List, [], ◌∷◌, length, Option, Some, None, Result, Ok, Err, refl, sym, ap, ◌∙◌, subst, arith}
+use Rattle.std.specs.Prelude.{IfErr}
 use Rattle.std.proofs.lemmas.Bool.{and_parts}
 use Rattle.std.proofs.lemmas.Bool.Decides.{nat_tests}
 use Rattle.std.proofs.lemmas.Option.{none-some}
@@ -14,6 +15,8 @@ use Rattle.store_files.specs.Header.{HeldSpace}
 use Rattle.store_files.specs.Pages.{has_page}
 use Rattle.session_core.specs.Committing.{AreOfPages, AreSized, first_bad_range, first_missing_page, is_body_range}
 use Rattle.session_core.specs.Spaces.{HaveLists, is_page}
+use Rattle.session_core.specs.declared.fault.EngineFault.{EngineFault}
+use Rattle.session_core.specs.declared.fault.EngineFault.TheVariants.{BadRange, NoSuchPage}
 
 -- a choice that is none takes the first branch
 none_left : {A : Type 0} (b : Bool) (x : A) → (if b then None else Some x) ≡ None → b ≡ true
@@ -146,3 +149,32 @@ module _ (hs : List HeldSpace) (ss : List SpaceInfo) (os : List (List Home)) (ha
   all_of_store (Touch s page ∷ cs) of_pages there = absurd of_pages.0
   all_of_store (Floor s version ∷ cs) of_pages there = absurd of_pages.0
   all_of_store (Encrypt s ∷ cs) of_pages there = absurd of_pages.0
+
+-- ---- of one change, by what is checked of its page or its range
+
+pub put_missing : {T : Type 0} (spaces : List SpaceInfo) (c : Change) (s p at : ℕ) (bytes : List ℕ) (result : Result T EngineFault) → c ≡ Put s p at bytes → IfErr result (λ e. (is_page spaces s p ≡ false) × (e ≡ NoSuchPage s p))
+    → IfErr result (λ e. (name : PageName) × (first_missing_page spaces (c ∷ []) ≡ Some name) × (e ≡ NoSuchPage name.space name.page))
+put_missing spaces c s p at bytes (Ok v) is refused = tt
+put_missing spaces c s p at bytes (Err e) is (none, same) =
+    let name : PageName = record { space = s; page = p } in
+    (name, ap (λ (x : Change). first_missing_page spaces (x ∷ [])) is ∙ ap (λ (b : Bool). if b then None else Some name) none, same)
+
+pub kind_missing : {T : Type 0} (spaces : List SpaceInfo) (c : Change) (s p kind : ℕ) (result : Result T EngineFault) → c ≡ Kind s p kind → IfErr result (λ e. (is_page spaces s p ≡ false) × (e ≡ NoSuchPage s p))
+    → IfErr result (λ e. (name : PageName) × (first_missing_page spaces (c ∷ []) ≡ Some name) × (e ≡ NoSuchPage name.space name.page))
+kind_missing spaces c s p kind (Ok v) is refused = tt
+kind_missing spaces c s p kind (Err e) is (none, same) =
+    let name : PageName = record { space = s; page = p } in
+    (name, ap (λ (x : Change). first_missing_page spaces (x ∷ [])) is ∙ ap (λ (b : Bool). if b then None else Some name) none, same)
+
+abbrev bad_range : ℕ → List ℕ → ℕ × ℕ
+bad_range at bytes = (at, length bytes)
+
+pub put_unfit : {T : Type 0} (c : Change) (s p at : ℕ) (bytes : List ℕ) (result : Result T EngineFault) → c ≡ Put s p at bytes → IfErr result (λ e. (e ≡ BadRange at (length bytes)) × (IsRange at (length bytes) → ⊥))
+    → IfErr result (λ e. (r : ℕ × ℕ) × (first_bad_range (c ∷ []) ≡ Some r) × (e ≡ BadRange r.0 r.1))
+put_unfit c s p at bytes (Ok v) is refused = tt
+put_unfit c s p at bytes (Err e) is (same, no_range) =
+    (bad_range at bytes, ap (λ (x : Change). first_bad_range (x ∷ [])) is ∙ by (is_body_range at (length bytes)) refl, same)
+  where
+    by : (b : Bool) → is_body_range at (length bytes) ≡ b → (if b then None else Some (bad_range at bytes)) ≡ Some (bad_range at bytes)
+    by true test = absurd (no_range (body_range at (length bytes) test))
+    by false test = refl

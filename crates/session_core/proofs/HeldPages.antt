@@ -52,7 +52,7 @@ found_apart name other s apart = by (lookup_entry (is_name name) s.clean) refl
         let differs : is_name other e.0 ≡ false = subst (λ (x : PageName). is_name other x ≡ false) here (name_back name other apart) in
         ap (λ (b : Bool). cond b (Some e.1) (lookup (is_name other) (remove_entry (is_name name) s.clean))) differs ∙ lookup_other name other s.clean apart
 
-found_clean : (name other : PageName) (s : PoolState) → lookup (is_name other) (found_page name s).clean ≡ lookup (is_name other) s.clean
+pub found_clean : (name other : PageName) (s : PoolState) → lookup (is_name other) (found_page name s).clean ≡ lookup (is_name other) s.clean
 found_clean name other s = by (is_name name other) refl
   where
     by : (b : Bool) → is_name name other ≡ b → lookup (is_name other) (found_page name s).clean ≡ lookup (is_name other) s.clean

@@ -1,23 +1,34 @@
 -- Pages that are looked for one after another: each is held or unused once all were looked for, since none of the first 64 clean pages is dropped.
-use Rattle.std.proofs.Common.{◌≡◌, ◌≢◌, ◌⊎◌, ℕ, zero, suc, ◌+◌, ◌<◌, ◌≤◌, Bool, true, false, true≢false, cond, ◌||◌, if◌then◌else◌, is_some, List, [], ◌∷◌, ◌++◌, length, take, Option, Some, None, refl, sym, ap, ◌∙◌, subst, inl, inr, arith}
+use Rattle.std.proofs.Common.{◌≡◌, ◌≢◌, ◌⊎◌, ℕ, zero, suc, ◌+◌, ◌<◌, ◌≤◌, Bool, true, false, true≢false, cond, ◌||◌, if◌then◌else◌, is_some, List, [], ◌∷◌, ◌++◌, get_or, length, take, Option, Some, None, Result, Ok, Err, OnOk, refl, sym, ap, ◌∙◌, subst, inl, inr, arith}
+use Rattle.std.specs.Prelude.{IfErr}
 use Rattle.std.specs.Map.{lookup, lookup_entry, remove_entry}
 use Rattle.std.specs.Option.{option_map, option_map_or}
 use Rattle.std.proofs.lemmas.Bool.Decides.{nat_tests}
+use Rattle.std.proofs.lemmas.List.{take_all}
 use Rattle.std.proofs.lemmas.Option.{none-some, same_Some}
+use Rattle.byte_list.specs.Fields.{be16_at}
+use Rattle.counted_disk.specs.declared.counted.Counted.{Counted}
 use Rattle.disk_model.specs.Past.{Past}
 use Rattle.key_ring.specs.Ring.{RingEntry}
 use Rattle.lru.proofs.Pairs.{lookup-lookup_entry}
 use Rattle.lru.specs.LruCache.{promoted}
+use Rattle.page_places.specs.Texts.{page_type_at}
 use Rattle.page_pool.proofs.Cleans.{absent_entry, absent_lookup, same_name}
 use Rattle.page_pool.specs.Changes.{admitted, found_page, name_page, page_of_change}
-use Rattle.page_pool.specs.Pages.{DirtyList, PoolState, held_page, is_dirty, is_held, is_name}
+use Rattle.page_pool.specs.Pages.{DirtyList, PoolState, held_page, is_dirty, is_held, is_name, plain_page}
 use Rattle.page_pool.specs.declared.names.PageName.{PageName}
+use Rattle.page_text.specs.declared.fault.OpenFault.TheVariants.{WrongKind}
 use Rattle.redo_text.specs.declared.change.Change.{Change}
+use Rattle.space_head.specs.declared.space.Home.{Home}
 use Rattle.space_head.specs.declared.space.Home.TheVariants.{Unused}
+use Rattle.space_head.specs.declared.space.SpaceInfo.{SpaceInfo}
 use Rattle.store_model.specs.declared.contents.PlainPage.{PlainPage}
-use Rattle.session_core.specs.Holding.{AreAtHand, HoldsNamed, IsAtHand, IsTakenFromHome, LooksFor, MeetsPage, NotUsed, Taken, Was}
-use Rattle.session_core.specs.Spaces.{StoreSpaces, home_in}
-use Rattle.session_core.proofs.HeldPages.{admitted_held, held_found_all}
+use Rattle.session_core.specs.Holding.{AreAtHand, HoldsNamed, IsAtHand, IsTakeFault, IsTakenFromHome, LooksFor, MeetsPage, NoHead, NotUsed, Taken, Was}
+use Rattle.session_core.specs.Reading.{IsHomeRead}
+use Rattle.session_core.specs.Spaces.{StoreSpaces, home_in, space_with_id}
+use Rattle.session_core.specs.declared.fault.EngineFault.{EngineFault}
+use Rattle.session_core.specs.declared.fault.EngineFault.TheVariants.{Damaged}
+use Rattle.session_core.proofs.HeldPages.{admitted_held, found_clean, held_found_all}
 
 -- the page of a name is among the first so many clean ones
 abbrev pub is_front : PageName → ℕ → List (PageName × PlainPage) → Bool
@@ -153,7 +164,7 @@ module _ (ring : List RingEntry) (store : StoreSpaces) (past : Past) where
   pub meets_dirty : (name : PageName) (old new : PoolState) → MeetsPage ring store past name old new → new.dirty ≡ old.dirty
   meets_dirty name old new (Was held is) = ap (λ (s : PoolState). s.dirty) is
   meets_dirty name old new (NotUsed apart some unused is) = ap (λ (s : PoolState). s.dirty) is
-  meets_dirty name old new (Taken page apart taken is) = ap (λ (s : PoolState). s.dirty) is
+  meets_dirty name old new (Taken page apart far taken is) = ap (λ (s : PoolState). s.dirty) is
 
   pub looks_none : (cs : List Change) (pool : PoolState) → LooksFor ring store past cs pool pool
   looks_none cs pool = record { dirty = refl; pages = λ name page is. inl is }
@@ -171,7 +182,7 @@ module _ (ring : List RingEntry) (store : StoreSpaces) (past : Past) where
       by : (other : PageName) (page : PlainPage) → MeetsPage ring store past name mid new → held_page other new ≡ Some page → (held_page other old ≡ Some page) ⊎ ((name_page cs other ≡ true) × (is_dirty other old.dirty ≡ false) × IsTakenFromHome ring store past other page)
       by other page (Was held same) is = was_found other page same is
       by other page (NotUsed apart some unused same) is = was_found other page same is
-      by other page (Taken read apart taken same) is = at (admitted_held name other read page mid (ap (λ (s : PoolState). held_page other s) (sym same) ∙ is))
+      by other page (Taken read apart far taken same) is = at (admitted_held name other read page mid (ap (λ (s : PoolState). held_page other s) (sym same) ∙ is))
         where
           clean : is_dirty name old.dirty ≡ false
           clean = ap (is_dirty name) (sym looks.dirty) ∙ not_dirty (is_dirty name mid.dirty) (is_some (lookup (is_name name) mid.clean)) apart
@@ -189,7 +200,7 @@ module _ (ring : List RingEntry) (store : StoreSpaces) (past : Past) where
       by (inl dirty) = inl dirty
       by (inr clean) = inr (inl (first_found name b old.clean clean))
   near_met b name old new (NotUsed apart some unused same) = inr (inr (some, unused))
-  near_met b name old new (Taken page apart taken same) =
+  near_met b name old new (Taken page apart far taken same) =
       subst (IsNear store (suc b) name) (sym same) (inr (inl (ap (λ (t : Bool). is_some (cond t (Some page) (lookup (is_name name) (take b (take 63 (found_page name old).clean))))) (name_itself name))))
 
   -- and each other that was near is near still
@@ -198,7 +209,7 @@ module _ (ring : List RingEntry) (store : StoreSpaces) (past : Past) where
   near_kept b name other old new few meets (inr (inr unused)) = inr (inr unused)
   near_kept b name other old new few (Was held same) (inr (inl front)) = inr (inl (ap (λ (s : PoolState). is_front other (suc b) s.clean) same ∙ front_found name other b old.clean front))
   near_kept b name other old new few (NotUsed apart some unused same) (inr (inl front)) = inr (inl (ap (λ (s : PoolState). is_front other (suc b) s.clean) same ∙ front_found name other b old.clean front))
-  near_kept b name other old new few (Taken page apart taken same) (inr (inl front)) =
+  near_kept b name other old new few (Taken page apart far taken same) (inr (inl front)) =
       let none : lookup (is_name name) old.clean ≡ None = absent_lookup (lookup (is_name name) old.clean) (behind (is_dirty name old.dirty) (is_some (lookup (is_name name) old.clean)) apart) in
       let entry : lookup_entry (is_name name) old.clean ≡ None = absent_entry (lookup_entry (is_name name) old.clean) (lookup-lookup_entry (is_name name) old.clean ∙ none) in
       let stays : (found_page name old).clean ≡ old.clean = ap (λ (o : Option (PageName × PlainPage)). option_map_or (λ e. e ∷ remove_entry (is_name name) old.clean) o old.clean) entry in
@@ -221,3 +232,86 @@ named_more (d ∷ cs) c name = by (is_name name (page_of_change d)) (named_more 
     by : (a : Bool) → name_page (cs ++ c ∷ []) name ≡ (name_page cs name || is_name name (page_of_change c)) → (a || name_page (cs ++ c ∷ []) name) ≡ ((a || name_page cs name) || is_name name (page_of_change c))
     by true later = refl
     by false later = later
+
+-- a page that was read from its home is taken from it, once page 0 has its type
+module _ (ring : List RingEntry) (store : StoreSpaces) (past : Past) (name : PageName) (info : SpaceInfo) (left : List ℕ) (was : Home) (result : Result (Unit {0}) EngineFault) where
+  pub taken_home : space_with_id store.spaces name.space ≡ Some info → IsHomeRead ring store.header.algorithm info name.page past left (Ok was) → OnOk result (name.page ≡ 0 → be16_at left page_type_at ≡ 8)
+      → OnOk result (IsTakenFromHome ring store past name (plain_page left))
+  unfolding plain_page
+  taken_home found read head = by result head
+    where
+      kind : (name.page ≡ 0 → be16_at left page_type_at ≡ 8) → name.page ≡ 0 → (plain_page left).kind ≡ 8
+      kind h first = h first
+
+      by : (r : Result (Unit {0}) EngineFault) → OnOk r (name.page ≡ 0 → be16_at left page_type_at ≡ 8) → OnOk r (IsTakenFromHome ring store past name (plain_page left))
+      by (Ok done) h = record { info = info; left = left; was = was; is = found; read = read; gives = refl; head = kind h }
+      by (Err e) h = tt
+
+  pub head_refused : {D : Type 0} (disk : Counted D) → disk.stop ≡ None → space_with_id store.spaces name.space ≡ Some info → IsHomeRead ring store.header.algorithm info name.page past left (Ok was)
+      → IfErr result (λ e. (name.page ≡ 0) × (be16_at left page_type_at ≢ 8) × (e ≡ Damaged name.space 0 (WrongKind (be16_at left page_type_at) 0))) → IfErr result (IsTakeFault ring store past name disk)
+  head_refused {D} disk up found read refused = by result refused
+    where
+      by : (r : Result (Unit {0}) EngineFault) → IfErr r (λ e. (name.page ≡ 0) × (be16_at left page_type_at ≢ 8) × (e ≡ Damaged name.space 0 (WrongKind (be16_at left page_type_at) 0))) → IfErr r (IsTakeFault ring store past name disk)
+      by (Ok done) h = tt
+      by (Err e) (first, other, same) = subst (IsTakeFault ring store past name disk) (sym same) (NoHead info left was up first found read other)
+
+-- a page that changes name, by its place
+pub named_at : (cs : List Change) (i : ℕ) (c : Change) → i < length cs → c ≡ get_or cs i c → name_page cs (page_of_change c) ≡ true
+named_at [] i c lt is = absurd (omega (arith, lt))
+named_at (d ∷ cs) zero c lt is = first_of_two (is_name (page_of_change c) (page_of_change d)) (name_page cs (page_of_change c)) (ap (λ (x : Change). is_name (page_of_change c) (page_of_change x)) (sym is) ∙ name_itself (page_of_change c))
+named_at (d ∷ cs) (suc i) c lt is = second_of_two (is_name (page_of_change c) (page_of_change d)) (name_page cs (page_of_change c)) (named_at cs i c (omega (arith, lt)) is)
+
+module _ (ring : List RingEntry) (store : StoreSpaces) (past : Past) where
+  -- a page that was only found changes nothing of what was looked for
+  pub looks_found : (cs : List Change) (name : PageName) (old mid new : PoolState) → new ≡ found_page name mid → LooksFor ring store past cs old mid → LooksFor ring store past cs old new
+  looks_found cs name old mid new same looks = record {
+    dirty = ap (λ (s : PoolState). s.dirty) same ∙ looks.dirty;
+    pages = λ other page is. looks.pages other page (sym (held_found_all name other mid) ∙ ap (λ (s : PoolState). held_page other s) (sym same) ∙ is);
+  }
+
+  -- once all are near they are held, or unused
+  pub all_held : (cs : List Change) (i : ℕ) (old new : PoolState) → length cs ≤ i → LooksFor ring store past cs old new → ((name : PageName) → name_page (take i cs) name ≡ true → IsNear store i name new) → HoldsNamed ring store past cs old new
+  all_held cs i old new end looks near = record {
+    looks = looks;
+    named = λ name named. near_at_hand ring store past i name new (near name (ap (λ (l : List Change). name_page l name) (take_all i cs end) ∙ named));
+  }
+
+-- the changes up to one place more
+take_next : (cs : List Change) (i : ℕ) (c : Change) → i < length cs → c ≡ get_or cs i c → take (suc i) cs ≡ take i cs ++ c ∷ []
+take_next [] i c lt is = absurd (omega (arith, lt))
+take_next (d ∷ cs) zero c lt is = ap (λ (x : Change). x ∷ []) (sym is)
+take_next (d ∷ cs) (suc i) c lt is = ap (λ (l : List Change). d ∷ l) (take_next cs i c (omega (arith, lt)) is)
+
+held_same : (name other : PageName) (s : PoolState) → is_held other (found_page name s) ≡ is_held other s
+held_same name other s = ap (λ (o : Option PlainPage). is_dirty other s.dirty || is_some o) (found_clean name other s)
+
+pub hand_same : (store : StoreSpaces) (name : PageName) (a b : PoolState) → is_held name a ≡ is_held name b → IsAtHand store name b → IsAtHand store name a
+hand_same store name a b same (inl held) = inl (same ∙ held)
+hand_same store name a b same (inr unused) = inr unused
+
+module _ (ring : List RingEntry) (store : StoreSpaces) (past : Past) where
+  -- where a page is at hand, the same pages are held behind it
+  pub held_met : (name other : PageName) (old new : PoolState) → IsAtHand store name old → MeetsPage ring store past name old new → is_held other new ≡ is_held other old
+  held_met name other old new hand (Was held same) = ap (is_held other) same ∙ held_same name other old
+  held_met name other old new hand (NotUsed apart some unused same) = ap (is_held other) same ∙ held_same name other old
+  held_met name other old new hand (Taken page apart far taken same) = absurd (far hand)
+
+  -- the pages up to the next one are near
+  pub near_next : (cs : List Change) (i : ℕ) (c : Change) (name : PageName) (old new : PoolState) → i < length cs → length cs ≤ 64 → c ≡ get_or cs i c → name ≡ page_of_change c → MeetsPage ring store past name old new
+      → ((other : PageName) → name_page (take i cs) other ≡ true → IsNear store i other old) → (other : PageName) → name_page (take (i + 1) cs) other ≡ true → IsNear store (i + 1) other new
+  near_next cs i c name old new lt few is own meets near other named =
+      let one : suc i ≡ i + 1 = omega arith in
+      let split : name_page (take (i + 1) cs) other ≡ (name_page (take i cs) other || is_name other (page_of_change c)) =
+      ap (λ (k : ℕ). name_page (take k cs) other) (sym one) ∙ ap (λ (l : List Change). name_page l other) (take_next cs i c lt is) ∙ named_more (take i cs) c other in
+      subst (λ (k : ℕ). IsNear store k other new) one (by (either (name_page (take i cs) other) (is_name other (page_of_change c)) (sym split ∙ named)))
+    where
+      by : (name_page (take i cs) other ≡ true) ⊎ (is_name other (page_of_change c) ≡ true) → IsNear store (suc i) other new
+      by (inl before) = near_kept ring store past i name other old new (omega (arith, lt, few)) meets (near other before)
+      by (inr here) =
+          let same : name ≡ other = own ∙ sym (same_name other (page_of_change c) here) in
+          subst (λ (n : PageName). IsNear store (suc i) n new) same (near_met ring store past i name old new meets)
+
+-- a page that isn't held, and isn't a new one, isn't at hand
+pub far_away : (store : StoreSpaces) (name : PageName) (pool : PoolState) (new : Bool) → is_held name pool ≡ false → new ≡ false → (name.page ≢ 0 → home_in store name.space name.page ≡ Unused → new ≡ true) → IsAtHand store name pool → ⊥
+far_away store name pool new apart not_new tells (inl held) = true≢false (sym held ∙ apart)
+far_away store name pool new apart not_new tells (inr (some, unused)) = true≢false (sym (tells some unused) ∙ not_new)

@@ -53,7 +53,7 @@ module _ (ring : List RingEntry) (store : StoreSpaces) (past : Past) where
   pub data MeetsPage (name : PageName) (old new : PoolState) : Type 0 where
     Was : is_held name old ≡ true → new ≡ found_page name old → MeetsPage name old new
     NotUsed : is_held name old ≡ false → name.page ≢ 0 → home_in store name.space name.page ≡ Unused → new ≡ found_page name old → MeetsPage name old new
-    Taken : (page : PlainPage) → is_held name old ≡ false → IsTakenFromHome name page → new ≡ record { dirty = old.dirty; clean = admitted name page (found_page name old).clean } → MeetsPage name old new
+    Taken : (page : PlainPage) → is_held name old ≡ false → (IsAtHand store name old → ⊥) → IsTakenFromHome name page → new ≡ record { dirty = old.dirty; clean = admitted name page (found_page name old).clean } → MeetsPage name old new
 
   module _ {D : Type 0} (name : PageName) (disk : Counted D) where
     -- Why a page isn't taken from its home: the home isn't read, or gives a page 0 of another type than 8.

@@ -150,6 +150,7 @@ fn hold_each<D: Disk + Drop>(
     ensures past { D.past disk.new.disk ≡ D.past disk.old.disk }
     ensures later { D.is_later disk.old.disk disk.new.disk × IsCounted (count_of D.past D.faults D.memory_refusals disk.old) (count_of D.past D.faults D.memory_refusals disk.new) }
 {
+    let _spaces = store.spaces();
     for change in changes {
         hold_page(disk, keys, store, pool, name_of(change), into)?;
     }
