@@ -87,7 +87,7 @@ pub fn apply_space<D: Disk>(
     ensures later { D.is_later disk.old disk.new }
     ensures cause { HasCauseOf DiskFault (D.faults disk.old) (D.faults disk.new) result }
     ensures memory { D.memory_refusals disk.old ≤ D.memory_refusals disk.new }
-    ensures no_fault { OnOk result (D.faults disk.new ≡ D.faults disk.old) }
+    ensures no_fault { (IsErrOf result DiskFault → ⊥) → D.faults disk.new ≡ D.faults disk.old }
     ensures no_refusal { OnOk result (D.memory_refusals disk.new ≡ D.memory_refusals disk.old) }
 {
     let mut next = batch;

@@ -122,7 +122,7 @@ loop-start-preserved g c =
       spaces = λ y count file. c.in_ok-number.ensures.spaces y count (c.loop-start.invariant.spaces y count file);
       log = λ n file. c.in_ok-number.ensures.log n (c.loop-start.invariant.log n file);
       says = says_still (header_said c.args.header.now) ring c.args.from (c.args.run.now.last + 1) z start end cur new c.in_ok-number.ensures.beside c.loop-start.invariant.says;
-      faults = c.in_ok-number.ensures.no_fault ∙ c.loop-start.invariant.faults;
+      faults = search rules;
       memory = c.in_ok-number.ensures.no_refusal ∙ c.loop-start.invariant.memory;
       later = g.met.D.Disk.is_later_transitive _ _ _ c.loop-start.invariant.later c.in_ok-number.ensures.later;
     }
