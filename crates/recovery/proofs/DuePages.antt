@@ -134,7 +134,7 @@ typed_meant header keys salts s p t (Head info) (at_zero, space, typed, own) = i
 
 -- ---- a page of the store
 
-abbrev text_lsn : Option Text → ℕ
+abbrev pub text_lsn : Option Text → ℕ
 text_lsn (Some t) = t.lsn
 text_lsn None = 0
 
@@ -177,7 +177,7 @@ module _ (o : StoreOpened) (number : ℕ) (entry : List Event) (opened : IsOpene
       one : (b : Option Text) → IsChosen (disk_view entry) s p b → b ≡ a
       one b own = chosen_one v s p b a (chosen_in b own) chosen
 
-      lsn_noted : note.lsn ≡ text_lsn a
+      pub lsn_noted : note.lsn ≡ text_lsn a
       lsn_noted = by note.source is.source
         where
           by : (x : NoteSource) → IsSourceOf entry s p note.lsn x → note.lsn ≡ text_lsn a

@@ -26,4 +26,6 @@ pub mod OtherHomes
 pub mod DuePages
 pub mod RoundPages
 pub mod SpaceSteps
+pub mod SpacesFound
+pub mod SpacesApplied
 pub mod OpenRefusals
