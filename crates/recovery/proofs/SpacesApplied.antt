@@ -41,6 +41,10 @@ use Rattle.recovery.proofs.PutGroups.{from_start}
 use Rattle.recovery.proofs.SpaceSteps.{told_now}
 use Rattle.recovery.proofs.SpacesFound.{apart, for_space, has_pages, later_noted, long, noted, space_of}
 
+-- what is said of a space, and of its pages, by equal ones
+pub by_parts : (R : SpaceInfo → List PageNote → List ℕ → Type 0) (a b : SpaceInfo) (m n : List PageNote) (k l : List ℕ) → a ≡ b → m ≡ n → k ≡ l → R a m k → R b n l
+by_parts R a b m n k l info notes last is = subst (λ (x : SpaceInfo). R x n l) info (subst (λ (x : List PageNote). R a x l) notes (subst (λ (x : List ℕ). R a m x) last is))
+
 -- ---- files
 
 -- the files of the spaces are there still

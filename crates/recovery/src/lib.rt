@@ -28,6 +28,7 @@
 //! [`apply_run`] makes the run's changes there, with [`apply_text`] for each mini-transaction, both
 //! together [`load_round`];
 //! [`seal_range`] seals pages of it, and [`write_group`] puts a group of them, [`write_groups`] all of a range.
+//! [`apply_round`] does all of a round, [`apply_space`] of a space, and [`apply_spaces`] of all of them.
 #![tactic(auto)]
 
 mod applying;

@@ -61,6 +61,14 @@ fn seal_key_of(
     Some(SealKey { version, key })
 }
 
+// The space at this place.
+fn info_at(found: &Analysis, i: usize) -> SpaceInfo
+    requires { i < length found.now.changes.spaces }
+    ensures { result ≡ space_at found.now.changes.spaces i }
+{
+    *found.changes.spaces.get(i)
+}
+
 // Applies the run's later changes to the pages of the space at this place.
 fn apply_listed<D: Disk>(
     alloc: Global,
@@ -90,26 +98,21 @@ fn apply_listed<D: Disk>(
     ensures no_fault { (IsErrOf result DiskFault → ⊥) → D.faults disk.new ≡ D.faults disk.old }
     ensures no_refusal { OnOk result (D.memory_refusals disk.new ≡ D.memory_refusals disk.old) }
 {
-    let info = &found.changes.spaces.as_slice()[i];
-    let Some(under) = seal_key_of(ring, found.header.algorithm, active, info) else {
+    let info = info_at(found, i);
+    let notes = found.notes.get(i);
+    let last = found.changes.last.get(i).as_slice();
+    let Some(under) = seal_key_of(ring, found.header.algorithm, active, &info) else {
         return Err(OpenRefuse::MissingKey {
             id: info.key_id,
             version: active,
         });
     };
+    let from = found.checkpoint.from;
+    let count = info.pages;
+    let header = &found.header;
+    let run = &found.run;
     apply_space(
-        alloc,
-        disk,
-        ring,
-        &found.header,
-        found.checkpoint.from,
-        &found.run,
-        info,
-        info.pages,
-        found.notes.get(i),
-        found.changes.last.get(i).as_slice(),
-        &under,
-        batch,
+        alloc, disk, ring, header, from, run, &info, count, notes, last, &under, batch,
     )
 }
 
