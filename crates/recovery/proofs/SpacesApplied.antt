@@ -1,5 +1,6 @@
 -- The spaces of a store that is opened are applied one after another.
-use Rattle.std.proofs.Common.{◌≡◌, ◌≢◌, ◌⊎◌, inl, inr, ⊎_elim, ℕ, ◌+◌, ◌<◌, ◌≤◌, true, MatchBool, List, [], length, slice_index_or, Result, Some, None, refl, sym, ap, subst, ◌∙◌, arith}
+use Rattle.std.proofs.Common.{◌≡◌, ◌≢◌, ◌⊎◌, inl, inr, ⊎_elim, ℕ, ◌+◌, ◌<◌, ◌≤◌, true, MatchBool, List, [], length, slice_index_or, Result, Ok, Err, Some, None, refl, sym, ap, subst, ◌∙◌, arith}
+use Rattle.std.specs.Prelude.{IfErr}
 use Rattle.std.proofs.lemmas.Bool.{cases_lt}
 use Rattle.std.proofs.lemmas.Option.{none-some, same_Some}
 use Rattle.aes_core.specs.declared.algorithm.Algorithm.{Algorithm}
@@ -44,6 +45,10 @@ use Rattle.recovery.proofs.SpacesFound.{apart, for_space, has_pages, later_noted
 -- what is said of a space, and of its pages, by equal ones
 pub by_parts : (R : SpaceInfo → List PageNote → List ℕ → Type 0) (a b : SpaceInfo) (m n : List PageNote) (k l : List ℕ) → a ≡ b → m ≡ n → k ≡ l → R a m k → R b n l
 by_parts R a b m n k l info notes last is = subst (λ (x : SpaceInfo). R x n l) info (subst (λ (x : List PageNote). R a x l) notes (subst (λ (x : List ℕ). R a m x) last is))
+
+pub if_err : {T X : Type 0} (P Q : X → Type 0) (result : Result T X) → ((x : X) → P x → Q x) → IfErr result P → IfErr result Q
+if_err P Q (Ok v) goes is = tt
+if_err P Q (Err x) goes is = goes x is
 
 -- ---- files
 

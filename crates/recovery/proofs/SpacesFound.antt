@@ -4,6 +4,7 @@ use Rattle.std.specs.List.{All}
 use Rattle.std.specs.Option.{option_map}
 use Rattle.std.proofs.lemmas.Bool.{and_parts}
 use Rattle.std.proofs.lemmas.Bool.Decides.{nat_tests}
+use Rattle.std.proofs.lemmas.Option.{none-some}
 use Rattle.aes_core.specs.Cipher.{encrypted}
 use Rattle.aes_core.specs.declared.algorithm.Algorithm.{Algorithm}
 use Rattle.disk_model.specs.Event.{Event, reads}
@@ -11,10 +12,11 @@ use Rattle.disk_model.specs.declared.names.FileName.TheVariants.{Log}
 use Rattle.doublewrite.specs.Restore.{AreSpacesApart, no_space, space_at}
 use Rattle.key_ring.specs.Local.{local_key}
 use Rattle.key_ring.specs.Ring.{RingEntry, pairs_of, ring_key}
+use Rattle.page_text.specs.declared.key.PageKey.{PageKey}
 use Rattle.redo_text.specs.declared.change.Change.{Change}
 use Rattle.space_head.specs.declared.space.SpaceInfo.{SpaceInfo}
 use Rattle.store_files.specs.Header.{HeldHeader, HeldSpace, are_in_order}
-use Rattle.store_files.specs.Pages.{Head, Page, has_page, is_ciphered, key_at, key_id_of, mtr_names, page_in, pages_of, salts_of}
+use Rattle.store_files.specs.Pages.{HasKeyBytes, Head, Page, has_page, is_ciphered, key_at, key_id_of, mtr_names, page_in, pages_of, salts_of}
 use Rattle.store_files.proofs.HeaderBounds.{limits}
 use Rattle.store_form.specs.Said.{header_said}
 use Rattle.store_image.specs.Opening.{HasLater}
@@ -31,7 +33,7 @@ use Rattle.recovery.specs.Loading.{page_key_in}
 use Rattle.recovery.specs.Looking.{FitsTogether}
 use Rattle.recovery.specs.Notes.{AreNotesOf, AreSpaceNotes, IsNoteOf, no_note}
 use Rattle.recovery.specs.SpaceList.{held_at, no_held}
-use Rattle.recovery.specs.Spaces.{IsFoundOf, IsSealKeyOf, last_in, later_in, seal_version}
+use Rattle.recovery.specs.Spaces.{IsFoundOf, IsSealKeyOf, LacksSealKey, last_in, later_in, seal_version}
 use Rattle.recovery.specs.Walks.{AllHave}
 use Rattle.recovery.specs.declared.looking.Analysis.{Analysis}
 use Rattle.recovery.specs.declared.notes.PageNote.{PageNote}
@@ -62,6 +64,32 @@ pub no_key_at_0 : (ring : List RingEntry) (algorithm : Algorithm) (info : SpaceI
 no_key_at_0 ring algorithm info version all none =
     ap (λ (v : ℕ). page_key_in ring algorithm info v) none
     ∙ ap (λ (o : Option (List ℕ)). option_map (λ local. record { local = local; algorithm = algorithm }) (option_map (λ key. encrypted key info.salt) o)) (none_at_0 ring info.key_id all)
+
+module _ (ring : List RingEntry) (algorithm : Algorithm) (active : ℕ) (info : SpaceInfo) (all : All (λ p. 1 ≤ p.1) (pairs_of ring)) (version : ℕ) (version_is : version ≡ seal_version active info) where
+  value_is : page_key_in ring algorithm info version ≡ page_key_in ring algorithm info (seal_version active info)
+  value_is = ap (λ (v : ℕ). page_key_in ring algorithm info v) version_is
+
+  pub seal_in_clear : version ≡ 0 → IsSealKeyOf ring algorithm active info (record { version = version; key = None })
+  seal_in_clear none = record {
+    version_is = version_is;
+    key_is = sym (no_key_at_0 ring algorithm info version all none) ∙ value_is;
+    keyed = (λ is. absurd (none_some is), λ differ. absurd (differ none));
+    known = tt;
+  }
+    where
+      none_some : IsSome {A = PageKey} None → ⊥
+      none_some is = cc
+
+  pub seal_with : (key : PageKey) → Some key ≡ page_key_in ring algorithm info version → HasKeyBytes key → IsSealKeyOf ring algorithm active info (record { version = version; key = Some key })
+  seal_with key is known = record {
+    version_is = version_is;
+    key_is = is ∙ value_is;
+    keyed = (λ some. λ none. none-some key (sym (no_key_at_0 ring algorithm info version all none) ∙ sym is), λ differ. refl);
+    known = known;
+  }
+
+  pub seal_lacks : version ≢ 0 → None ≡ page_key_in ring algorithm info version → LacksSealKey ring algorithm active info
+  seal_lacks some is = record { some = λ none. some (version_is ∙ none); none = sym value_is ∙ sym is }
 
 -- ---- contents
 
@@ -161,8 +189,8 @@ module _ (active : ℕ) (found : Analysis) (fits : FitsTogether active found) wh
 -- ---- pages with later changes
 
 -- what all entries of a run have, the one that names a page has
-named_has : {P : ℕ → Type 0} (run before : List (Logged (List Change))) (entry : Logged (List Change)) (behind : List (Logged (List Change))) → run ≡ before ++ entry ∷ behind → AllHave (λ e. P e.lsn) run → P entry.lsn
-named_has {P = P} run before entry behind is all = walk before (subst (λ (r : List (Logged (List Change))). AllHave (λ e. P e.lsn) r) is all)
+named_has : (P : ℕ → Type 0) (run before : List (Logged (List Change))) (entry : Logged (List Change)) (behind : List (Logged (List Change))) → run ≡ before ++ entry ∷ behind → AllHave (λ e. P e.lsn) run → P entry.lsn
+named_has P run before entry behind is all = walk before (subst (λ (r : List (Logged (List Change))). AllHave (λ e. P e.lsn) r) is all)
   where
     walk : (bs : List (Logged (List Change))) → AllHave (λ e. P e.lsn) (bs ++ entry ∷ behind) → P entry.lsn
     walk [] all = all.0
@@ -181,7 +209,7 @@ module _ (o : StoreOpened) (number : ℕ) (entry : List Event) (opened : IsOpene
   some_lsn =
       let n = later.named in
       let all = entries_above o.header o.keys (reads Log entry) o.view.from o.view.run o.view.end opened.reading.run.entries in
-      subst (λ (k : ℕ). 0 < k) n.lsn_is (named_has {P = λ k. 0 < k} o.view.run n.before n.entry n.behind n.is all)
+      subst (λ (k : ℕ). 0 < k) n.lsn_is (named_has (λ k. 0 < k) o.view.run n.before n.entry n.behind n.is all)
 
   above_note : note.lsn < later.lsn
   above_note = let page = opened.recovers.pages s p here in by page.chosen page.is

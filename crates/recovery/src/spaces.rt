@@ -54,11 +54,16 @@ fn seal_key_of(
     // The ring has no version 0.
     let _count = ring.len();
     let version = seal_version(active, info);
-    let key = key_of(ring, algorithm, info, version);
-    if version != 0 && key.is_none() {
-        return None;
+    if version == 0 {
+        return Some(SealKey { version, key: None });
     }
-    Some(SealKey { version, key })
+    match key_of(ring, algorithm, info, version) {
+        Some(key) => Some(SealKey {
+            version,
+            key: Some(key),
+        }),
+        None => None,
+    }
 }
 
 // The space at this place.

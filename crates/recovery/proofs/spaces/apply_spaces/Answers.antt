@@ -46,7 +46,7 @@ returns-in_err-number-clause-applies g c = λ o number s b now own is due.
     let old = g.D.Disk.past c.args.disk.now in
     let cur = g.D.Disk.past c.loop-i.disk in
     let found = c.args.found.now in
-    let lt : c.loop-i.i < length found.changes.spaces = omega (arith, c.loop-i-test.true, c.len.ensures) in
+    let lt : c.loop-i.i < length found.changes.spaces = omega (arith, c.loop-i-test.true, c.len-i-end.ensures) in
     let so_far = c.loop-i.invariant.applies o number s b now own is due in
     let (m, told, round) = space_due o s found c.args.active number c.args.ring.now c.requires.fits own is c.loop-i.i lt b old cur now c.loop-i.invariant.beside so_far.at due in
     does_err _ _ c.from_residual.ensures.1
@@ -60,7 +60,7 @@ returns-in_err-number-clause-refused g c =
     let old = g.D.Disk.past c.args.disk.now in
     let found = c.args.found.now in
     let ring = c.args.ring.now in
-    let lt : c.loop-i.i < length found.changes.spaces = omega (arith, c.loop-i-test.true, c.len.ensures) in
+    let lt : c.loop-i.i < length found.changes.spaces = omega (arith, c.loop-i-test.true, c.len-i-end.ensures) in
     let why = c.in_err-number.field-0.0 in
     let is : IsErrAnd c.from_residual.result (λ e. e ≡ why) = search rules in
     handed (IsByPage (HasRefusedSpace ring c.args.active found) old) c.from_residual.result why is
@@ -75,7 +75,7 @@ loop-i-preserved g c =
     let ring = c.args.ring.now in
     let i = c.loop-i.i in
     let space = space_at found.changes.spaces i in
-    let lt : i < length found.changes.spaces = omega (arith, c.loop-i-test.true, c.len.ensures) in
+    let lt : i < length found.changes.spaces = omega (arith, c.loop-i-test.true, c.len-i-end.ensures) in
     record {
       applies = λ o number s b now own is due.
           let so_far = c.loop-i.invariant.applies o number s b now own is due in
@@ -99,17 +99,17 @@ pub returns-clause-applies : goal.returns-clause-applies
 returns-clause-applies g c = λ o number s b now own is due.
     let old = g.D.Disk.past c.args.disk.now in
     let found = c.args.found.now in
-    let le : length found.changes.spaces ≤ c.loop-i.i = omega (arith, c.loop-i-test.false, c.len.ensures) in
+    let le : length found.changes.spaces ≤ c.loop-i.i = omega (arith, c.loop-i-test.false, c.len-i-end.ensures) in
     so_far_done (store_done o s found c.args.active number c.args.ring.now c.requires.fits own is c.loop-i.i le b old now due) (c.loop-i.invariant.applies o number s b now own is due)
 
 pub returns-clause-recovers : goal.returns-clause-recovers
 returns-clause-recovers g c = λ o number s b now own is due. weaker (λ m may. groups_recover o number s due.opened m may) (returns-clause-applies g c o number s b now own is due).moments
 
 pub returns-clause-texts : goal.returns-clause-texts
-returns-clause-texts g c = λ i lt. c.loop-i.invariant.texts i (omega (arith, lt, c.loop-i-test.false, c.len.ensures))
+returns-clause-texts g c = λ i lt. c.loop-i.invariant.texts i (omega (arith, lt, c.loop-i-test.false, c.len-i-end.ensures))
 
 pub returns-clause-beside : goal.returns-clause-beside
 returns-clause-beside g c =
     let found = c.args.found.now in
-    let ended : c.loop-i.i ≡ length found.changes.spaces = omega (arith, c.loop-i-test.false, c.len.ensures, c.loop-i.auto.i-end) in
+    let ended : c.loop-i.i ≡ length found.changes.spaces = omega (arith, c.loop-i-test.false, c.len-i-end.ensures, c.loop-i.auto.i-end) in
     subst (λ (n : ℕ). LeavesSpacesSince found.changes.spaces n (g.D.Disk.past c.args.disk.now) (g.D.Disk.past c.loop-i.disk)) ended c.loop-i.invariant.beside
