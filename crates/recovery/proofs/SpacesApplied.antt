@@ -1,13 +1,12 @@
 -- The spaces of a store that is opened are applied one after another.
-use Rattle.std.proofs.Common.{◌≡◌, ◌≢◌, ◌⊎◌, inl, inr, ⊎_elim, ℕ, ◌+◌, ◌<◌, ◌≤◌, true, MatchBool, List, [], length, slice_index_or, Result, Ok, Err, Some, None, refl, sym, ap, subst, ◌∙◌, arith}
+use Rattle.std.proofs.Common.{◌≡◌, ◌⊎◌, inl, inr, ⊎_elim, ℕ, ◌+◌, ◌<◌, ◌≤◌, true, MatchBool, List, length, slice_index_or, Result, Ok, Err, Some, None, refl, sym, ap, subst, ◌∙◌, arith}
 use Rattle.std.specs.Prelude.{IfErr}
 use Rattle.std.proofs.lemmas.Bool.{cases_lt}
-use Rattle.std.proofs.lemmas.Option.{none-some, same_Some}
-use Rattle.aes_core.specs.declared.algorithm.Algorithm.{Algorithm}
-use Rattle.disk_model.specs.Does.{Does, IsOn, SoFar}
-use Rattle.disk_model.specs.Event.{Event, reads}
-use Rattle.disk_model.specs.Past.{Past, At, Later}
-use Rattle.disk_model.specs.declared.names.FileName.TheVariants.{Double, Log, Space}
+use Rattle.std.proofs.lemmas.Option.{same_Some}
+use Rattle.disk_model.specs.Does.{Does, SoFar}
+use Rattle.disk_model.specs.Event.{Event}
+use Rattle.disk_model.specs.Past.{Past, At}
+use Rattle.disk_model.specs.declared.names.FileName.TheVariants.{Space}
 use Rattle.disk_model.proofs.Layers.{lift, so_far_none}
 use Rattle.disk_model.proofs.Moments.{at_each}
 use Rattle.doublewrite.specs.Restore.{HaveFiles, space_at}
@@ -18,7 +17,7 @@ use Rattle.page_places.specs.Texts.{held, pages}
 use Rattle.places.specs.Batches.{From}
 use Rattle.places.specs.Places.{HasFile, shown}
 use Rattle.space_head.specs.declared.space.SpaceInfo.{SpaceInfo}
-use Rattle.store_files.specs.Header.{HeldHeader, HeldSpace}
+use Rattle.store_files.specs.Header.{HeldHeader}
 use Rattle.store_files.specs.Pages.{has_page, pages_of}
 use Rattle.store_form.specs.Said.{header_said}
 use Rattle.store_image.specs.Opening.{HasLater, IsDone}
@@ -26,20 +25,18 @@ use Rattle.store_model.specs.Fold.{used}
 use Rattle.crash_image.specs.Opened.{StoreOpened, opened_theory}
 use Rattle.recovery.specs.Changes.{IsLastChange}
 use Rattle.recovery.specs.Due.{HasRefusedPage, IsByPage, IsOpenedWith, IsRoundDue}
-use Rattle.recovery.specs.Groups.{AreDone, IsApplyEvent, IsRangeApplied, LeavesOthers, LeavesSince}
+use Rattle.recovery.specs.Groups.{AreDone, IsApplyEvent, IsRangeApplied, LeavesSince}
 use Rattle.recovery.specs.Keys.{notes_at}
 use Rattle.recovery.specs.Loading.{HasNoText, HaveTexts, IsHomeText, is_unread}
 use Rattle.recovery.specs.Looking.{FitsTogether}
 use Rattle.recovery.specs.Notes.{IsNoteOf, no_note}
 use Rattle.recovery.specs.Putting.{BetweenGroups, MayApplyGroups, opened_places}
-use Rattle.recovery.specs.SpaceList.{held_at}
-use Rattle.recovery.specs.Spaces.{AreAllApplied, AreSpacesApplied, ByKey, ByPage, HasRefusedSpace, HasTexts, IsFoundOf, IsSpaceFault, IsSpacesEvent, IsStoreApplied, IsStoreDue, LeavesSpaces, LeavesSpacesSince, last_in, later_in}
+use Rattle.recovery.specs.Spaces.{AreSpacesApplied, ByKey, ByPage, HasRefusedSpace, HasTexts, IsFoundOf, IsSpaceFault, IsSpacesEvent, IsStoreApplied, IsStoreDue, LeavesSpaces, LeavesSpacesSince, last_in, later_in}
 use Rattle.recovery.specs.declared.looking.Analysis.{Analysis}
 use Rattle.recovery.specs.declared.notes.PageNote.{PageNote}
 use Rattle.recovery.proofs.GroupSteps.{between_may}
 use Rattle.recovery.proofs.PlaceSteps.{place_found}
 use Rattle.recovery.proofs.PutGroups.{from_start}
-use Rattle.recovery.proofs.SpaceSteps.{told_now}
 use Rattle.recovery.proofs.SpacesFound.{apart, for_space, has_pages, later_noted, long, noted, space_of}
 
 -- what is said of a space, and of its pages, by equal ones

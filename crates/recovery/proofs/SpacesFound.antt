@@ -1,5 +1,5 @@
 -- What was found of the spaces of a store that is opened.
-use Rattle.std.proofs.Common.{◌≡◌, ◌≢◌, ℕ, zero, suc, ◌+◌, ◌<◌, ◌≤◌, Bool, true, false, nat_eq, nat_lt, ◌&&◌, ◌==◌, if◌then◌else◌, List, [], ◌∷◌, ◌++◌, length, map, slice_index_or, Option, Some, None, IsSome, refl, sym, ap, subst, ◌∙◌, arith}
+use Rattle.std.proofs.Common.{◌≡◌, ◌≢◌, ℕ, suc, ◌+◌, ◌<◌, ◌≤◌, Bool, true, false, nat_eq, nat_lt, ◌&&◌, ◌==◌, if◌then◌else◌, List, [], ◌∷◌, ◌++◌, length, slice_index_or, Option, Some, None, IsSome, refl, sym, ap, subst, ◌∙◌, arith}
 use Rattle.std.specs.List.{All}
 use Rattle.std.specs.Option.{option_map}
 use Rattle.std.proofs.lemmas.Bool.{and_parts}
@@ -16,11 +16,10 @@ use Rattle.page_text.specs.declared.key.PageKey.{PageKey}
 use Rattle.redo_text.specs.declared.change.Change.{Change}
 use Rattle.space_head.specs.declared.space.SpaceInfo.{SpaceInfo}
 use Rattle.store_files.specs.Header.{HeldHeader, HeldSpace, are_in_order}
-use Rattle.store_files.specs.Pages.{HasKeyBytes, Head, Page, has_page, is_ciphered, key_at, key_id_of, mtr_names, page_in, pages_of, salts_of}
+use Rattle.store_files.specs.Pages.{HasKeyBytes, Head, Page, has_page, is_ciphered, key_at, key_id_of, page_in, pages_of, salts_of}
 use Rattle.store_files.proofs.HeaderBounds.{limits}
 use Rattle.store_form.specs.Said.{header_said}
 use Rattle.store_image.specs.Opening.{HasLater}
-use Rattle.store_image.specs.Recovers.{Gives, IsNamedBy}
 use Rattle.store_image.specs.View.{IsChosen, Logged, Text}
 use Rattle.store_model.specs.declared.contents.SpaceContents.{SpaceContents}
 use Rattle.crash_image.specs.Opened.{IsOpenedAt, StoreOpened, opened_theory}
@@ -31,16 +30,16 @@ use Rattle.recovery.specs.Heads.{IsInfoFor}
 use Rattle.recovery.specs.Keys.{notes_at}
 use Rattle.recovery.specs.Loading.{page_key_in}
 use Rattle.recovery.specs.Looking.{FitsTogether}
-use Rattle.recovery.specs.Notes.{AreNotesOf, AreSpaceNotes, IsNoteOf, no_note}
+use Rattle.recovery.specs.Notes.{AreNotesOf, AreSpaceNotes, IsNoteOf}
 use Rattle.recovery.specs.SpaceList.{held_at, no_held}
-use Rattle.recovery.specs.Spaces.{IsFoundOf, IsSealKeyOf, LacksSealKey, last_in, later_in, seal_version}
+use Rattle.recovery.specs.Spaces.{IsFoundOf, IsSealKeyOf, LacksSealKey, last_in, seal_version}
 use Rattle.recovery.specs.Walks.{AllHave}
 use Rattle.recovery.specs.declared.looking.Analysis.{Analysis}
 use Rattle.recovery.specs.declared.notes.PageNote.{PageNote}
 use Rattle.recovery.specs.declared.sealing.SealKey.{SealKey}
-use Rattle.recovery.proofs.DuePages.{lsn_noted, text_lsn}
+use Rattle.recovery.proofs.DuePages.{lsn_noted}
 use Rattle.recovery.proofs.KeySteps.{pairs_long, pairs_nth}
-use Rattle.recovery.proofs.PlaceSteps.{one_place, place_found, place_has, place_some}
+use Rattle.recovery.proofs.PlaceSteps.{one_place, place_has, place_some}
 use Rattle.recovery.proofs.RunSteps.{entries_above}
 
 -- ---- keys
@@ -73,12 +72,13 @@ module _ (ring : List RingEntry) (algorithm : Algorithm) (active : ℕ) (info : 
   seal_in_clear none = record {
     version_is = version_is;
     key_is = sym (no_key_at_0 ring algorithm info version all none) ∙ value_is;
-    keyed = (λ is. absurd (none_some is), λ differ. absurd (differ none));
+    keyed = (λ is. absurd (by None refl is), λ differ. absurd (differ none));
     known = tt;
   }
     where
-      none_some : IsSome {A = PageKey} None → ⊥
-      none_some is = cc
+      by : (key : Option PageKey) → key ≡ None → IsSome key → ⊥
+      by None same is = cc
+      by (Some key) same is = none-some key (sym same)
 
   pub seal_with : (key : PageKey) → Some key ≡ page_key_in ring algorithm info version → HasKeyBytes key → IsSealKeyOf ring algorithm active info (record { version = version; key = Some key })
   seal_with key is known = record {

@@ -1,5 +1,5 @@
 -- The spaces of a store that is opened, applied one after another.
-use Rattle.std.specs.Prelude.{◌≡◌, ◌≢◌, ◌↔◌, ◌⊎◌, ℕ, ◌<◌, Bool, true, if◌then◌else◌, List, [], length, slice_index_or, Option, Some, None, IsSome, IfSome}
+use Rattle.std.specs.Prelude.{◌≡◌, ◌≢◌, ◌↔◌, ◌⊎◌, ℕ, ◌<◌, Bool, if◌then◌else◌, List, [], length, slice_index_or, Some, None, IsSome, IfSome}
 use Rattle.aes_core.specs.declared.algorithm.Algorithm.{Algorithm}
 use Rattle.disk_model.specs.Does.{IsOn}
 use Rattle.disk_model.specs.Event.{Event, reads}

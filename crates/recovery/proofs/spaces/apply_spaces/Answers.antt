@@ -1,4 +1,4 @@
-use Rattle.std.proofs.Common.{rules, ◌≡◌, ⊎_elim, ℕ, ◌+◌, ◌<◌, ◌≤◌, ◌∙◌, length, List, refl, sym, ap, subst, arith, IsErrAnd}
+use Rattle.std.proofs.Common.{rules, ◌≡◌, ⊎_elim, ℕ, ◌+◌, ◌<◌, ◌≤◌, ◌∙◌, length, refl, subst, arith, IsErrAnd}
 use Rattle.std.proofs.lemmas.Bool.{cases_lt}
 use Rattle.cause_core.proofs.Causes.{handed}
 use Rattle.disk_model.specs.Past.{At}
@@ -8,11 +8,11 @@ use Rattle.doublewrite.specs.Restore.{space_at}
 use Rattle.store_form.specs.Said.{header_said}
 use Rattle.recovery.specs.Due.{IsByPage}
 use Rattle.recovery.specs.Putting.{BetweenGroups}
-use Rattle.recovery.specs.Spaces.{HasRefusedSpace, HasTexts, IsStoreApplied, LeavesSpacesSince}
+use Rattle.recovery.specs.Spaces.{HasRefusedSpace, HasTexts, LeavesSpacesSince}
 use Rattle.recovery.proofs.PutGroups.{groups_recover}
 use Rattle.recovery.proofs.RoundPages.{at_moment}
 use Rattle.recovery.proofs.SpaceSteps.{says_still}
-use Rattle.recovery.proofs.SpacesApplied.{all_applied, by_space_back, files_now, leaves_space, leaves_spaces_none, space_due, spaces_none, spaces_then, store_done, texts_back}
+use Rattle.recovery.proofs.SpacesApplied.{by_space_back, files_now, leaves_space, leaves_spaces_none, space_due, spaces_none, spaces_then, store_done, texts_back}
 use Rattle.recovery.proofs.spaces.apply_spaces.Goals as goal
 
 pub loop-i-init : goal.loop-i-init

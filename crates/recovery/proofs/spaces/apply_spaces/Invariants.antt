@@ -1,4 +1,4 @@
-use Rattle.std.proofs.Common.{◌≡◌, ℕ, ◌+◌, ◌<◌, ◌≤◌, List, Some, length}
+use Rattle.std.proofs.Common.{◌≡◌, ℕ, ◌+◌, ◌<◌, List, Some}
 use Rattle.crash_image.specs.LogForm.{log_places}
 use Rattle.crash_image.specs.Opened.{StoreOpened}
 use Rattle.disk_model.specs.Does.{SoFar}

@@ -1,4 +1,4 @@
-use Rattle.std.proofs.Common.{◌≡◌, ◌∙◌}
+use Rattle.std.proofs.Common.{◌∙◌}
 use Rattle.std.proofs.lemmas.List.{get_or_default}
 use Rattle.doublewrite.specs.Restore.{no_space}
 use Rattle.recovery.proofs.spaces.info_at.Goals as goal

@@ -1,4 +1,3 @@
-use Rattle.std.proofs.Common.{◌≡◌, ◌≢◌}
 use Rattle.recovery.proofs.SpacesFound.{seal_in_clear, seal_lacks, seal_with}
 use Rattle.recovery.proofs.spaces.seal_key_of.Goals as goal
 
