@@ -1,5 +1,5 @@
 -- How a call of a session carries on what the type of its engine keeps.
-use Rattle.std.proofs.Common.{◌≡◌, ℕ, ◌+◌, ◌<◌, ◌≤◌, ⊎_elim, List, [], ◌∷◌, ◌++◌, length, Some, None, Result, Ok, Err, OnOk, OnErr, refl, sym, ap, subst, ◌∙◌, arith}
+use Rattle.std.proofs.Common.{◌≡◌, ℕ, ◌+◌, ◌<◌, ◌≤◌, inl, inr, ⊎_elim, List, [], ◌∷◌, ◌++◌, length, Some, None, Result, Ok, Err, OnOk, OnErr, refl, sym, ap, subst, ◌∙◌, arith}
 use Rattle.std.specs.List.{All}
 use Rattle.std.specs.Prelude.{IfErr}
 use Rattle.std.proofs.lemmas.Bool.{cases_eq, cases_lt}
@@ -15,19 +15,23 @@ use Rattle.disk_model.proofs.Moments.{and_then, at_each, at_last, begins, throug
 use Rattle.places.specs.Batches.{Batch}
 use Rattle.places.specs.Writes.{Done, Failed, IsPart, grows}
 use Rattle.redo_log.specs.Events.{block_batch, check_event, out_events, side_batch}
-use Rattle.redo_log.specs.Log.{IsOpen, pending_count, with_checkpoint, written_out}
+use Rattle.redo_log.specs.Log.{durable, pending_count}
 use Rattle.redo_log.specs.State.{LogState}
 use Rattle.redo_log.proofs.FitSteps.{same_next, with_checkpoint_same}
 use Rattle.redo_text.specs.declared.change.Change.{Change}
+use Rattle.session_core.specs.Checking.{kept_from, run_begin}
+use Rattle.session_core.specs.Files.{IsDiskRefusal}
 use Rattle.session_core.specs.Session.{IsSession, Running}
 use Rattle.session_core.specs.Syncing.{IsStopBesideTurns, IsSyncRefusal, IsSyncedInPart, synced_past, synced_session, written_past}
 use Rattle.session_core.specs.Syncing as syncing
+use Rattle.session_core.proofs.CheckpointLaws.{block_high, block_low}
 use Rattle.session_core.specs.declared.fault.EngineFault.{EngineFault}
 use Rattle.session_image.specs.Kept.{AllImagesStand, SessionStore}
 use Rattle.store_image.specs.View.{Logged, block_bytes}
 use Rattle.engine_core.specs.Engine.{EngineState, IsEngine, IsStarted}
 use Rattle.engine_core.specs.Journal.{journal_of}
 use Rattle.engine_core.specs.Kept.{BeginsAt, BeginsRecordAt, IsReadySession, KeepsRecord}
+use Rattle.engine_core.proofs.Moves.{check_part, check_whole}
 use Rattle.engine_core.proofs.Outs.{acks, out, out_part, out_whole}
 use Rattle.engine_core.proofs.Ready.{IsMoment, moment_as, moment_of, record_at, stands_at}
 use Rattle.engine_core.proofs.Stretches.{at_told, none_told}
@@ -168,3 +172,110 @@ module _ {D : Type 0} (past : D → Past) (faults refusals : D → ℕ) (is_late
       by : IsSyncRefusal past old new e → IsKept new
       by (syncing.Stopped why same) = unchanged same kept
       by (syncing.InPart runs part) = within runs part
+
+  -- ---- a checkpoint
+
+  abbrev f : ℕ
+  f = run_begin old
+
+  abbrev sequence : ℕ
+  sequence = old.log.sequence + 1
+
+  module _ (session : IsSession past old) (least : All (λ d. f ≤ d.first) old.pool.dirty.entries) where
+    low : old.log.from ≤ f
+    low = block_low old.log session.numbers old.pool.dirty.entries session.dirty.within
+
+    high : f ≤ durable old.log
+    high = block_high old.log session.numbers old.pool.dirty.entries session.dirty.within session.dirty.pending least
+
+    module _ (above : old.log.from < f) where
+      checked_goes : new ≡ kept_from old f new.disk → behind ≡ grow (Sync Log) (grow (check_event sequence f) before) → (store : SessionStore) (kept : Type 0) → At (IsReadySession store kept old) before → Goes store kept
+      checked_goes is exact store kept at = by before refl at
+        where
+          by : (h : Past) → before ≡ h → At (IsReadySession store kept old) h → Goes store kept
+          by None none known =
+              let same : behind ≡ None = exact ∙ ap (λ (a : Past). grow (Sync Log) (grow (check_event sequence f) a)) none in record {
+            moments = subst (λ (a : Past). Throughout (IsMoment store kept old) a behind) (sym none) (subst (λ (b : Past). Throughout (IsMoment store kept old) None b) (sym same) none_told);
+            then = λ up. record { here = λ es told. absurd (none-some es (sym same ∙ told)) };
+          }
+          by (Some s) some known =
+              let ready = known.here s refl in
+              let both = check_whole store kept old s ready session.spaces.have session.dirty.marks least session.numbers (blocks_same session store kept s ready) above high new.disk in
+              let done = Sync Log ∷ (check_event sequence f ∷ s) in
+              let same : behind ≡ Some done = exact ∙ ap (λ (a : Past). grow (Sync Log) (grow (check_event sequence f) a)) some in
+              record {
+                moments = subst (λ (a : Past). Throughout (IsMoment store kept old) a behind) (sym some) (subst (λ (b : Past). Throughout (IsMoment store kept old) (Some s) b) (sym same) both.1);
+                then = λ up. subst (At (IsReadySession store kept new)) (sym same) (at_told done (subst (λ (r : Running D). IsReadySession store kept r done) (sym is) both.0));
+              }
+
+      stopped_goes : (s : Stop) → new.disk.stop ≡ Some s → IsPart Log block_bytes (side_batch sequence f) 1 before behind → (store : SessionStore) (kept : Type 0) → At (IsReadySession store kept old) before → Goes store kept
+      stopped_goes stop stopped part store kept at = record { moments = by before refl at; then = λ up. absurd (none-some stop (sym up ∙ stopped)) }
+        where
+          by : (h : Past) → before ≡ h → At (IsReadySession store kept old) h → Throughout (IsMoment store kept old) before behind
+          by None none known =
+              let same : behind ≡ None = part_untold behind (subst (λ (a : Past). IsPart Log block_bytes (side_batch sequence f) 1 a behind) none part) in
+              subst (λ (a : Past). Throughout (IsMoment store kept old) a behind) (sym none) (subst (λ (b : Past). Throughout (IsMoment store kept old) None b) (sym same) none_told)
+          by (Some s) some known =
+              let ready = known.here s refl in
+              subst (λ (a : Past). Throughout (IsMoment store kept old) a behind) (sym some)
+              (check_part store kept old s ready session.spaces.have session.dirty.marks least session.numbers (blocks_same session store kept s ready) above high behind (subst (λ (a : Past). IsPart Log block_bytes (side_batch sequence f) 1 a behind) some part))
+
+  -- what a checkpoint leaves of an engine
+  pub checkpoint_keeps : {X : Type 0} (result : Result X EngineFault) → IsSession past old → IsKept old → is_later old.disk.disk new.disk.disk → IsCounted (count_of past faults refusals old.disk) (count_of past faults refusals new.disk)
+      → (old.disk.stop ≡ None → All (λ d. f ≤ d.first) old.pool.dirty.entries) → OnOk result (old.disk.stop ≡ None) → OnOk result (new ≡ kept_from old f new.disk) → (f ≡ old.log.from → new.disk ≡ old.disk)
+      → (old.log.from < f → OnOk result (behind ≡ grow (Sync Log) (grow (check_event sequence f) before))) → OnErr result (IsPart Log block_bytes (side_batch sequence f) 1 before behind)
+      → OnErr result (new ≡ record old { disk = new.disk }) → IfErr result (IsDiskRefusal old.disk new.disk) → IsKept new
+  checkpoint_keeps (Ok n) session kept later counts least up is still exact part same refused =
+      ⊎_elim (λ (above : old.log.from < f). call_keeps kept up later counts (ap (λ (r : Running D). journal_of r) is) (ap (λ (r : Running D). r.log.next) is ∙ sym (same_next old.log f)) (checked_goes session (least up) above is (exact above)))
+      (λ (below : f ≤ old.log.from).
+      let from = low session (least up) in
+      let equal : f ≡ old.log.from = omega (arith, below, from) in
+      unchanged (is ∙ stays equal) kept)
+      (cases_lt old.log.from f)
+    where
+      stays : f ≡ old.log.from → kept_from old f new.disk ≡ old
+      stays equal =
+          let disk = still equal in
+          let log = with_checkpoint_same old.log f equal in
+          λ i. record old { disk = disk i; log = sym log i }
+  checkpoint_keeps (Err e) session kept later counts least up is still exact part same refused = by refused
+    where
+      by : IsDiskRefusal old.disk new.disk e → IsKept new
+      by (inl (why, disk)) = unchanged (same ∙ (λ i. record old { disk = disk i })) kept
+      by (inr (runs, stop, stopped, fault)) =
+          ⊎_elim (λ (above : old.log.from < f). call_keeps kept runs later counts (ap (λ (r : Running D). journal_of r) same) (ap (λ (r : Running D). r.log.next) same) (stopped_goes session (least runs) above stop stopped part))
+          (λ (below : f ≤ old.log.from).
+          let from = low session (least runs) in
+          let equal : f ≡ old.log.from = omega (arith, below, from) in
+          absurd (none-some stop (sym runs ∙ sym (ap (λ (c : Counted D). c.stop) (still equal)) ∙ stopped)))
+          (cases_lt old.log.from f)
+
+  -- ---- another active version
+
+  pub activate_keeps : (version : ℕ) → new ≡ record old { active = version } → IsKept old → IsKept new
+  activate_keeps version is kept = subst IsKept (sym is) (record {
+    started = kept.started;
+    later = kept.later;
+    counted = kept.counted;
+    images = kept.images;
+    recorded = kept.recorded;
+    ready = λ up store begun. at_each (λ es x. ready_as store _ es x) (kept.ready up store begun);
+  })
+    where
+      ready_as : (store : SessionStore) (k : Type 0) (es : List Event) → IsReadySession store k old es → IsReadySession store k (record old { active = version }) es
+      ready_as store k es x = record {
+        header = x.header;
+        of_book = x.of_book;
+        named = x.named;
+        session = x.session;
+        ring = x.ring;
+        ready = x.ready;
+        fits = x.fits;
+        start = x.start;
+        journal = x.journal;
+        next = x.next;
+        dirty = x.dirty;
+        holds = x.holds;
+        heads = x.heads;
+        recorded = x.recorded;
+      }

@@ -16,6 +16,8 @@
 //! They hold after Ok and after each refusal, and for each moment inside a call.
 #![tactic(auto)]
 
+mod activating;
+mod checkpoints;
 mod engine;
 mod syncing;
 
