@@ -81,6 +81,13 @@ impl SpaceLsns {
         self.items[page]
     }
 
+    /// All of them.
+    pub fn as_slice(&self) -> &[u64]
+        ensures { result.now ≡ self.now }
+    {
+        &self.items
+    }
+
     // Puts another one at this page.
     fn set(&mut self, page: usize, lsn: u64)
         requires { page < length self.old }

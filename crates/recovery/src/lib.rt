@@ -56,6 +56,7 @@ mod run_text;
 mod sealing;
 mod space_list;
 mod space_rounds;
+mod spaces;
 
 pub use applying::apply_run;
 pub use changes::{PageLsns, RunChanges, SpaceLsns, find_changes};
@@ -79,6 +80,7 @@ pub use round_loading::load_round;
 pub use rounds::{Round, next_range};
 pub use sealing::{SealKey, seal_range};
 pub use space_rounds::apply_space;
+pub use spaces::apply_spaces;
 
 #[cfg(test)]
 mod fixture;
