@@ -19,8 +19,10 @@
 mod activating;
 mod checkpoints;
 mod closing;
+mod committing;
 mod fault;
 mod fetching;
+mod holding;
 mod journal;
 mod keys;
 mod missing;
