@@ -1,5 +1,5 @@
 -- What the type of an engine keeps, as the engine begins.
-use Rattle.std.proofs.Common.{◌≡◌, ℕ, List, ◌∷◌, Some, None, refl, sym, subst}
+use Rattle.std.proofs.Common.{◌≡◌, ℕ, List, ◌∷◌, Some, None, refl, sym, subst, ◌∙◌}
 use Rattle.std.proofs.lemmas.Option.{none-some, same_Some}
 use Rattle.counted_disk.specs.Counting.{counts_none}
 use Rattle.counted_disk.specs.declared.counted.Counted.{Counted}

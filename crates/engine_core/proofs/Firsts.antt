@@ -61,11 +61,11 @@ head_is store s bytes c info mode long (Means means) says =
 -- how many pages a space has
 count_above : (spaces : List HeldSpace) (s p : ℕ) → has_page spaces s p ≡ true → p < page_count spaces s
 count_above [] s p there = absurd (cc)
-count_above (x ∷ xs) s p there = by (nat_eq x.space s) there
+count_above (x ∷ xs) s p there = by (nat_eq x.space s) (count_above xs s p) there
   where
-    by : (b : Bool) → (if b then nat_lt p x.pages else has_page xs s p) ≡ true → p < (if b then x.pages else page_count xs s)
-    by true lt = grind (arith, nat_tests)
-    by false later = count_above xs s p later
+    by : (b : Bool) → (has_page xs s p ≡ true → p < page_count xs s) → (if b then nat_lt p x.pages else has_page xs s p) ≡ true → p < (if b then x.pages else page_count xs s)
+    by true behind lt = grind (arith, nat_tests)
+    by false behind later = behind later
 
 -- ---- the first moment
 

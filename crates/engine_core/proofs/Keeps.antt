@@ -33,7 +33,7 @@ use Rattle.engine_core.specs.Journal.{journal_of}
 use Rattle.engine_core.specs.Kept.{BeginsAt, BeginsRecordAt, IsReadySession, KeepsRecord}
 use Rattle.engine_core.proofs.Moves.{check_part, check_whole}
 use Rattle.engine_core.proofs.Outs.{acks, out, out_part, out_whole}
-use Rattle.engine_core.proofs.Ready.{IsMoment, moment_as, moment_of, record_at, stands_at}
+use Rattle.engine_core.proofs.Ready.{IsMoment, moment_as, moment_of, ready_with, record_at, stands_at}
 use Rattle.engine_core.proofs.Stretches.{at_told, none_told}
 
 -- a part of nothing that is told is nothing
@@ -76,7 +76,7 @@ module _ {D : Type 0} (past : D → Past) (faults refusals : D → ℕ) (is_late
     ready = λ still store begun. (goes store _ (kept.ready up store begun)).then still;
   }
     where
-      abbrev Stand : SessionStore → List (Logged (List Change)) → ℕ → Type 0
+      Stand : SessionStore → List (Logged (List Change)) → ℕ → Type 0
       Stand store l n = Throughout (AllImagesStand store l n) start behind
 
       images : (store : SessionStore) → At (BeginsAt store first) start → Stand store (journal_of new) new.log.next
@@ -114,7 +114,8 @@ module _ {D : Type 0} (past : D → Past) (faults refusals : D → ℕ) (is_late
             let mid = out_events (pending_count old.log) old.log ++ s in
             let same : behind ≡ Some (mark ∷ mid) = exact ∙ ap (synced_past old.log (length old.journal)) some in
             let acked : IsReadySession store kept (out store kept old) (mark ∷ mid) = acks store kept (out store kept old) mid both.0 (omega arith) in
-            let told : IsReadySession store kept new (mark ∷ mid) = subst (λ (r : Running D). IsReadySession store kept r (mark ∷ mid)) (sym is) acked in
+            let told : IsReadySession store kept new (mark ∷ mid) = subst (λ (r : Running D). IsReadySession store kept r (mark ∷ mid)) (sym is)
+            (ready_with store kept (out store kept old) (mark ∷ mid) new.disk old.active old.age (length old.journal) old.batch acked) in
             let all : Throughout (IsMoment store kept old) (Some s) (Some (mark ∷ mid)) =
             throughout_grows (IsMoment store kept old) (Some s) (Some mid) mark both.1 (at_told (mark ∷ mid) (told_moment store kept (mark ∷ mid) acked)) in
             record {
@@ -166,7 +167,7 @@ module _ {D : Type 0} (past : D → Past) (faults refusals : D → ℕ) (is_late
       within : old.disk.stop ≡ None → IsSyncedInPart past old new e → IsKept new
       within runs (syncing.Unwritten (s, stopped, fault) same part) =
           call_keeps kept runs later counts (ap (λ (r : Running D). journal_of r) same) (ap (λ (r : Running D). r.log.next) same) (unwritten_goes session s stopped part)
-      within runs (syncing.Untold (s, stopped, rest) same may) =
+      within runs (syncing.Untold (s, stopped, beside, fault) same may) =
           call_keeps kept runs later counts (ap (λ (r : Running D). journal_of r) same) (ap (λ (r : Running D). r.log.next) same) (untold_goes session s stopped may)
 
       by : IsSyncRefusal past old new e → IsKept new
@@ -242,7 +243,7 @@ module _ {D : Type 0} (past : D → Past) (faults refusals : D → ℕ) (is_late
     where
       by : IsDiskRefusal old.disk new.disk e → IsKept new
       by (inl (why, disk)) = unchanged (same ∙ (λ i. record old { disk = disk i })) kept
-      by (inr (runs, stop, stopped, fault)) =
+      by (inr (runs, (stop, stopped, fault))) =
           ⊎_elim (λ (above : old.log.from < f). call_keeps kept runs later counts (ap (λ (r : Running D). journal_of r) same) (ap (λ (r : Running D). r.log.next) same) (stopped_goes session (least runs) above stop stopped part))
           (λ (below : f ≤ old.log.from).
           let from = low session (least runs) in
@@ -252,30 +253,13 @@ module _ {D : Type 0} (past : D → Past) (faults refusals : D → ℕ) (is_late
 
   -- ---- another active version
 
-  pub activate_keeps : (version : ℕ) → new ≡ record old { active = version } → IsKept old → IsKept new
-  activate_keeps version is kept = subst IsKept (sym is) (record {
+  pub activate_keeps : {T X : Type 0} (result : Result T X) (version : ℕ) → OnOk result (new ≡ record old { active = version }) → OnErr result (new ≡ old) → IsKept old → IsKept new
+  activate_keeps (Err e) version is same kept = unchanged same kept
+  activate_keeps (Ok v) version is same kept = subst IsKept (sym is) (record {
     started = kept.started;
     later = kept.later;
     counted = kept.counted;
     images = kept.images;
     recorded = kept.recorded;
-    ready = λ up store begun. at_each (λ es x. ready_as store _ es x) (kept.ready up store begun);
+    ready = λ up store begun. at_each (λ es x. ready_with store _ old es old.disk version old.age old.acked old.batch x) (kept.ready up store begun);
   })
-    where
-      ready_as : (store : SessionStore) (k : Type 0) (es : List Event) → IsReadySession store k old es → IsReadySession store k (record old { active = version }) es
-      ready_as store k es x = record {
-        header = x.header;
-        of_book = x.of_book;
-        named = x.named;
-        session = x.session;
-        ring = x.ring;
-        ready = x.ready;
-        fits = x.fits;
-        start = x.start;
-        journal = x.journal;
-        next = x.next;
-        dirty = x.dirty;
-        holds = x.holds;
-        heads = x.heads;
-        recorded = x.recorded;
-      }

@@ -76,15 +76,15 @@ marked_there [] [] (o ∷ os) s p have is = absurd have
 marked_there [] (x ∷ ss) os s p have is = absurd have
 marked_there (h ∷ hs) [] os s p have is = absurd have
 marked_there (h ∷ hs) (x ∷ ss) [] s p have is = absurd have
-marked_there (h ∷ hs) (x ∷ ss) (o ∷ os) s p (space, pages, key_id, long, rest) is = by (nat_eq x.space s) (ap (λ (n : ℕ). nat_eq n s) (sym space)) is
+marked_there (h ∷ hs) (x ∷ ss) (o ∷ os) s p (space, pages, key_id, long, rest) is = by (nat_eq x.space s) (ap (λ (n : ℕ). nat_eq n s) (sym space)) (marked_there hs ss os s p rest) is
   where
     inside : slice_index_or o p Unused ≡ MarkedDirty → nat_lt p h.pages ≡ true
     inside at = ⊎_elim (λ (lt : p < length o). let low : p < h.pages = omega (arith, lt, long) in grind (arith, nat_tests))
         (λ (ge : length o ≤ p). let none : Unused ≡ MarkedDirty = sym (get_or_past o p Unused ge) ∙ at in absurd (cc)) (cases_lt p (length o))
 
-    by : (b : Bool) → nat_eq h.space s ≡ b → slice_index_or (if b then o else homes_of ss os s) p Unused ≡ MarkedDirty → (if nat_eq h.space s then nat_lt p h.pages else has_page hs s p) ≡ true
-    by true test at = ap (λ (b : Bool). if b then nat_lt p h.pages else has_page hs s p) test ∙ inside at
-    by false test at = ap (λ (b : Bool). if b then nat_lt p h.pages else has_page hs s p) test ∙ marked_there hs ss os s p rest at
+    by : (b : Bool) → nat_eq h.space s ≡ b → (slice_index_or (homes_of ss os s) p Unused ≡ MarkedDirty → has_page hs s p ≡ true) → slice_index_or (if b then o else homes_of ss os s) p Unused ≡ MarkedDirty → (if nat_eq h.space s then nat_lt p h.pages else has_page hs s p) ≡ true
+    by true test behind at = ap (λ (b : Bool). if b then nat_lt p h.pages else has_page hs s p) test ∙ inside at
+    by false test behind at = ap (λ (b : Bool). if b then nat_lt p h.pages else has_page hs s p) test ∙ behind at
 
 first_there : (store : StoreSpaces) (pages : DirtyList) (d : DirtyPage) (ds : List DirtyPage) → pages.entries ≡ d ∷ ds → HaveLists store.header.spaces store.spaces store.homes → AreMarked store pages → has_page store.header.spaces d.space d.page ≡ true
 first_there store pages d ds is have marks =

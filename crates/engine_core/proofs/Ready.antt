@@ -1,5 +1,6 @@
 -- What a moment of a session is known by, and what its images then stand for.
 use Rattle.std.proofs.Common.{◌≡◌, ℕ, List, subst, ◌∙◌}
+use Rattle.counted_disk.specs.declared.counted.Counted.{Counted}
 use Rattle.disk_model.specs.Event.{Event}
 use Rattle.redo_text.specs.declared.change.Change.{Change}
 use Rattle.ring_log.specs.Ring.{RingState}
@@ -56,4 +57,24 @@ moment_as store kept q r journal next m at = record {
   next = at.next ∙ next;
   written = at.written;
   recorded = at.recorded;
+}
+
+-- What is known of the disk between two calls hangs on the spaces, the ring of keys, the journal, the log and the pool alone.
+pub ready_with : {D : Type 0} (store : SessionStore) (kept : Type 0) (r : Running D) (es : List Event) (disk : Counted D) (active age acked batch : ℕ) → IsReadySession store kept r es
+    → IsReadySession store kept (record r { disk = disk; active = active; age = age; acked = acked; batch = batch }) es
+ready_with store kept r es disk active age acked batch x = record {
+  header = x.header;
+  of_book = x.of_book;
+  named = x.named;
+  session = x.session;
+  ring = x.ring;
+  ready = x.ready;
+  fits = x.fits;
+  start = x.start;
+  journal = x.journal;
+  next = x.next;
+  dirty = x.dirty;
+  holds = x.holds;
+  heads = x.heads;
+  recorded = x.recorded;
 }

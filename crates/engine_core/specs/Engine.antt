@@ -1,6 +1,5 @@
 -- What contracts see of an engine, and what its type keeps.
 use Rattle.std.specs.Prelude.{◌≡◌, ℕ, List, ◌∷◌, None, refl}
-use Rattle.std.specs.Coded.{Coded, code_by, coded×}
 use Rattle.counted_disk.specs.Counting.{IsCounted, count_of}
 use Rattle.disk_model.specs.Event.{Event, Tell}
 use Rattle.disk_model.specs.Past.{Past, At, Throughout}
@@ -15,9 +14,6 @@ pub record EngineState (D : Type 0) : Type 0 where
   pub first : Running D
   pub now : Running D
 
--- its code, which the type of an engine is to have
-abbrev pub engine_code : {D : Type 0} → Coded (Running D) → Coded (EngineState D)
-engine_code {D} running = code_by (Running D × Running D) (coded× running running) (λ e. (e.first, e.now)) (λ p. record { first = p.0; now = p.1 }) (λ _. refl)
 
 -- the last event is that the session started
 pub record IsStarted (es : List Event) : Type 0 where

@@ -21,12 +21,9 @@ pub struct Engine<D: Disk + Drop> {
 }
 
 impl<D: Disk + Drop> Model for Engine<D> {
-    ghost use Rattle.engine_core.specs.Engine.{EngineState, IsEngine, engine_code};
-    ghost use Rattle.session_core.specs.contracts.session.SessionCore.{the_row as session_row};
+    ghost use Rattle.engine_core.specs.Engine.{EngineState, IsEngine};
 
     ghost Value = { EngineState D };
-
-    ghost coded = { engine_code session_row.coded };
 
     ghost view = { λ s. record { first = s.first.value; now = s.core } };
 

@@ -21,9 +21,9 @@ returns-in_err-check-clause-part g c = none_done c.from_residual.result _ _ _ _ 
 
 pub returns-in_err-check-clause-least : goal.returns-in_err-check-clause-least
 returns-in_err-check-clause-least g c up =
-    let down : up_or_refused c.args.self.old.disk.stop c.args.self.old.disk.turns ≡ Err c.in_err-check.field-0.0 = sym c.check.ensures.value ∙ c.in_err-check.was in
-    let runs : up_or_refused c.args.self.old.disk.stop c.args.self.old.disk.turns ≡ Ok tt = ap (λ (s : Option Stop). up_or_refused s c.args.self.old.disk.turns) up in
+    let down : up_or_refused c.args.self.now.disk.stop c.args.self.now.disk.turns ≡ Err c.in_err-check.field-0.0 = sym c.check.ensures.value ∙ c.in_err-check.was in
+    let runs : up_or_refused c.args.self.now.disk.stop c.args.self.now.disk.turns ≡ Ok tt = ap (λ (s : Option Stop). up_or_refused s c.args.self.now.disk.turns) up in
     absurd (ok_or_err _ (sym runs ∙ down))
 
 pub returns-clause-least : goal.returns-clause-least
-returns-clause-least g c up = subst (λ (n : ℕ). All (λ d. n ≤ d.first) c.args.self.old.pool.dirty.entries) c.run_begin.ensures.value c.run_begin.ensures.least
+returns-clause-least g c up = subst (λ (n : ℕ). All (λ d. n ≤ d.first) c.args.self.now.pool.dirty.entries) c.run_begin-from.ensures.value c.run_begin-from.ensures.least
