@@ -28,7 +28,7 @@ use Rattle.space_head.specs.declared.space.SpaceInfo.{SpaceInfo}
 use Rattle.store_files.specs.Header.{HeldHeader, HeldSpace}
 use Rattle.store_files.specs.Pages.{Head, Page, has_page, head_of_space, pages_of, salts_of}
 use Rattle.store_form.specs.Rest.{StoreAtRest, head_in_mode}
-use Rattle.store_form.proofs.RestPages.{Blank, HomeTells, Means, head_told, home_tells, rest_by}
+use Rattle.store_form.proofs.RestPages.{Blank, HomeTells, Means, head_told, home_tells, rest_by, salt_told}
 use Rattle.engine_core.specs.Engine.{IsStarted}
 use Rattle.engine_core.specs.Kept.{BeginsAt, BeginsRecordAt, IsReadySession}
 
@@ -59,7 +59,7 @@ head_is store s bytes c info mode long (Means means) says =
     is ∙ ap (λ (i : SpaceInfo). Head i) (same_info own info mode (sym read ∙ says))
 
 -- how many pages a space has
-count_above : (spaces : List HeldSpace) (s p : ℕ) → has_page spaces s p ≡ true → p < page_count spaces s
+pub count_above : (spaces : List HeldSpace) (s p : ℕ) → has_page spaces s p ≡ true → p < page_count spaces s
 count_above [] s p there = absurd (cc)
 count_above (x ∷ xs) s p there = by (nat_eq x.space s) (count_above xs s p) there
   where
@@ -83,15 +83,31 @@ module _ {D : Type 0} (store : SessionStore) (kept : Type 0) (rest : StoreAtRest
     header_is : rest.header ≡ store.header
     header_is = same_Some _ _ (sym told.front.is_header ∙ b.rests.recovers.is_header) ∙ b.header_is
 
-    heads : (s : ℕ) (info : SpaceInfo) → has_page store.header.spaces s 0 ≡ true → space_with_id rest.spaces s ≡ Some info → pages_of store.base s 0 ≡ Head info
-    heads s info there is =
+    -- what the bytes of page 0 are, and say
+    record PageZero (s : ℕ) (info : SpaceInfo) : Type 0 where
+      mode : ℕ
+      long : length (shown (Space s) page_bytes 0 es) ≡ 16384
+      home : HomeTells store.header store.book (salts_of store.base) (pages_of store.base) s 0 (shown (Space s) page_bytes 0 es)
+      says : head_of (shown (Space s) page_bytes 0 es) ≡ Ok (head_in_mode mode info)
+
+    page_0 : (s : ℕ) (info : SpaceInfo) → has_page store.header.spaces s 0 ≡ true → space_with_id rest.spaces s ≡ Some info → PageZero s info
+    page_0 s info there is =
         let tells = told.heads s info is in
-        let bytes : List ℕ = shown (Space s) page_bytes 0 es in
-        let says : head_of bytes ≡ Ok (head_in_mode tells.mode info) = subst (λ (n : ℕ). head_of (shown (Space n) page_bytes 0 es) ≡ Ok (head_in_mode tells.mode info)) (space_id rest.spaces s info is) (tells.home refl) in
         let by = rest_by es store.book store.base rest.next store.header b.rests (b.rests.recovers.is_header ∙ ap (λ (h : HeldHeader). Some h) b.header_is) in
-        let count = page_count store.header.spaces s in
-        let long : length bytes ≡ 16384 = length-shown (Space s) (pages count) 0 es (count_above store.header.spaces s 0 there) (b.files.spaces s there) in
-        head_is store s bytes (pages_of store.base) info tells.mode long (home_tells es store.book store.base store.header by s 0 there) says
+        record {
+          mode = tells.mode;
+          long = length-shown (Space s) (pages (page_count store.header.spaces s)) 0 es (count_above store.header.spaces s 0 there) (b.files.spaces s there);
+          home = home_tells es store.book store.base store.header by s 0 there;
+          says = subst (λ (n : ℕ). head_of (shown (Space n) page_bytes 0 es) ≡ Ok (head_in_mode tells.mode info)) (space_id rest.spaces s info is) (tells.home refl);
+        }
+
+    heads : (s : ℕ) (info : SpaceInfo) → has_page store.header.spaces s 0 ≡ true → space_with_id rest.spaces s ≡ Some info → pages_of store.base s 0 ≡ Head info
+    heads s info there is = let here = page_0 s info there is in head_is store s (shown (Space s) page_bytes 0 es) (pages_of store.base) info here.mode here.long here.home here.says
+
+    salted : (s : ℕ) (info : SpaceInfo) → has_page store.header.spaces s 0 ≡ true → space_with_id rest.spaces s ≡ Some info → salts_of store.base s ≡ info.salt
+    salted s info there is =
+        let here = page_0 s info there is in
+        salt_told store.header store.book store.base s info here.mode (shown (Space s) page_bytes 0 es) here.long here.home here.says
 
     pub first_ready : (kept → BeginsRecordAt store first es) → IsReadySession store kept first es
     first_ready recorded = record {
@@ -108,5 +124,6 @@ module _ {D : Type 0} (store : SessionStore) (kept : Type 0) (rest : StoreAtRest
       dirty = λ s p there. refl;
       holds = λ s p page some there is. absurd (none-some page is);
       heads = heads;
+      salts = salted;
       recorded = λ has. let r = recorded has in record_starts store ring options.active rest.next rest.sequence es r.begins r.record_is;
     }

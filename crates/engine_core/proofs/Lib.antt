@@ -6,3 +6,5 @@ pub mod Moves
 pub mod Firsts
 pub mod Begins
 pub mod Keeps
+pub mod Pages
+pub mod KeepsReads

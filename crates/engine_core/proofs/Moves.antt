@@ -194,6 +194,7 @@ module _ {D : Type 0} (store : SessionStore) (kept : Type 0) (r : Running D) whe
             dirty = is.dirty;
             holds = is.holds;
             heads = is.heads;
+            salts = is.salts;
             recorded = λ has. record_checked store is.session s done sequence f (is.recorded has) since (items done since) (let same = is.ready.from in omega (arith, low, from_ring, same)) high_ring;
           }
 

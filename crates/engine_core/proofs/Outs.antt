@@ -81,6 +81,7 @@ module _ {D : Type 0} (store : SessionStore) (kept : Type 0) (r : Running D) whe
       dirty = is.dirty;
       holds = is.holds;
       heads = is.heads;
+      salts = is.salts;
       recorded = λ has. record_written store is.session is.ring s m r.log is.ready is.fits is.next since (is.recorded has) open_log;
     }
 
@@ -136,5 +137,6 @@ module _ {D : Type 0} (store : SessionStore) (kept : Type 0) (r : Running D) whe
         dirty = is.dirty;
         holds = is.holds;
         heads = is.heads;
+        salts = is.salts;
         recorded = λ has. record_tells store is.session s (Acked (length r.journal)) (is.recorded has);
       }

@@ -76,5 +76,6 @@ ready_with store kept r es disk active age acked batch x = record {
   dirty = x.dirty;
   holds = x.holds;
   heads = x.heads;
+  salts = x.salts;
   recorded = x.recorded;
 }

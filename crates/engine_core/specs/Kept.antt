@@ -52,6 +52,10 @@ module _ (store : SessionStore) where
   abbrev pub TellsHeads : Session (session_theory store) → List SpaceInfo → Type 0
   TellsHeads w spaces = (s : ℕ) (info : SpaceInfo) → has_page store.header.spaces s 0 ≡ true → space_with_id spaces s ≡ Some info → now (session_theory store) w s 0 ≡ Head info
 
+  -- and its salt is that of the base contents
+  abbrev pub HaveSalts : List SpaceInfo → Type 0
+  HaveSalts spaces = (s : ℕ) (info : SpaceInfo) → has_page store.header.spaces s 0 ≡ true → space_with_id spaces s ≡ Some info → salts_of store.base s ≡ info.salt
+
   -- What is known of the disk of a session that is up: the session's journal, its numbers and its dirty pages are those of the places that its images are told by. Where `kept` holds, the record of writes is kept too.
   pub record IsReadySession {D : Type 0} (kept : Type 0) (r : Running D) (es : List Event) : Type 0 where
     pub header : r.store.header ≡ store.header
@@ -67,4 +71,5 @@ module _ (store : SessionStore) where
     pub dirty : (s p : ℕ) → has_page store.header.spaces s p ≡ true → session.dirty s p ≡ dirt_among r.pool.dirty.entries s p
     pub holds : HoldsNow session r.pool
     pub heads : TellsHeads session r.store.spaces
+    pub salts : HaveSalts r.store.spaces
     pub recorded : kept → SessionRecordReady store session es

@@ -19,6 +19,7 @@
 mod activating;
 mod checkpoints;
 mod engine;
+mod reading;
 mod syncing;
 
 pub use engine::Engine;
