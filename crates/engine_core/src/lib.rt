@@ -24,3 +24,6 @@ mod syncing;
 
 pub use engine::Engine;
 pub use session_core::{Author, EngineFault, Entry, Halted, Journal, Receipt, SessionOptions, StartFault, StartRefusal};
+
+#[cfg(test)]
+mod tests;
