@@ -1,6 +1,7 @@
 -- What was found of a store that recovers as it reads, with nothing pending, is what an opening begins with.
 use Rattle.std.proofs.Common.{◌≡◌, ℕ, zero, suc, ◌+◌, ◌<◌, ◌≤◌, true, List, [], ◌∷◌, length, slice_index_or, refl, sym, ap, subst, ◌∙◌, arith}
 use Rattle.disk_model.specs.Event.{Event}
+use Rattle.disk_model.specs.Past.{Past, At}
 use Rattle.disk_model.specs.declared.names.FileName.{FileName}
 use Rattle.doublewrite.specs.Restore.{no_space, space_at}
 use Rattle.key_ring.specs.Ring.{RingEntry}
@@ -75,7 +76,7 @@ module _ (es : List Event) (keys : List RingEntry) (c : List SpaceContents) (las
   rotated : Rotated (read_image es) keys h log c
   rotated = subst (λ (x : HeldHeader). Rotated (read_image es) keys x log c) (sym same) (subst (λ (l : LogView (List Change)). Rotated (read_image es) keys r.header l c) log_same store.store.rotated)
 
-  again : Recovers (read_image es) keys c n
+  abbrev again : Recovers (read_image es) keys c n
   again = record { header = h; is_header = is.changes.keyed.of_heads.pages.run.files.formatted.is_header; log = log; is_last = refl; by = by }
 
   heads : (i : ℕ) → i < length h.spaces → Head (space_at found.changes.spaces i) ≡ pages_of c (held_at h.spaces i).space 0
@@ -104,3 +105,7 @@ module _ (es : List Event) (keys : List RingEntry) (c : List SpaceContents) (las
     last = subst (λ (x : HeldHeader). AreLastChanges L.run x.spaces found.changes.last) (sym same) (last_are es keys c last r active k n found.notes is.heads found.changes changes);
     heads = heads;
   }
+
+-- So what looking at a store found is what an opening begins with, at each moment of which that is told.
+pub begins_of : (keys : List RingEntry) (active : ℕ) (past : Past) (found : Analysis) → At (IsAnalysis keys active found) past → FitsTogether active found → At (λ es. (c : List SpaceContents) (last : ℕ) → IsSettledStore keys c last es → BeginsWith keys active found c es) past
+begins_of keys active past found is fits = record { here = λ es now c last store. begins_with es keys c last store active found (is.here es now) fits }

@@ -12,6 +12,7 @@ use Rattle.store_model.specs.declared.contents.SpaceContents.{SpaceContents}
 use Rattle.recovery.specs.Entry.{MayOpen}
 use Rattle.recovery.specs.Files.{IsFormatted}
 use Rattle.recovery.specs.Looking.{IsOpenRefusal, page_calls}
+use Rattle.recovery.proofs.EntryOpened.{begins_of}
 use Rattle.recovery.proofs.EntryRefusals.{clear_of}
 use Rattle.recovery.proofs.looking.look.Goals as goal
 
@@ -126,3 +127,6 @@ returns-in_err-changes-clause-clear g c =
     let is : IsErrAnd c.from_residual-in_err-changes.result (λ e. e ≡ why) = search rules in
     handed (λ (e : OpenRefuse). At (λ es. (contents : List SpaceContents) (last : ℕ) → MayOpen c.args.ring.now c.args.active contents last es → IsDiskRefuse e) past) c.from_residual-in_err-changes.result why is
     (clear_of c.args.ring.now c.args.active past why (subst (λ p. IsOpenRefusal c.args.ring.now c.args.active p why) (c.in_ok-pages.ensures.same ∙ c.in_ok-log.ensures.same) c.in_err-changes.ensures.refused))
+
+pub returns-clause-begins : goal.returns-clause-begins
+returns-clause-begins g c = begins_of c.args.ring.now c.args.active (g.D.Disk.past c.args.disk.now) _ (returns-clause-found g c) (returns-clause-fits g c)
