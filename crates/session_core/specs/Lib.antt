@@ -12,3 +12,4 @@ pub mod Activating
 pub mod Syncing
 pub mod Checking
 pub mod SpaceChanges
+pub mod Taking

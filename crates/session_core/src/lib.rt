@@ -19,6 +19,7 @@
 mod activating;
 mod checkpoints;
 mod closing;
+mod dirt;
 mod fault;
 mod fetching;
 mod journal;
@@ -31,6 +32,7 @@ mod session;
 mod settling;
 mod stopping;
 mod tablespaces;
+mod taking;
 
 pub use closing::Halted;
 pub use fault::{EngineFault, StartFault};
