@@ -85,9 +85,9 @@ pub copied_none : (pool : PoolState) (start : BatchState) → start.pages ≡ []
 copied_none pool start none = record {
   same = refl;
   all =
-    let whole : start.room - 0 ≡ start.room = omega arith in
-    ap (λ (l : List CopiedPage). l ++ map (copied_of pool) (take (start.room - length l) (dirty_of start.space pool.dirty.entries))) none
-    ∙ ap (λ (n : ℕ). map (copied_of pool) (take n (dirty_of start.space pool.dirty.entries))) whole;
+      let whole : start.room - 0 ≡ start.room = omega arith in
+      ap (λ (l : List CopiedPage). l ++ map (copied_of pool) (take (start.room - length l) (dirty_of start.space pool.dirty.entries))) none
+      ∙ ap (λ (n : ℕ). map (copied_of pool) (take n (dirty_of start.space pool.dirty.entries))) whole;
 }
 
 listed : (s i : ℕ) (ds : List DirtyPage) (d : DirtyPage) → i < length ds → d ≡ get_or ds i d → dirty_of s (drop i ds) ≡ (if nat_eq d.space s then d ∷ dirty_of s (drop (i + 1) ds) else dirty_of s (drop (i + 1) ds))
@@ -102,36 +102,36 @@ pub copied_more : (pool : PoolState) (start now : BatchState) (i : ℕ) (d : Dir
 copied_more pool start now i d lt is space room so = record {
   same = ap (λ (b : BatchState). record b { pages = now.pages ++ copied_of pool d ∷ [] }) so.same;
   all =
-    let ds = pool.dirty.entries in
-    let rest : List DirtyPage = dirty_of start.space (drop (i + 1) ds) in
-    let here : dirty_of start.space (drop i ds) ≡ d ∷ rest = listed start.space i ds d lt is ∙ ap (λ (b : Bool). if b then d ∷ rest else rest) (eq-eqb d.space start.space space) in
-    let left : ℕ = start.room - length now.pages in
-    let long : length (now.pages ++ copied_of pool d ∷ []) ≡ length now.pages + 1 = length-append now.pages (copied_of pool d ∷ []) in
-    let fewer : start.room - length (now.pages ++ copied_of pool d ∷ []) ≡ left - 1 = omega (arith, long, room) in
-    let some : 0 < left = omega (arith, room) in
-    append_assoc now.pages (copied_of pool d ∷ []) (map (copied_of pool) (take (start.room - length (now.pages ++ copied_of pool d ∷ [])) rest))
-    ∙ ap (λ (n : ℕ). now.pages ++ (copied_of pool d ∷ map (copied_of pool) (take n rest))) fewer
-    ∙ ap (λ (l : List DirtyPage). now.pages ++ map (copied_of pool) l) (sym (ap (take left) here ∙ one_taken left d rest some))
-    ∙ so.all;
+      let ds = pool.dirty.entries in
+      let rest : List DirtyPage = dirty_of start.space (drop (i + 1) ds) in
+      let here : dirty_of start.space (drop i ds) ≡ d ∷ rest = listed start.space i ds d lt is ∙ ap (λ (b : Bool). if b then d ∷ rest else rest) (eq-eqb d.space start.space space) in
+      let left : ℕ = start.room - length now.pages in
+      let long : length (now.pages ++ copied_of pool d ∷ []) ≡ length now.pages + 1 = length-append now.pages (copied_of pool d ∷ []) in
+      let fewer : start.room - length (now.pages ++ copied_of pool d ∷ []) ≡ left - 1 = omega (arith, long, room) in
+      let some : 0 < left = omega (arith, room) in
+      append_assoc now.pages (copied_of pool d ∷ []) (map (copied_of pool) (take (start.room - length (now.pages ++ copied_of pool d ∷ [])) rest))
+      ∙ ap (λ (n : ℕ). now.pages ++ (copied_of pool d ∷ map (copied_of pool) (take n rest))) fewer
+      ∙ ap (λ (l : List DirtyPage). now.pages ++ map (copied_of pool) l) (sym (ap (take left) here ∙ one_taken left d rest some))
+      ∙ so.all;
 }
 
 pub copied_other : (pool : PoolState) (start now : BatchState) (i : ℕ) (d : DirtyPage) → i < length pool.dirty.entries → d ≡ get_or pool.dirty.entries i d → d.space ≢ start.space → IsCopied pool start now i → IsCopied pool start now (i + 1)
 copied_other pool start now i d lt is other so = record {
   same = so.same;
   all =
-    let ds = pool.dirty.entries in
-    let rest : List DirtyPage = dirty_of start.space (drop (i + 1) ds) in
-    let here : dirty_of start.space (drop i ds) ≡ rest = listed start.space i ds d lt is ∙ ap (λ (b : Bool). if b then d ∷ rest else rest) (ne_eqb d.space start.space other) in
-    ap (λ (l : List DirtyPage). now.pages ++ map (copied_of pool) (take (start.room - length now.pages) l)) (sym here) ∙ so.all;
+      let ds = pool.dirty.entries in
+      let rest : List DirtyPage = dirty_of start.space (drop (i + 1) ds) in
+      let here : dirty_of start.space (drop i ds) ≡ rest = listed start.space i ds d lt is ∙ ap (λ (b : Bool). if b then d ∷ rest else rest) (ne_eqb d.space start.space other) in
+      ap (λ (l : List DirtyPage). now.pages ++ map (copied_of pool) (take (start.room - length now.pages) l)) (sym here) ∙ so.all;
 }
 
 pub copied_full : (pool : PoolState) (start now : BatchState) (i j : ℕ) → start.room ≤ length now.pages → IsCopied pool start now i → IsCopied pool start now j
 copied_full pool start now i j full so = record {
   same = so.same;
   all =
-    let none : start.room - length now.pages ≡ 0 = omega (arith, full) in
-    let to : (k : ℕ) → now.pages ++ map (copied_of pool) (take (start.room - length now.pages) (dirty_of start.space (drop k pool.dirty.entries))) ≡ now.pages ++ [] = λ k. ap (λ (n : ℕ). now.pages ++ map (copied_of pool) (take n (dirty_of start.space (drop k pool.dirty.entries)))) none in
-    to j ∙ sym (to i) ∙ so.all;
+      let none : start.room - length now.pages ≡ 0 = omega (arith, full) in
+      let to : (k : ℕ) → now.pages ++ map (copied_of pool) (take (start.room - length now.pages) (dirty_of start.space (drop k pool.dirty.entries))) ≡ now.pages ++ [] = λ k. ap (λ (n : ℕ). now.pages ++ map (copied_of pool) (take n (dirty_of start.space (drop k pool.dirty.entries)))) none in
+      to j ∙ sym (to i) ∙ so.all;
 }
 
 pub copied_all : (pool : PoolState) (start now : BatchState) (i : ℕ) → length pool.dirty.entries ≤ i → IsCopied pool start now i → now ≡ record start { pages = map (copied_of pool) (take start.room (dirty_of start.space pool.dirty.entries)) }

@@ -12,11 +12,7 @@ use page_places::PAGE_BYTES;
 use page_pool::{DirtyPage, PageName, Pool};
 
 // Adds a copy of a dirty page.
-fn copy_one(
-    pool: &mut Pool,
-    batch: &mut PageBatch,
-    entry: DirtyPage,
-) -> Result<(), OutOfMemory>
+fn copy_one(pool: &mut Pool, batch: &mut PageBatch, entry: DirtyPage) -> Result<(), OutOfMemory>
     requires typed { AreTyped pool.old }
     requires dirty { is_dirty (name_of_dirty entry) pool.old.dirty ≡ true }
     requires room { length batch.old.pages < batch.old.room }
