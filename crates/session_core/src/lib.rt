@@ -19,10 +19,8 @@
 mod activating;
 mod checkpoints;
 mod closing;
-mod committing;
 mod fault;
 mod fetching;
-mod holding;
 mod journal;
 mod keys;
 mod missing;
