@@ -12,3 +12,5 @@ pub mod ToldLaws
 pub mod CheckpointLaws
 pub mod LogWrites
 pub mod SpaceEdits
+pub mod HoldLaws
+pub mod ChangeChecks

@@ -12,3 +12,6 @@ pub mod Activating
 pub mod Syncing
 pub mod Checking
 pub mod SpaceChanges
+pub mod Holding
+pub mod Entering
+pub mod Committing

@@ -139,7 +139,7 @@ fn hold_read(pool: &mut Pool, name: PageName, bytes: &[u8])
     let _held = pool.admit(name.space, name.page, bytes);
 }
 
-fn is_unused(home: Home) -> bool
+pub(crate) fn is_unused(home: Home) -> bool
     ensures yes { result ≡ true → home ≡ Unused }
     ensures no { home ≡ Unused → result ≡ true }
 {
