@@ -128,7 +128,7 @@ pub dirty_checked : (store : StoreSpaces) (log : LogState) (pool : PoolState) (f
 dirty_checked store log pool from sequence kept least = record {
   marks = kept.marks;
   typed = kept.typed;
-  within = λ k d lt. record { from = least k d lt; first = (kept.within k d lt).first };
+  within = λ k d lt. let run = kept.within k d lt in record { from = least k d lt; first = run.first; behind = run.behind; lsn = run.lsn };
   pending = λ some. let page = kept.pending some in record { page = page.page; there = page.there; first = page.first; lsn = page.lsn };
 }
 
@@ -146,10 +146,12 @@ module _ {D : Type 0} (past : D → Past) (r : Running D) (kept : IsSession past
     spaces = kept.spaces;
     active = kept.active;
     keyed = kept.keyed;
+    floors = kept.floors;
     ring = kept.ring;
     numbers = kept.numbers;
     entries = kept.entries;
     acked = kept.acked;
+    settled = kept.settled;
     dirty = kept.dirty;
     files = λ runs. absurd (no_run e stop runs);
     reads = λ runs. absurd (no_run e stop runs);
@@ -188,10 +190,12 @@ module _ {D : Type 0} (past : D → Past) (r : Running D) (kept : IsSession past
       spaces = kept.spaces;
       active = kept.active;
       keyed = kept.keyed;
+      floors = kept.floors;
       ring = kept.ring;
       numbers = numbers;
       entries = kept.entries;
       acked = kept.acked;
+      settled = kept.settled;
       dirty = dirty_checked r.store r.log r.pool from (r.log.sequence + 1) kept.dirty least;
       files = λ runs. carried (λ es p. files_after es p.0);
       reads = λ runs. carried (λ es p. told_after es p.0 p.1);

@@ -6,9 +6,15 @@ use Rattle.byte_list.proofs.RangeLaws.{drop_item}
 use Rattle.key_ring.specs.Ring.{RingEntry}
 use Rattle.space_head.specs.declared.space.SpaceInfo.{SpaceInfo}
 use Rattle.session_core.specs.Keys.{HasVersion}
-use Rattle.session_core.specs.Start.{IsFirstFloorAbove, IsNoBeginning, MayStart, NoneAbove}
+use Rattle.session_core.specs.Spaces.{NoneAbove}
+use Rattle.session_core.specs.Start.{IsFirstFloorAbove, IsNoBeginning, MayStart}
 use Rattle.session_core.specs.declared.fault.StartFault.{StartFault}
 use Rattle.session_core.specs.declared.fault.StartFault.TheVariants.{VersionBelowFloor}
+
+-- none is above a later version
+pub none_later : (version later : ℕ) (xs : List SpaceInfo) → version ≤ later → NoneAbove version xs → NoneAbove later xs
+none_later version later [] le none = tt
+none_later version later (x ∷ xs) le none = let below = none.0 in (omega (arith, le, below), none_later version later xs le none.1)
 
 -- none of one space more
 none_more : (version i : ℕ) (xs : List SpaceInfo) (x : SpaceInfo) → i < length xs → x ≡ get_or xs i x → x.floor ≤ version → NoneAbove version (take i xs) → NoneAbove version (take (suc i) xs)

@@ -52,7 +52,7 @@ found_apart name other s apart = by (lookup_entry (is_name name) s.clean) refl
         let differs : is_name other e.0 ≡ false = subst (λ (x : PageName). is_name other x ≡ false) here (name_back name other apart) in
         ap (λ (b : Bool). cond b (Some e.1) (lookup (is_name other) (remove_entry (is_name name) s.clean))) differs ∙ lookup_other name other s.clean apart
 
-found_clean : (name other : PageName) (s : PoolState) → lookup (is_name other) (found_page name s).clean ≡ lookup (is_name other) s.clean
+pub found_clean : (name other : PageName) (s : PoolState) → lookup (is_name other) (found_page name s).clean ≡ lookup (is_name other) s.clean
 found_clean name other s = by (is_name name other) refl
   where
     by : (b : Bool) → is_name name other ≡ b → lookup (is_name other) (found_page name s).clean ≡ lookup (is_name other) s.clean
@@ -81,7 +81,7 @@ is_held_by s name page is = by (is_dirty name s.dirty) is
     by false at = ap is_some at
 
 -- a page more is held, and each other that is held was held
-admitted_held : (name other : PageName) (page held : PlainPage) (old : PoolState)
+pub admitted_held : (name other : PageName) (page held : PlainPage) (old : PoolState)
     → held_page other (record { dirty = old.dirty; clean = admitted name page (found_page name old).clean }) ≡ Some held → (held_page other old ≡ Some held) ⊎ ((name ≡ other) × (page ≡ held))
 admitted_held name other page held old is = by (is_dirty other old.dirty) is
   where

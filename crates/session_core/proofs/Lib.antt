@@ -12,3 +12,9 @@ pub mod ToldLaws
 pub mod CheckpointLaws
 pub mod LogWrites
 pub mod SpaceEdits
+pub mod HoldLaws
+pub mod ChangeChecks
+pub mod CopyLaws
+pub mod TakeLaws
+pub mod CurrentLaws
+pub mod PutWrites

@@ -121,7 +121,7 @@ pub dirty_handed : (store : StoreSpaces) (log : LogState) (pool : PoolState) →
 dirty_handed store log pool kept = record {
   marks = kept.marks;
   typed = kept.typed;
-  within = λ k d lt. let run = kept.within k d lt in record { from = run.from; first = run.first };
+  within = λ k d lt. let run = kept.within k d lt in record { from = run.from; first = run.first; behind = run.behind; lsn = run.lsn };
   pending = λ some. let page = kept.pending some in record { page = page.page; there = page.there; first = page.first; lsn = page.lsn };
 }
 
@@ -129,6 +129,6 @@ pub dirty_out : (store : StoreSpaces) (log : LogState) (pool : PoolState) → Ar
 dirty_out store log pool kept = record {
   marks = kept.marks;
   typed = kept.typed;
-  within = λ k d lt. let run = kept.within k d lt in record { from = run.from; first = run.first };
+  within = λ k d lt. let run = kept.within k d lt in record { from = run.from; first = run.first; behind = run.behind; lsn = run.lsn };
   pending = λ some. absurd (omega (arith, some));
 }

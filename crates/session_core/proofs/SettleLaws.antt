@@ -1,7 +1,8 @@
 -- What the writes of a log and its marks leave of a session.
-use Rattle.std.proofs.Common.{◌≡◌, ℕ, suc, zero, ◌<◌, ◌≤◌, List, [], ◌∷◌, ◌++◌, length, slice_index_or, false, Option, Some, None, Result, Ok, Err, refl, sym, ap, ◌∙◌, subst, arith}
+use Rattle.std.proofs.Common.{◌≡◌, ℕ, suc, zero, ◌+◌, ◌*◌, ◌<◌, ◌≤◌, List, [], ◌∷◌, ◌++◌, length, take, slice_index_or, false, Option, Some, None, Result, Ok, Err, refl, sym, ap, ◌∙◌, subst, arith}
 use Rattle.std.specs.List.{All}
 use Rattle.std.specs.Prelude.{IfErr}
+use Rattle.std.proofs.lemmas.List.{take_all}
 use Rattle.std.proofs.lemmas.Option.{none-some, same_Some}
 use Rattle.counted_disk.specs.declared.counted.Counted.{Counted}
 use Rattle.crash_image.specs.LogForm.{log_places}
@@ -18,9 +19,12 @@ use Rattle.places.specs.Places.{HasFile, Layout}
 use Rattle.places.specs.Writes.{IsPart, grows, writes_of}
 use Rattle.places.proofs.FileSteps.{file_left_alone}
 use Rattle.redo_log.specs.Events.{block_batch, out_events}
-use Rattle.redo_log.specs.Log.{IsOpen, handed_over, pending_count, written_out}
+use Rattle.redo_log.specs.Log.{IsOpen, durable, handed_over, pending_count, written_out}
 use Rattle.redo_log.specs.State.{LogState}
+use Rattle.redo_text.specs.Block.{block_count}
+use Rattle.redo_text.specs.Text.{text_of}
 use Rattle.space_head.specs.declared.space.SpaceInfo.{SpaceInfo}
+use Rattle.store_files.specs.Header.{HeldSpace}
 use Rattle.store_image.specs.View.{block_bytes}
 use Rattle.session_core.specs.Dirty.{AreDirtyOf}
 use Rattle.session_core.specs.Told.{ReadsAsTold}
@@ -29,6 +33,7 @@ use Rattle.session_core.specs.Files.{HasStoreFiles, IsStopOf}
 use Rattle.session_core.specs.Session.{AreEntries, IsSession, Running}
 use Rattle.session_core.specs.Syncing.{InPart, IsSyncRefusal, IsSyncedInPart, Unwritten}
 use Rattle.session_core.specs.declared.fault.EngineFault.{EngineFault}
+use Rattle.session_core.specs.declared.journal.Entry.{Entry}
 
 -- a mark leaves the files of a store
 pub files_told : (blocks : ℕ) (spaces : List SpaceInfo) (m : Mark) (es : List Event) → HasStoreFiles blocks spaces es → HasStoreFiles blocks spaces (Tell m ∷ es)
@@ -67,6 +72,34 @@ files_out blocks spaces log k (Some s) new files own is = record {
     beside : (x : SpaceInfo) (es : List Event) → out_events k log ++ s ≡ es → HasFile (Space x.space) (pages x.pages) s → HasFile (Space x.space) (pages x.pages) es
     beside x es same has = subst (λ (l : List Event). HasFile (Space x.space) (pages x.pages) l) same (left_out (Space x.space) refl (pages x.pages) log k s has)
 
+-- the entries end no later than the log
+entries_up : (spaces : List HeldSpace) (number : ℕ) (es : List Entry) (next : ℕ) → AreEntries spaces number es next → number ≤ next
+entries_up spaces number [] next here = omega (arith, here)
+entries_up spaces number (e ∷ es) next (here, rest) = let up = entries_up spaces (number + block_count (text_of e.mtr)) es next rest in omega (arith, up)
+
+entries_below : (spaces : List HeldSpace) (number : ℕ) (es : List Entry) (next : ℕ) → AreEntries spaces number es next → All (λ e. e.lsn ≤ next * block_bytes) es
+entries_below spaces number [] next here k d lt = absurd (omega (arith, lt))
+entries_below spaces number (e ∷ es) next (here, rest) zero d lt =
+    let up = entries_up spaces (number + block_count (text_of e.mtr)) es next rest in
+    let lsn : e.lsn ≡ (number + block_count (text_of e.mtr)) * 4096 = here.lsn in
+    omega (arith, up, lsn)
+entries_below spaces number (e ∷ es) next (here, rest) (suc k) d lt = entries_below spaces (number + block_count (text_of e.mtr)) es next rest k d (omega (arith, lt))
+
+none_pending : (old log : LogState) → log ≡ written_out old → durable log ≡ log.next
+none_pending old log is = subst (λ (l : LogState). durable l ≡ l.next) (sym is) (omega arith)
+
+-- and so each is durable where no block is pending
+durable_all : (spaces : List HeldSpace) (number : ℕ) (es : List Entry) (log : LogState) (count : ℕ) → count ≡ length es → AreEntries spaces number es log.next → durable log ≡ log.next → All (λ e. e.lsn ≤ durable log * block_bytes) (take count es)
+durable_all spaces number es log count all entries none =
+    subst (λ (l : List Entry). All (λ e. e.lsn ≤ durable log * block_bytes) l) (sym (take_all count es (omega (arith, all))))
+    (subst (λ (n : ℕ). All (λ e. e.lsn ≤ n * block_bytes) es) (sym none) (entries_below spaces number es log.next entries))
+
+-- what is acknowledged stays so while no more is pending than was
+settled_still : (count : ℕ) (es : List Entry) (old log : LogState) → durable old ≤ durable log → All (λ e. e.lsn ≤ durable old * block_bytes) (take count es) → All (λ e. e.lsn ≤ durable log * block_bytes) (take count es)
+settled_still count es old log up settled k d lt =
+    let low : (slice_index_or (take count es) k d).lsn ≤ durable old * 4096 = settled k d lt in
+    omega (arith, up, low)
+
 module _ {D : Type 0} (past : D → Past) (old : Running D) where
   -- a write out was refused
   pub unwritten : (from : Running D) (disk : Counted D) (log : LogState) (e : EngineFault) → from ≡ old → IsStopOf disk e → log ≡ handed_over from.log → IsPart Log block_bytes (block_batch from.log) (pending_count from.log) (past from.disk.disk) (past disk.disk)
@@ -83,10 +116,12 @@ module _ {D : Type 0} (past : D → Past) (old : Running D) where
         spaces = kept.spaces;
         active = kept.active;
         keyed = kept.keyed;
+        floors = kept.floors;
         ring = ap (λ (l : LogState). l.blocks) is ∙ kept.ring;
         numbers = numbers;
         entries = subst (λ (n : ℕ). AreEntries old.store.header.spaces old.begins old.journal n) next kept.entries;
         acked = omega (arith, all);
+        settled = durable_all old.store.header.spaces old.begins old.journal log count all (subst (λ (n : ℕ). AreEntries old.store.header.spaces old.begins old.journal n) next kept.entries) (none_pending old.log log is);
         dirty = subst (λ (l : LogState). AreDirtyOf old.store l old.pool) (sym is) (dirty_out old.store old.log old.pool kept.dirty);
         files = λ up. files;
         reads = λ up. subst (λ (l : LogState). At (ReadsAsTold old.store l old.pool) (past disk.disk)) (sym is) reads;

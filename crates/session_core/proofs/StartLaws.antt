@@ -203,10 +203,12 @@ session_kept {D} past rest ring active age disk store journal log pool form read
       spaces = rest_spaces rest.header rest.spaces rest.homes rest.next rest.sequence form;
       active = some;
       keyed = may.keyed;
+      floors = may.floors;
       ring = refl;
       numbers = open_empty;
       entries = refl;
       acked = omega arith;
+      settled = λ k e lt. absurd (omega (arith, lt));
       dirty = empty_dirty rest.header rest.spaces rest.homes rest.next rest.sequence empty form refl;
       files = λ up. at_each (λ es read. rest_files rest.header rest.spaces rest.homes rest.next rest.sequence es read) at_grown_rest;
       reads = λ up. at_each (λ es read. empty_told rest.header rest.spaces rest.homes rest.next rest.sequence es read) at_grown_rest;

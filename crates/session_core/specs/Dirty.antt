@@ -24,10 +24,12 @@ pub record AreMarked (store : StoreSpaces) (dirty : DirtyList) : Type 0 where
 abbrev pub AreTyped : PoolState → Type 0
 AreTyped pool = (name : PageName) (page : PlainPage) → held_page name pool ≡ Some page → HasPageType name.page page.kind
 
--- the page became dirty by a block of the log that the last synced checkpoint keeps
+-- the page became dirty by a block of the log that the last synced checkpoint keeps, and its last change ends behind that block, and no later than the log
 pub record IsInRun (log : LogState) (d : DirtyPage) : Type 0 where
   pub from : log.from ≤ d.first
   pub first : d.first < log.next
+  pub behind : d.first * block_bytes < d.lsn
+  pub lsn : d.lsn ≤ log.next * block_bytes
 
 -- one of the dirty pages has its last change among the pending blocks, and became dirty no later than by the first of them
 pub record HasPendingPage (log : LogState) (dirty : List DirtyPage) : Type 0 where

@@ -12,3 +12,9 @@ pub mod Activating
 pub mod Syncing
 pub mod Checking
 pub mod SpaceChanges
+pub mod Holding
+pub mod Entering
+pub mod Committing
+pub mod Taking
+pub mod Putting
+pub mod Writing

@@ -1,5 +1,6 @@
 -- What contracts see of a session, and what its type keeps.
-use Rattle.std.specs.Prelude.{◌≡◌, ℕ, ◌+◌, ◌*◌, ◌<◌, ◌≤◌, List, [], ◌∷◌, length, Option, None, refl}
+use Rattle.std.specs.Prelude.{◌≡◌, ℕ, ◌+◌, ◌*◌, ◌<◌, ◌≤◌, List, [], ◌∷◌, length, take, Option, None, refl}
+use Rattle.std.specs.List.{All}
 use Rattle.std.specs.Coded.{Coded, code_by, coded×, coded_ℕ, coded_list, coded_option}
 use Rattle.counted_disk.specs.declared.counted.Counted.{Counted}
 use Rattle.counted_disk.specs.declared.counted.Stop.{Stop}
@@ -7,14 +8,14 @@ use Rattle.crash_image.specs.Recovers.{AreOfStore}
 use Rattle.disk_model.specs.Past.{Past, At}
 use Rattle.key_ring.specs.Ring.{RingEntry}
 use Rattle.page_pool.specs.Pages.{PoolState}
-use Rattle.redo_log.specs.Log.{IsOpen}
+use Rattle.redo_log.specs.Log.{IsOpen, durable}
 use Rattle.redo_log.specs.State.{LogState}
 use Rattle.redo_text.specs.Block.{block_count}
 use Rattle.redo_text.specs.Text.{AreAllowed, text_of}
 use Rattle.store_files.specs.Header.{HeldSpace}
 use Rattle.store_image.specs.View.{block_bytes}
 use Rattle.session_core.specs.Keys.{HasVersion}
-use Rattle.session_core.specs.Spaces.{StoreSpaces, AreSpaces}
+use Rattle.session_core.specs.Spaces.{StoreSpaces, AreSpaces, NoneAbove}
 use Rattle.session_core.specs.Dirty.{AreDirtyOf}
 use Rattle.session_core.specs.Files.{HasStoreFiles}
 use Rattle.session_core.specs.Told.{ReadsAsTold}
@@ -63,8 +64,8 @@ AreEntries spaces number (e ∷ es) next = IsEntryAt spaces number e × AreEntri
 
 -- What the type of a session keeps.
 --
--- Form: the spaces go together, and the ring has the active version under id 1 and each key id.
--- Numbers: the entries' blocks stand in a row up to the log's next one, and no more entries were acknowledged than there are.
+-- Form: the spaces go together, the ring has the active version under id 1 and each key id, and no floor is above it.
+-- Numbers: the entries' blocks stand in a row up to the log's next one, no more entries were acknowledged than there are, and none of these has a pending block.
 -- Dirty pages: as `AreDirtyOf` says.
 -- Files: while its disk isn't stopped, each file of the store is there with its length.
 -- Reads: while its disk isn't stopped, it reads as the session tells.
@@ -72,10 +73,12 @@ pub record IsSession {D : Type 0} (past : D → Past) (r : Running D) : Type 0 w
   pub spaces : AreSpaces r.store
   pub active : 1 ≤ r.active
   pub keyed : HasVersion r.ring r.active r.store.spaces
+  pub floors : NoneAbove r.active r.store.spaces
   pub ring : r.log.blocks ≡ r.store.header.blocks
   pub numbers : IsOpen r.log
   pub entries : AreEntries r.store.header.spaces r.begins r.journal r.log.next
   pub acked : r.acked ≤ length r.journal
+  pub settled : All (λ e. e.lsn ≤ durable r.log * block_bytes) (take r.acked r.journal)
   pub dirty : AreDirtyOf r.store r.log r.pool
   pub files : r.disk.stop ≡ None → At (HasStoreFiles r.store.header.blocks r.store.spaces) (past r.disk.disk)
   pub reads : r.disk.stop ≡ None → At (ReadsAsTold r.store r.log r.pool) (past r.disk.disk)

@@ -1,5 +1,5 @@
 -- The spaces of a session's store, and what is known of the homes of their pages.
-use Rattle.std.specs.Prelude.{◌≡◌, ℕ, Bool, true, false, nat_eq, nat_lt, ◌&&◌, not, if◌then◌else◌, List, [], ◌∷◌, length, slice_index_or, Option, Some, None}
+use Rattle.std.specs.Prelude.{◌≡◌, ℕ, ◌≤◌, Bool, true, false, nat_eq, nat_lt, ◌&&◌, not, if◌then◌else◌, List, [], ◌∷◌, length, slice_index_or, Option, Some, None}
 use Rattle.space_head.specs.declared.space.SpaceInfo.{SpaceInfo}
 use Rattle.space_head.specs.declared.space.Home.{Home}
 use Rattle.space_head.specs.declared.space.Home.TheVariants.{Unused}
@@ -10,6 +10,11 @@ use Rattle.store_form.specs.Rest.{homes_of}
 abbrev pub space_with_id : List SpaceInfo → ℕ → Option SpaceInfo
 space_with_id [] s = None
 space_with_id (x ∷ xs) s = if nat_eq x.space s then Some x else space_with_id xs s
+
+-- no space has a floor above this version
+abbrev pub NoneAbove : ℕ → List SpaceInfo → Type 0
+NoneAbove version [] = Unit {0}
+NoneAbove version (x ∷ xs) = (x.floor ≤ version) × NoneAbove version xs
 
 -- the store has the page, and it isn't page 0
 abbrev pub is_page : List SpaceInfo → ℕ → ℕ → Bool

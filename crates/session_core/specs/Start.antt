@@ -16,14 +16,10 @@ use Rattle.store_form.specs.Said.{header_said}
 use Rattle.store_form.specs.declared.parts.RestParts.{RestParts}
 use Rattle.session_core.specs.Keys.{HasVersion, IsLeastIdLacking}
 use Rattle.session_core.specs.Session.{Running, empty_pool}
+use Rattle.session_core.specs.Spaces.{NoneAbove}
 use Rattle.session_core.specs.declared.fault.StartFault.{StartFault}
 use Rattle.session_core.specs.declared.fault.StartFault.TheVariants.{NoVersion, VersionBelowFloor, DiskFault, OutOfMemory}
 use Rattle.session_core.specs.declared.options.SessionOptions.{SessionOptions}
-
--- no space has a floor above this version
-abbrev pub NoneAbove : ℕ → List SpaceInfo → Type 0
-NoneAbove version [] = Unit {0}
-NoneAbove version (x ∷ xs) = (x.floor ≤ version) × NoneAbove version xs
 
 -- the first space that has one
 pub record IsFirstFloorAbove (version : ℕ) (spaces : List SpaceInfo) (info : SpaceInfo) : Type 0 where

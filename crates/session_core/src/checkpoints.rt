@@ -90,7 +90,8 @@ impl<D: Disk + Drop> SessionCore<D> {
     /// in this call. The checkpoint may then be on the disk or not, and nothing but the disk is changed.
     pub fn checkpoint(&mut self) -> Result<u64, EngineFault>
         ensures value { IfOk result (λ begin. begin ≡ run_begin self.old) }
-        ensures least { IfOk result (λ begin. All (λ d. begin ≤ d.first) self.old.pool.dirty.entries) }
+        ensures least { self.old.disk.stop ≡ None → All (λ d. run_begin self.old ≤ d.first) self.old.pool.dirty.entries }
+        ensures was_up { OnOk result (self.old.disk.stop ≡ None) }
         ensures checked { OnOk result (self.new ≡ kept_from self.old (run_begin self.old) self.new.disk) }
         ensures still { run_begin self.old ≡ self.old.log.from → self.new.disk ≡ self.old.disk }
         ensures exact { self.old.log.from < run_begin self.old → OnOk result (D.past self.new.disk.disk ≡ grow (Sync LogFile) (grow (check_event (self.old.log.sequence + 1) (run_begin self.old)) (D.past self.old.disk.disk))) }

@@ -113,8 +113,8 @@ pub(crate) fn fetch_page<D: Disk + Drop>(
     }
 }
 
-// Copies the page of a name, where it is held.
-fn copy_held(pool: &mut Pool, name: PageName, into: &mut [u8]) -> bool
+/// Copies the page of a name, where it is held.
+pub(crate) fn copy_held(pool: &mut Pool, name: PageName, into: &mut [u8]) -> bool
     requires { length into.old ≡ page_bytes }
     ensures held { result ≡ is_held name pool.old }
     ensures page { result ≡ true → held_page name pool.old ≡ Some (plain_page into.new) }
@@ -139,7 +139,7 @@ fn hold_read(pool: &mut Pool, name: PageName, bytes: &[u8])
     let _held = pool.admit(name.space, name.page, bytes);
 }
 
-fn is_unused(home: Home) -> bool
+pub(crate) fn is_unused(home: Home) -> bool
     ensures yes { result ≡ true → home ≡ Unused }
     ensures no { home ≡ Unused → result ≡ true }
 {

@@ -2,7 +2,8 @@
 ghost use Rattle.std.specs.Prelude.{◌≡◌, ◌≤◌, MatchOption, All};
 ghost use Rattle.key_ring.specs.Ring.{pairs_of};
 ghost use Rattle.session_core.specs.Keys.{HasVersion, IsLeastIdLacking};
-ghost use Rattle.session_core.specs.Start.{IsFirstFloorAbove, NoneAbove};
+ghost use Rattle.session_core.specs.Spaces.{NoneAbove};
+ghost use Rattle.session_core.specs.Start.{IsFirstFloorAbove};
 ghost use Rattle.store_form.specs.Plan.{lesser_missing};
 
 use key_ring::Ring;

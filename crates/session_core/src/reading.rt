@@ -125,6 +125,9 @@ impl<D: Disk + Drop> SessionCore<D> {
         into: &mut [u8],
     ) -> Result<(), EngineFault>
         ensures bytes { OnOk result (ReadsPart D.past self.old space page at into.new) }
+        ensures was_up { OnOk result (self.old.disk.stop ≡ None) }
+        ensures there { OnOk result (is_page self.old.store.spaces space page ≡ true) }
+        ensures range { OnOk result (IsRange at (length into.old)) }
         ensures refused { IfErr result (IsReadRefusal D.past (IsRange at (length into.old)) (EngineFault.BadRange at (length into.old)) self.old self.new space page) }
         ensures data { OnlyReads D.past space page self.old self.new }
         ensures still { (is_held (name_of_page space page) self.old.pool ≡ true) ⊎ (home_in self.old.store space page ≡ Unused) → self.new.disk ≡ self.old.disk }
@@ -149,6 +152,8 @@ impl<D: Disk + Drop> SessionCore<D> {
     /// Those of [`SessionCore::read`], but for that of a range.
     pub fn page_kind(&mut self, space: u32, page: u32) -> Result<Option<u16>, EngineFault>
         ensures kind { IfOk result (ReadsKind D.past self.old space page) }
+        ensures was_up { OnOk result (self.old.disk.stop ≡ None) }
+        ensures there { OnOk result (is_page self.old.store.spaces space page ≡ true) }
         ensures refused { IfErr result (IsReadRefusal D.past (Unit {0}) EngineFault.OutOfMemory self.old self.new space page) }
         ensures data { OnlyReads D.past space page self.old self.new }
         ensures still { (is_held (name_of_page space page) self.old.pool ≡ true) ⊎ (home_in self.old.store space page ≡ Unused) → self.new.disk ≡ self.old.disk }

@@ -6,7 +6,8 @@ ghost use Rattle.store_files.specs.Header.{most_spaces};
 ghost use Rattle.store_form.specs.Rest.{IsRestForm, ReadsAtRest};
 ghost use Rattle.space_head.specs.declared.space.SpaceInfo.{SpaceInfo};
 ghost use Rattle.session_core.specs.Session.{empty_pool};
-ghost use Rattle.session_core.specs.Start.{HasBegun, IsFirstFloorAbove, IsNoBeginning, IsStartRefusal, MayStart, NoneAbove, rest_of, session_begun, start_fault};
+ghost use Rattle.session_core.specs.Start.{HasBegun, IsFirstFloorAbove, IsNoBeginning, IsStartRefusal, MayStart, rest_of, session_begun, start_fault};
+ghost use Rattle.session_core.specs.Spaces.{NoneAbove};
 
 use crate::journal::Entry;
 use crate::keys::SessionKeys;

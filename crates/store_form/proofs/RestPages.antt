@@ -53,14 +53,14 @@ rest_by es keys c next header rest is =
     (record { log = rest.recovers.log; by = rest.recovers.by; empty = rest.empty; none_live = rest.none_live })
 
 -- what a text says in clear
-abbrev clear_text : List ℕ → Text
+abbrev pub clear_text : List ℕ → Text
 clear_text x = record { lsn = be64_at x 16; version = be32_at x 0; bytes = x }
 
-text_in_is : (x : List ℕ) → text_in x ≡ clear_text x
+pub text_in_is : (x : List ℕ) → text_in x ≡ clear_text x
 unfolding text_in
 text_in_is x = refl
 
-held_zero : (p : ℕ) (x : List ℕ) → held p x ≡ Zero → are_zero x ≡ true
+pub held_zero : (p : ℕ) (x : List ℕ) → held p x ≡ Zero → are_zero x ≡ true
 unfolding held
 held_zero p x is = by (is_page_text p x) (are_zero x) refl is
   where
@@ -130,7 +130,7 @@ clear_version size space lsn version key plain bytes t = by t.fits
 in_clear : (lsn version : ℕ) (space : ℕ) (plain : Plain) (bytes : List ℕ) → version ≡ 0 → IsText 16384 space 0 lsn version None plain bytes → IsText 16384 space 0 lsn 0 None plain bytes
 in_clear lsn version space plain bytes none t = subst (λ (v : ℕ). IsText 16384 space 0 lsn v None plain bytes) none t
 
-head_told : (header : HeldHeader) (keys : List RingEntry) (salts : ℕ → List ℕ) (c : ℕ → ℕ → Page) (s : ℕ) (bytes : List ℕ) (x : Page) → length bytes ≡ 16384 → MeansPage header keys salts s 0 (clear_text bytes) x → (info : SpaceInfo) × (x ≡ Head info) × (head_of bytes ≡ Ok (head_of_space info))
+pub head_told : (header : HeldHeader) (keys : List RingEntry) (salts : ℕ → List ℕ) (c : ℕ → ℕ → Page) (s : ℕ) (bytes : List ℕ) (x : Page) → length bytes ≡ 16384 → MeansPage header keys salts s 0 (clear_text bytes) x → (info : SpaceInfo) × (x ≡ Head info) × (head_of bytes ≡ Ok (head_of_space info))
 head_told header keys salts c s bytes (Head info) long (first, space, typed, text) =
     (info, refl, head_read s (be64_at bytes 16) info bytes long typed (in_clear (be64_at bytes 16) (be32_at bytes 0) s (head_page info) bytes (clear_version 16384 s (be64_at bytes 16) (be32_at bytes 0) None (head_page info) bytes text) text))
 head_told header keys salts c s bytes Unused long means = elim means [ ]

@@ -1,5 +1,5 @@
 use Rattle.std.proofs.Common.{take}
-use Rattle.session_core.specs.Start.{NoneAbove}
+use Rattle.session_core.specs.Spaces.{NoneAbove}
 use Rattle.session_core.proofs.missing.first_above.Given as goal
 
 abbrev pub invariant-loop-info : goal.invariant-loop-info
