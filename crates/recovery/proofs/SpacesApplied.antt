@@ -62,11 +62,14 @@ pub leaves_space : (spaces : List SpaceInfo) (i end : ℕ) → i < length spaces
 leaves_space spaces i end lt old cur new first next = record {
   since = λ m now.
       let (t, there, later) = next.since m now in
-      let (b, begun, earlier) = first.since t there in
-      (b, begun, record {
-        homes = λ z p out. later.homes z p (inl (λ e. out i (omega arith) lt (sym e))) ∙ earlier.homes z p (λ j below within. out j (omega (arith, below)) within);
-        log = later.log ∙ earlier.log;
-      });
+      let (b, begun, earlier) = first.since t there in (
+        b,
+        begun,
+        record {
+          homes = λ z p out. later.homes z p (inl (λ e. out i (omega arith) lt (sym e))) ∙ earlier.homes z p (λ j below within. out j (omega (arith, below)) within);
+          log = later.log ∙ earlier.log;
+        },
+      );
   told = λ b begun. let (t, there) = first.told b begun in next.told t there;
 }
 
@@ -182,14 +185,17 @@ module _ (o : StoreOpened) (entry : List Event) (found : Analysis) where
         let size = long active found fits in
         let within : i < length (header_said found.header).spaces = omega (arith, lt, size) in
         let s = (space_at found.changes.spaces i).space in
-        let (m, now, others) = still_now keys active found fits i lt old cur leaves b begun in
-        (m, now, record {
-          opened = due.opened;
-          between = (applied.here m now).0;
-          chosen = λ p low below later.
-              let (a, chosen, reads_so) = due.chosen s p (has_pages active found fits o entry keys own is i within p below) in
-              (a, chosen, ap (held p) (still keys active found fits i lt old cur leaves b m others p) ∙ reads_so);
-        })
+        let (m, now, others) = still_now keys active found fits i lt old cur leaves b begun in (
+          m,
+          now,
+          record {
+            opened = due.opened;
+            between = (applied.here m now).0;
+            chosen = λ p low below later.
+                let (a, chosen, reads_so) = due.chosen s p (has_pages active found fits o entry keys own is i within p below) in
+                (a, chosen, ap (held p) (still keys active found fits i lt old cur leaves b m others p) ∙ reads_so);
+          },
+        )
 
     -- behind the last one all are
     pub all_applied : (count : ℕ) → length found.changes.spaces ≤ count → (b m : List Event) → IsStoreDue o number entry b → AreSpacesApplied o entry found count b m → IsStoreApplied o entry m

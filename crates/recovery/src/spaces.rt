@@ -42,12 +42,7 @@ fn seal_version(active: u32, info: &SpaceInfo) -> u32
 }
 
 // What the pages of a space are sealed under, where the ring has its key.
-fn seal_key_of(
-    ring: &Ring,
-    algorithm: Algorithm,
-    active: u32,
-    info: &SpaceInfo,
-) -> Option<SealKey>
+fn seal_key_of(ring: &Ring, algorithm: Algorithm, active: u32, info: &SpaceInfo) -> Option<SealKey>
     ensures some { IfSome result (IsSealKeyOf ring.now algorithm active info.now) }
     ensures none { IfNone result (LacksSealKey ring.now algorithm active info.now) }
 {
