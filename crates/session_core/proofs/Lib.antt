@@ -14,3 +14,6 @@ pub mod LogWrites
 pub mod SpaceEdits
 pub mod HoldLaws
 pub mod ChangeChecks
+pub mod CopyLaws
+pub mod TakeLaws
+pub mod CurrentLaws

@@ -15,3 +15,5 @@ pub mod SpaceChanges
 pub mod Holding
 pub mod Entering
 pub mod Committing
+pub mod Taking
+pub mod Putting

@@ -115,8 +115,8 @@ pub(crate) fn fetch_page<D: Disk + Drop>(
     }
 }
 
-// Copies the page of a name, where it is held.
-fn copy_held(pool: &mut Pool, name: PageName, into: &mut [u8]) -> bool
+/// Copies the page of a name, where it is held.
+pub(crate) fn copy_held(pool: &mut Pool, name: PageName, into: &mut [u8]) -> bool
     requires { length into.old ≡ page_bytes }
     ensures held { result ≡ is_held name pool.old }
     ensures page { result ≡ true → held_page name pool.old ≡ Some (plain_page into.new) }
