@@ -17,3 +17,4 @@ pub mod ChangeChecks
 pub mod CopyLaws
 pub mod TakeLaws
 pub mod CurrentLaws
+pub mod PutWrites

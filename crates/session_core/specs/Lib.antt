@@ -17,3 +17,4 @@ pub mod Entering
 pub mod Committing
 pub mod Taking
 pub mod Putting
+pub mod Writing

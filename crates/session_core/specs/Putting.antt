@@ -1,17 +1,20 @@
 -- Which texts of a sealed batch are written to their homes, and what is left of the pool and of what is known of homes.
-use Rattle.std.specs.Prelude.{ℕ, ◌*◌, Bool, false, nat_eq, nat_lt, ◌&&◌, ◌||◌, if◌then◌else◌, List, [], ◌∷◌, map}
+use Rattle.std.specs.Prelude.{ℕ, ◌*◌, ◌<◌, Bool, false, nat_eq, nat_lt, ◌&&◌, ◌||◌, if◌then◌else◌, List, [], ◌∷◌, length, map, slice_index_or}
 use Rattle.std.specs.Str.{bytes_eq}
 use Rattle.byte_list.specs.Fields.{be64_at}
 use Rattle.doublewrite.specs.Text.{page_number_of}
-use Rattle.page_batch.specs.Batch.{CopiedPage, TextOfPage}
+use Rattle.page_batch.specs.Batch.{CopiedPage, TextOfPage, sealed_version}
 use Rattle.page_places.specs.Texts.{page_lsn_at}
 use Rattle.page_pool.specs.Changes.{cleaned, is_dirty_at}
 use Rattle.page_pool.specs.Pages.{PoolState, held_page}
 use Rattle.page_text.specs.Text.{Plain}
+use Rattle.space_head.specs.declared.space.Home.TheVariants.{Clean}
 use Rattle.store_image.specs.View.{block_bytes}
 use Rattle.store_model.specs.Fold.{used}
 use Rattle.store_model.specs.declared.contents.PlainPage.{PlainPage}
 use Rattle.session_core.specs.Dirty.{name_of_page}
+use Rattle.session_core.specs.SpaceChanges.{with_home}
+use Rattle.session_core.specs.Spaces.{StoreSpaces}
 
 -- ---- which of them
 
@@ -48,3 +51,12 @@ need_log number (t ∷ ts) = nat_lt (number * block_bytes) (lsn_of t) || need_lo
 abbrev pub cleaned_all : ℕ → List (List ℕ) → PoolState → PoolState
 cleaned_all s [] pool = pool
 cleaned_all s (t ∷ ts) pool = cleaned_all s ts (cleaned (name_of_page s (page_number_of t)) (lsn_of t) pool)
+
+-- and what is known of homes: each of these pages is clean there, page 0 in clear and each other one under this version
+abbrev pub homes_written : ℕ → ℕ → List (List ℕ) → StoreSpaces → StoreSpaces
+homes_written s version [] store = store
+homes_written s version (t ∷ ts) store = homes_written s version ts (record store { homes = with_home store.spaces store.homes s (page_number_of t) (Clean (sealed_version (page_number_of t) version)) })
+
+-- the pages of the texts are pages of a space of so many
+abbrev pub NameWithin : List (List ℕ) → ℕ → Type 0
+NameWithin texts count = (i : ℕ) → i < length texts → page_number_of (slice_index_or texts i []) < count

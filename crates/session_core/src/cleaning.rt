@@ -1,12 +1,17 @@
-// What is left behind the texts of a batch that were written: the pages that are clean then.
-ghost use Rattle.std.specs.Prelude.{◌≡◌, ◌*◌, ◌≤◌, ◌^◌};
-ghost use Rattle.store_image.specs.View.{block_bytes};
-ghost use Rattle.session_core.specs.Putting.{cleaned_all, lsn_of, need_log};
+// What is left behind the texts of a batch that were written: their pages are clean, in memory and at home.
+ghost use Rattle.std.specs.Prelude.{◌≡◌, ◌≤◌, ◌^◌, Some};
+ghost use Rattle.page_batch.specs.Batch.{sealed_version};
+ghost use Rattle.session_core.specs.Putting.{NameWithin, cleaned_all, homes_written, lsn_of, need_log};
+ghost use Rattle.session_core.specs.Spaces.{space_with_id};
+ghost use Rattle.space_head.specs.declared.space.Home.TheVariants.{Clean};
+ghost use Rattle.space_head.specs.declared.space.SpaceInfo.{SpaceInfo};
 
+use crate::tablespaces::Tablespaces;
 use byte_list::fields::be64_at;
 use doublewrite::{PageText, PageTexts};
 use page_places::PAGE_LSN_AT;
 use page_pool::Pool;
+use space_head::Home;
 
 // How many bytes a block of the log has.
 const BLOCK_BYTES: u64 = 4096;
@@ -38,5 +43,27 @@ pub(crate) fn clean_pages(pool: &mut Pool, space: u32, texts: &PageTexts)
     for i in 0..texts.len() {
         let text = texts.get(i);
         pool.clean(space, text.number(), lsn_of(text));
+    }
+}
+
+// What is known of the home of a page that was written under a version: page 0 is in clear.
+fn written_home(page: u32, version: u32) -> Home
+    ensures { result ≡ Clean (sealed_version page version) }
+{
+    if page == 0 {
+        Home::Clean(0)
+    } else {
+        Home::Clean(version)
+    }
+}
+
+/// Notes of the page of each text that its home is clean, under this version.
+pub(crate) fn set_homes(store: &mut Tablespaces, space: u32, version: u32, texts: &PageTexts)
+    requires { (info : SpaceInfo) × (space_with_id store.old.spaces space ≡ Some info) × NameWithin texts.now info.pages }
+    ensures { store.new ≡ homes_written space version texts.now store.old }
+{
+    for i in 0..texts.len() {
+        let page = texts.get(i).number();
+        store.set_home(space, page, written_home(page, version));
     }
 }

@@ -39,6 +39,7 @@ mod settling;
 mod stopping;
 mod tablespaces;
 mod taking;
+mod writing;
 
 pub use closing::Halted;
 pub use fault::{EngineFault, StartFault};
