@@ -29,3 +29,9 @@ pub mod SpaceSteps
 pub mod SpacesFound
 pub mod SpacesApplied
 pub mod OpenRefusals
+pub mod HeadSaid
+pub mod EntryHeads
+pub mod EntrySteps
+pub mod EntryFound
+pub mod EntryRefusals
+pub mod EntryOpened

@@ -19,3 +19,4 @@ pub mod Passed
 pub mod Due
 pub mod Looking
 pub mod Spaces
+pub mod Entry

@@ -19,7 +19,9 @@ ghost use Rattle.store_files.specs.Header.{HeldHeader, are_allowed, most_spaces}
 ghost use Rattle.store_files.specs.Run.{block_at};
 ghost use Rattle.store_form.specs.Said.{header_said};
 ghost use Rattle.store_image.specs.View.{slot_count};
+ghost use Rattle.store_model.specs.declared.contents.SpaceContents.{SpaceContents};
 ghost use Rattle.recovery.specs.Changes.{FitLast};
+ghost use Rattle.recovery.specs.Entry.{BeginsWith, IsSettledStore, MayOpen};
 ghost use Rattle.recovery.specs.Files.{IsFormatted};
 ghost use Rattle.recovery.specs.Heads.{AreInfosFor};
 ghost use Rattle.recovery.specs.Looking.{FitsTogether, FoundChanges, FoundKeys, FoundRun, IsAnalysis, IsOpenRefusal, log_calls, look_calls, page_calls};
@@ -135,6 +137,7 @@ fn find_log<D: Disk>(alloc: Global, disk: &mut D) -> Result<LogFound, OpenRefuse
     ensures same { D.past disk.new ≡ D.past disk.old }
     ensures later { D.is_later disk.old disk.new }
     ensures calls { At (λ es. (h : HeldHeader) → IsFormatted h es → D.clock disk.new ≤ D.clock disk.old + log_calls h) (D.past disk.old) }
+    ensures unformatted { At (λ es. ((h : HeldHeader) → IsFormatted h es → ⊥) → D.clock disk.new ≤ D.clock disk.old + 2) (D.past disk.old) }
     ensures cause { HasCauseOf DiskFault (D.faults disk.old) (D.faults disk.new) result }
     ensures memory { D.memory_refusals disk.old ≤ D.memory_refusals disk.new }
     ensures no_fault { (IsErrOf result DiskFault → ⊥) → D.faults disk.new ≡ D.faults disk.old }
@@ -231,6 +234,10 @@ fn find_later<D: Disk>(
 /// page is read from, what its spaces are and what the run changes, and looks at its files' lengths, the
 /// keys of the ring, the least versions of the spaces and the numbers that are left. It only reads.
 ///
+/// A store that recovers as it reads is refused nothing but a fault or want of memory, where its files
+/// are there, the ring has each key that it needs, `active` is below no least version and numbers are
+/// left.
+///
 /// # Errors
 /// That of the first step, in this order, which doesn't find what it looks for: those of
 /// [`find_header`], [`check_lengths`], [`find_checkpoint`], [`find_pages`], [`find_heads`],
@@ -246,9 +253,12 @@ pub fn look<D: Disk>(
     ensures found { IfOk result (λ found. At (IsAnalysis ring.now active found) (D.past disk.old)) }
     ensures fits { IfOk result (FitsTogether active) }
     ensures refused { IfErr result (IsOpenRefusal ring.now active (D.past disk.old)) }
+    ensures clear { IfErr result (λ why. At (λ es. (c : List SpaceContents) (last : ℕ) → MayOpen ring.now active c last es → IsDiskRefuse why) (D.past disk.old)) }
+    ensures begins { IfOk result (λ found. At (λ es. (c : List SpaceContents) (last : ℕ) → IsSettledStore ring.now c last es → BeginsWith ring.now active found c es) (D.past disk.old)) }
     ensures same { D.past disk.new ≡ D.past disk.old }
     ensures later { D.is_later disk.old disk.new }
     ensures calls { At (λ es. (h : HeldHeader) → IsFormatted h es → D.clock disk.new ≤ D.clock disk.old + look_calls h) (D.past disk.old) }
+    ensures unformatted { At (λ es. ((h : HeldHeader) → IsFormatted h es → ⊥) → D.clock disk.new ≤ D.clock disk.old + 2) (D.past disk.old) }
     ensures cause { HasCauseOf DiskFault (D.faults disk.old) (D.faults disk.new) result }
     ensures memory { D.memory_refusals disk.old ≤ D.memory_refusals disk.new }
     ensures no_fault { (IsErrOf result DiskFault → ⊥) → D.faults disk.new ≡ D.faults disk.old }
