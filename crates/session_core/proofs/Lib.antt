@@ -17,4 +17,7 @@ pub mod ChangeChecks
 pub mod CopyLaws
 pub mod TakeLaws
 pub mod CurrentLaws
+pub mod CleanedLaws
+pub mod HomeEdits
+pub mod MarkLaws
 pub mod PutWrites
