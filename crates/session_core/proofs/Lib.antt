@@ -14,3 +14,5 @@ pub mod LogWrites
 pub mod SpaceEdits
 pub mod HoldLaws
 pub mod ChangeChecks
+pub mod LookLaws
+pub mod EnterLaws
