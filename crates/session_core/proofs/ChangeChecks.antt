@@ -1,5 +1,5 @@
 -- What is checked of a mini-transaction before it is entered: its pages, its ranges and its numbers.
-use Rattle.std.proofs.Common.{◌≡◌, ◌≢◌, ℕ, ◌+◌, ◌<◌, ◌≤◌, ◌&&◌, Bool, true, false, true≢false, eq-eqb, nat_eq, nat_le, nat_lt, not, if◌then◌else◌, List, [], ◌∷◌, length, Option, Some, None, Result, Ok, Err, refl, sym, ap, ◌∙◌, subst, arith}
+use Rattle.std.proofs.Common.{◌≡◌, ◌≢◌, ℕ, ◌+◌, ◌<◌, ◌≤◌, ◌&&◌, Bool, true, false, true≢false, eq-eqb, nat_eq, nat_le, nat_lt, not, if◌then◌else◌, List, [], ◌∷◌, length, Option, Some, None, Result, Ok, Err, OnOk, refl, sym, ap, ◌∙◌, subst, arith}
 use Rattle.std.specs.Prelude.{IfErr}
 use Rattle.std.proofs.lemmas.Bool.{and_parts}
 use Rattle.std.proofs.lemmas.Bool.Decides.{nat_tests}
@@ -183,8 +183,8 @@ put_unfit c s p at bytes (Err e) is (same, no_range) =
 -- they name no page 0
 pub from_allowed : (cs : List Change) → AreOfPages cs → AreAllowed cs → AreFromOne cs
 from_allowed [] of_pages allowed = tt
-from_allowed (Put s page at bytes ∷ cs) of_pages allowed = ((λ e. let some = allowed.0.1.0 in omega (arith, some, e)), from_allowed cs of_pages.1 allowed.1)
-from_allowed (Kind s page kind ∷ cs) of_pages allowed = ((λ e. let some = allowed.0.1.0 in omega (arith, some, e)), from_allowed cs of_pages.1 allowed.1)
+from_allowed (Put s page at bytes ∷ cs) of_pages allowed = ((λ e. let some = allowed.0.1 in omega (arith, some, e)), from_allowed cs of_pages.1 allowed.1)
+from_allowed (Kind s page kind ∷ cs) of_pages allowed = ((λ e. let some = allowed.0.1 in omega (arith, some, e)), from_allowed cs of_pages.1 allowed.1)
 from_allowed (Touch s page ∷ cs) of_pages allowed = absurd of_pages.0
 from_allowed (Floor s version ∷ cs) of_pages allowed = absurd of_pages.0
 from_allowed (Encrypt s ∷ cs) of_pages allowed = absurd of_pages.0

@@ -126,7 +126,7 @@ home_changed c store z q some are of_store =
     let found = space_named store c are of_store in
     let n = page_of_change c in
     ap (λ (l : List SpaceInfo). slice_index_or (homes_of l (with_home store.spaces store.homes n.space n.page Dirty) z) q Unused) (same_told c store.spaces some)
-    ∙ home_with store.header.spaces store.spaces store.homes n.space n.page z q Dirty found.0 are.have found.1.0 found.1.1
+    ∙ home_with store.header.spaces store.spaces store.homes n.space n.page z q Dirty found.0 are.have found.1 found.2
 
 -- ---- the pages that are dirty
 
@@ -173,7 +173,7 @@ used_type name (Some p) some typed = typed p refl
 
 changed_type : (c : Change) (page : ℕ) (p : PlainPage) → page ≢ 0 → IsAllowed c → HasPageType page p.kind → HasPageType page (page_changed_by c p).kind
 changed_type (Put s q at bytes) page p some allowed typed = typed
-changed_type (Kind s q kind) page p some allowed typed = inr (some, allowed.1.1.1.1.0, allowed.1.1.1.1.1)
+changed_type (Kind s q kind) page p some allowed typed = inr (some, allowed.4, allowed.5)
 changed_type (Touch s q) page p some allowed typed = typed
 changed_type (Floor s version) page p some allowed typed = typed
 changed_type (Encrypt s) page p some allowed typed = typed
@@ -331,7 +331,7 @@ one_entered P lsn first (c ∷ cs) s some stamps begins all = one_after P lsn fi
 pub the_one : (P : DirtyPage → Type 0) (ds : List DirtyPage) → HasOne P ds → (d : DirtyPage) × Contains ds d × P d
 the_one P [] has = absurd has
 the_one P (d ∷ ds) (inl here) = (d, Contains-head d ds, here)
-the_one P (d ∷ ds) (inr there) = let later = the_one P ds there in (later.0, Contains-tail d ds later.0 later.1.0, later.1.1)
+the_one P (d ∷ ds) (inr there) = let later = the_one P ds there in (later.0, Contains-tail d ds later.0 later.1, later.2)
 
 pub one_there : (P : DirtyPage → Type 0) (ds : List DirtyPage) (d : DirtyPage) → Contains ds d → P d → HasOne P ds
 one_there P [] d (k, lt, is) own = absurd (omega (arith, lt))
@@ -450,7 +450,7 @@ module _ (store : StoreSpaces) (log new : LogState) (n lsn : ℕ) (cs : List Cha
           record { from = omega (arith, order, same); first = omega (arith, next, some); behind = omega (arith, is, some); lsn = omega (arith, is, next) }
 
   -- a page that needs the pending blocks
-  Needs : DirtyPage → Type 0
+  abbrev Needs : DirtyPage → Type 0
   Needs d = (d.first ≤ durable log) × (durable log * 4096 < d.lsn)
 
   needs_stamped : Stamps Needs lsn
@@ -491,9 +491,9 @@ module _ (store : StoreSpaces) (log new : LogState) (n lsn : ℕ) (cs : List Cha
         let same : durable new ≡ durable log = durable_same log new n open_log more in
         record {
           page = one.0;
-          there = one.1.0;
-          first = subst (λ (k : ℕ). one.0.first ≤ k) (sym same) one.1.1.0;
-          lsn = subst (λ (k : ℕ). k * 4096 < one.0.lsn) (sym same) one.1.1.1;
+          there = one.1;
+          first = subst (λ (k : ℕ). one.0.first ≤ k) (sym same) one.2.0;
+          lsn = subst (λ (k : ℕ). k * 4096 < one.0.lsn) (sym same) one.2.1;
         };
   }
 

@@ -1,4 +1,5 @@
 use Rattle.std.proofs.Common.{◌≡◌, List, None, sym, subst}
+use Rattle.counted_disk.specs.Counting.{IsCounted, count_of}
 use Rattle.disk_model.proofs.Moments.{at_each, at_is}
 use Rattle.key_ring.specs.Ring.{RingEntry}
 use Rattle.session_core.specs.Entering.{AreFromOne}
@@ -28,3 +29,8 @@ invariant_of-self g c =
       files = λ runs. at_is c.hold_named.ensures.past (kept.files up);
       reads = λ runs. at_is c.hold_named.ensures.past (at_each (λ es told. told_looks c.self.inside.keys c.self.inside.store past c.changes.result.now c.self.inside.pool c.hold_named.new.pool from looks c.self.inside.log es told) (kept.reads up));
     }
+
+pub returns-clause-later : goal.returns-clause-later
+returns-clause-later g c =
+    subst (λ (r : Running _). g.D.Disk.is_later r.disk.disk c.hold_named.new.disk.disk × IsCounted (count_of g.D.Disk.past g.D.Disk.faults g.D.Disk.memory_refusals r.disk) (count_of g.D.Disk.past g.D.Disk.faults g.D.Disk.memory_refusals c.hold_named.new.disk))
+    c.self.view_is c.hold_named.ensures.later
