@@ -6,7 +6,7 @@
 Looked at are the words that the crates' specs/ define for others (`pub`, at the margin of a file or in modules, but no
 fields of records), and the types and traits that a crate's src/ shows. A word that is handed on by `pub use` is defined
 once. A type in src/ may have the name of no other crate's type or word. FOLDER is the repository, by default the one
-that this script is in. The pair of crates in SUCCESSION may share names.
+that this script is in. The pairs of crates in SUCCESSIONS may share names.
 """
 import collections
 import glob
@@ -16,9 +16,9 @@ import sys
 
 TOP = os.path.dirname(os.path.dirname(os.path.abspath(__file__)))
 WORD = re.compile(r"(?:(?:unfoldable|abbrev|opaque)\s+)*pub\s+(?:(?:unfoldable|abbrev|opaque)\s+)*(\S+)(?:\s+(\S+))?")
-# The session takes the interim engine's place, and its words with it: a name that these two crates alone have isn't
-# counted. The pair goes when keyd_cli moves to the new engine, and plain_engine with it.
-SUCCESSION = {"plain_engine", "session_core"}
+# The session and the engine over it take the interim engine's place, and its words with it: a name that one of these
+# pairs alone has isn't counted. They go when keyd_cli moves to the new engine, and plain_engine with it.
+SUCCESSIONS = ({"plain_engine", "session_core"}, {"plain_engine", "engine_core"})
 TYPE = re.compile(r"\s*pub\s+(?:unsafe\s+)?(?:struct|enum|trait|type|union)\s+(\w+)")
 
 
@@ -60,7 +60,7 @@ def collect(top, pattern, names, found):
 def is_shared(places):
     """Whether a name with these places has a meaning in two crates."""
     crates = {crate for crate, _ in places}
-    return len(crates) > 1 and crates != SUCCESSION
+    return len(crates) > 1 and crates not in SUCCESSIONS
 
 
 def main():

@@ -125,10 +125,15 @@ module _ (es : List Event) (log : LogView (List Change)) (s p : ℕ) where
   copy_from : (i : ℕ) (t : Text) → IsCopy full s p i t → IsCopy (disk_view es) s p i t
   copy_from i t c = record { within = c.within; is = c.is }
 
-  chosen_to : (o : Option Text) → IsChosen (disk_view es) s p o → IsChosen full s p o
+  pub chosen_to : (o : Option Text) → IsChosen (disk_view es) s p o → IsChosen full s p o
   chosen_to o (Home t is e) = Home t is e
   chosen_to o (Copy i t none copy most first e) = Copy i t none (copy_to i t copy) (λ j u c. most j u (copy_from j u c)) (λ j u c same. first j u (copy_from j u c) same) e
   chosen_to o (Unused is none e) = Unused is (λ i t c. none i t (copy_from i t c)) e
+
+  pub chosen_from : (o : Option Text) → IsChosen full s p o → IsChosen (disk_view es) s p o
+  chosen_from o (Home t is e) = Home t is e
+  chosen_from o (Copy i t none copy most first e) = Copy i t none (copy_from i t copy) (λ j u c. most j u (copy_to j u c)) (λ j u c same. first j u (copy_to j u c) same) e
+  chosen_from o (Unused is none e) = Unused is (λ i t c. none i t (copy_to i t c)) e
 
   -- an unused page has no copy
   no_copies : (o : Option Text) → IsChosen full s p o → o ≡ None → (i : ℕ) (t : Text) → IsCopy full s p i t → ⊥
@@ -173,6 +178,15 @@ module _ (es : List Event) (log : LogView (List Change)) (s p : ℕ) where
         by source.Unused (none, lsn) = absurd (none-some t (chosen_one full s p None (Some t) none chosen))
         by (source.Home version) (u, home, own, lsn, named) = sym named ∙ ap (λ (x : Text). x.version) (same_Some u t (chosen_one full s p (Some u) (Some t) own chosen))
         by (source.Copy version) (u, none, own, lsn, named) = sym named ∙ ap (λ (x : Text). x.version) (same_Some u t (chosen_one full s p (Some u) (Some t) own chosen))
+
+    -- and its LSN is noted
+    pub lsn_noted : (t : Text) → IsChosen full s p (Some t) → note.lsn ≡ t.lsn
+    lsn_noted t chosen = by note.source (said note.source is.source)
+      where
+        by : (x : NoteSource) → Said x → note.lsn ≡ t.lsn
+        by source.Unused (none, lsn) = absurd (none-some t (chosen_one full s p None (Some t) none chosen))
+        by (source.Home version) (u, home, own, lsn, named) = sym lsn ∙ ap (λ (x : Text). x.lsn) (same_Some u t (chosen_one full s p (Some u) (Some t) own chosen))
+        by (source.Copy version) (u, none, own, lsn, named) = sym lsn ∙ ap (λ (x : Text). x.lsn) (same_Some u t (chosen_one full s p (Some u) (Some t) own chosen))
 
     -- a copy that can be read from, by the note's LSN
     pub live_noted : (i : ℕ) (t : Text) → IsCopy full s p i t → IsLiveBy note t.lsn → IsLive full s p i t

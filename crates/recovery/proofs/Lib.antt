@@ -27,3 +27,9 @@ pub mod DuePages
 pub mod RoundPages
 pub mod SpaceSteps
 pub mod OpenRefusals
+pub mod HeadSaid
+pub mod EntryHeads
+pub mod EntrySteps
+pub mod EntryFound
+pub mod EntryRefusals
+pub mod EntryOpened

@@ -18,3 +18,4 @@ pub mod Changes
 pub mod Passed
 pub mod Due
 pub mod Looking
+pub mod Entry

@@ -19,7 +19,9 @@ ghost use Rattle.store_files.specs.Header.{HeldHeader, are_allowed, most_spaces}
 ghost use Rattle.store_files.specs.Run.{block_at};
 ghost use Rattle.store_form.specs.Said.{header_said};
 ghost use Rattle.store_image.specs.View.{slot_count};
+ghost use Rattle.store_model.specs.declared.contents.SpaceContents.{SpaceContents};
 ghost use Rattle.recovery.specs.Changes.{FitLast};
+ghost use Rattle.recovery.specs.Entry.{BeginsWith, IsSettledStore, MayOpen};
 ghost use Rattle.recovery.specs.Files.{IsFormatted};
 ghost use Rattle.recovery.specs.Heads.{AreInfosFor};
 ghost use Rattle.recovery.specs.Looking.{FitsTogether, FoundChanges, FoundKeys, FoundRun, IsAnalysis, IsOpenRefusal, log_calls, look_calls, page_calls};
@@ -246,6 +248,8 @@ pub fn look<D: Disk>(
     ensures found { IfOk result (λ found. At (IsAnalysis ring.now active found) (D.past disk.old)) }
     ensures fits { IfOk result (FitsTogether active) }
     ensures refused { IfErr result (IsOpenRefusal ring.now active (D.past disk.old)) }
+    ensures clear { IfErr result (λ why. At (λ es. (c : List SpaceContents) (last : ℕ) → MayOpen ring.now active c last es → IsDiskRefuse why) (D.past disk.old)) }
+    ensures begins { IfOk result (λ found. At (λ es. (c : List SpaceContents) (last : ℕ) → IsSettledStore ring.now c last es → BeginsWith ring.now active found c es) (D.past disk.old)) }
     ensures same { D.past disk.new ≡ D.past disk.old }
     ensures later { D.is_later disk.old disk.new }
     ensures calls { At (λ es. (h : HeldHeader) → IsFormatted h es → D.clock disk.new ≤ D.clock disk.old + look_calls h) (D.past disk.old) }

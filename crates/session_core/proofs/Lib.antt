@@ -16,3 +16,7 @@ pub mod HoldLaws
 pub mod ChangeChecks
 pub mod LookLaws
 pub mod EnterLaws
+pub mod CopyLaws
+pub mod TakeLaws
+pub mod CurrentLaws
+pub mod PutWrites

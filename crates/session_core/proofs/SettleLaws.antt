@@ -29,9 +29,9 @@ use Rattle.store_image.specs.View.{block_bytes}
 use Rattle.session_core.specs.Dirty.{AreDirtyOf}
 use Rattle.session_core.specs.Told.{ReadsAsTold}
 use Rattle.session_core.proofs.LogWrites.{dirty_out}
-use Rattle.session_core.specs.Files.{HasStoreFiles, IsStopOf}
+use Rattle.session_core.specs.Files.{HasStoreFiles, IsStopOf, calls_of}
 use Rattle.session_core.specs.Session.{AreEntries, IsSession, Running}
-use Rattle.session_core.specs.Syncing.{InPart, IsSyncRefusal, IsSyncedInPart, Unwritten}
+use Rattle.session_core.specs.Syncing.{InPart, IsSyncRefusal, IsSyncedInPart, Unwritten, write_calls}
 use Rattle.session_core.specs.declared.fault.EngineFault.{EngineFault}
 use Rattle.session_core.specs.declared.journal.Entry.{Entry}
 
@@ -71,6 +71,14 @@ files_out blocks spaces log k (Some s) new files own is = record {
   where
     beside : (x : SpaceInfo) (es : List Event) → out_events k log ++ s ≡ es → HasFile (Space x.space) (pages x.pages) s → HasFile (Space x.space) (pages x.pages) es
     beside x es same has = subst (λ (l : List Event). HasFile (Space x.space) (pages x.pages) l) same (left_out (Space x.space) refl (pages x.pages) log k s has)
+
+-- a write out makes no call where no block is pending, and else a write for each and a sync
+pub calls_out : {D : Type 0} (clock : D → ℕ) (log : LogState) (old new : Counted D) → (pending_count log ≡ 0 → new ≡ old) → calls_of clock new ≤ calls_of clock old + (pending_count log + 1) → calls_of clock new ≤ calls_of clock old + write_calls (pending_count log)
+calls_out {D} clock log old new still most = by (pending_count log) refl
+  where
+    by : (k : ℕ) → pending_count log ≡ k → calls_of clock new ≤ calls_of clock old + write_calls k
+    by zero none = subst (λ (d : Counted D). calls_of clock d ≤ calls_of clock old + 0) (sym (still none)) (omega arith)
+    by (suc k) some = omega (arith, most, some)
 
 -- the entries end no later than the log
 entries_up : (spaces : List HeldSpace) (number : ℕ) (es : List Entry) (next : ℕ) → AreEntries spaces number es next → number ≤ next

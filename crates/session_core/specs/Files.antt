@@ -1,5 +1,5 @@
 -- The files of a session's store, and what a call that its disk refuses leaves.
-use Rattle.std.specs.Prelude.{◌≡◌, ◌⊎◌, ℕ, List, Some, None, Err}
+use Rattle.std.specs.Prelude.{◌≡◌, ◌⊎◌, ℕ, ◌+◌, List, Some, None, Err}
 use Rattle.std.specs.List.{All}
 use Rattle.counted_disk.specs.declared.counted.Counted.{Counted}
 use Rattle.counted_disk.specs.declared.counted.Stop.{Stop}
@@ -17,6 +17,10 @@ pub record HasStoreFiles (blocks : ℕ) (spaces : List SpaceInfo) (es : List Eve
   pub log : HasFile Log (log_places blocks) es
   pub double : HasFile Double slots es
   pub spaces_there : All (λ info. HasFile (Space info.space) (pages info.pages) es) spaces
+
+-- the calls of a disk that counts: those of the disk inside, and those that it answered itself since it was stopped
+abbrev pub calls_of : {D : Type 0} → (D → ℕ) → Counted D → ℕ
+calls_of clock disk = clock disk.disk + (disk.faults_since + disk.refusals_since)
 
 -- this error has stopped the disk in the call
 abbrev pub IsStopOf : {D : Type 0} → Counted D → EngineFault → Type 0

@@ -15,3 +15,6 @@ pub mod SpaceChanges
 pub mod Holding
 pub mod Entering
 pub mod Committing
+pub mod Taking
+pub mod Putting
+pub mod Writing

@@ -1,5 +1,5 @@
 -- A sync: the log is written out, and the journal's length is told as acknowledged.
-use Rattle.std.specs.Prelude.{◌≡◌, ℕ, length, Some, None, Err, false}
+use Rattle.std.specs.Prelude.{◌≡◌, ℕ, zero, suc, ◌+◌, length, Some, None, Err, false}
 use Rattle.counted_disk.specs.declared.counted.Counted.{Counted}
 use Rattle.counted_disk.specs.declared.counted.Stop.{Stop}
 use Rattle.disk_model.specs.Event.{Tell}
@@ -20,6 +20,11 @@ use Rattle.session_core.specs.declared.fault.EngineFault.{EngineFault}
 -- the session with no pending block and all entries acknowledged
 abbrev pub synced_session : {D : Type 0} → Running D → Counted D → Running D
 synced_session r disk = record r { disk = disk; log = written_out r.log; acked = length r.journal }
+
+-- the calls that write so many blocks and sync them, none where there is no block
+abbrev pub write_calls : ℕ → ℕ
+write_calls zero = 0
+write_calls (suc k) = suc k + 1
 
 -- the past once the pending blocks were written, in order, and the log was synced where there was one
 abbrev pub written_past : LogState → Past → Past

@@ -11,7 +11,7 @@ ghost use Rattle.redo_log.specs.Events.{check_event, side_batch};
 ghost use Rattle.redo_log.specs.Log.{IsOpen, durable, with_checkpoint};
 ghost use Rattle.store_image.specs.View.{block_bytes};
 ghost use Rattle.session_core.specs.Checking.{kept_from, run_begin};
-ghost use Rattle.session_core.specs.Files.{IsDiskRefusal, IsStopOf};
+ghost use Rattle.session_core.specs.Files.{IsDiskRefusal, IsStopOf, calls_of};
 
 use crate::stopping::fault_of;
 use crate::{EngineFault, SessionCore};
@@ -39,6 +39,7 @@ fn write_checkpoint<D: Disk + Drop>(
     ensures stopped { IfErr result (IsStopOf disk.new) }
     ensures up { OnOk result (disk.new.stop ≡ None) }
     ensures later { D.is_later disk.old.disk disk.new.disk × IsCounted (count_of D.past D.faults D.memory_refusals disk.old) (count_of D.past D.faults D.memory_refusals disk.new) }
+    ensures calls { calls_of D.clock disk.new ≤ calls_of D.clock disk.old + 2 }
 {
     match log.checkpoint(disk, from) {
         Ok(()) => Ok(from),
@@ -75,6 +76,7 @@ impl<D: Disk + Drop> SessionCore<D> {
         ensures stopped { IfErr result (IsStopOf self.new.disk) }
         ensures up { OnOk result (self.new.disk.stop ≡ None) }
         ensures later { D.is_later self.old.disk.disk self.new.disk.disk × IsCounted (count_of D.past D.faults D.memory_refusals self.old.disk) (count_of D.past D.faults D.memory_refusals self.new.disk) }
+        ensures calls { calls_of D.clock self.new.disk ≤ calls_of D.clock self.old.disk + 2 }
     {
         write_checkpoint(&mut self.log, &mut self.disk, from)
     }
@@ -100,6 +102,7 @@ impl<D: Disk + Drop> SessionCore<D> {
         ensures refused { IfErr result (IsDiskRefusal self.old.disk self.new.disk) }
         ensures up { OnOk result (self.new.disk.stop ≡ None) }
         ensures later { D.is_later self.old.disk.disk self.new.disk.disk × IsCounted (count_of D.past D.faults D.memory_refusals self.old.disk) (count_of D.past D.faults D.memory_refusals self.new.disk) }
+        ensures calls { calls_of D.clock self.new.disk ≤ calls_of D.clock self.old.disk + 2 }
     {
         self.check()?;
         let from = self.run_begin();

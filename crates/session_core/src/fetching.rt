@@ -1,5 +1,5 @@
 // A page is loaded: from memory, or from its home.
-ghost use Rattle.std.specs.Prelude.{◌≡◌, ◌*◌, ◌<◌, ◌⊎◌, true, false, None, Some, IfErr, IfOk, OnOk, length, if◌then◌else◌};
+ghost use Rattle.std.specs.Prelude.{◌≡◌, ◌+◌, ◌*◌, ◌<◌, ◌≤◌, ◌⊎◌, true, false, None, Some, IfErr, IfOk, OnOk, length, if◌then◌else◌};
 ghost use Rattle.counted_disk.specs.Counting.{IsCounted, count_of};
 ghost use Rattle.disk_model.specs.Image.{InFile};
 ghost use Rattle.disk_model.specs.Past.{At};
@@ -10,7 +10,7 @@ ghost use Rattle.page_pool.specs.Pages.{held_page, is_held, plain_page};
 ghost use Rattle.places.specs.Places.{shown};
 ghost use Rattle.space_head.specs.declared.space.Home.TheVariants.{Unused};
 ghost use Rattle.space_head.specs.declared.space.SpaceInfo.{SpaceInfo};
-ghost use Rattle.session_core.specs.Files.{HasStoreFiles, IsStopOf};
+ghost use Rattle.session_core.specs.Files.{HasStoreFiles, IsStopOf, calls_of};
 ghost use Rattle.session_core.specs.Opening.{OpensHome};
 ghost use Rattle.session_core.specs.Reading.{FetchesPage, IsLoadFault, IsPageOf, IsPoolAfter};
 ghost use Rattle.session_core.specs.Spaces.{home_in, space_with_id};
@@ -43,6 +43,7 @@ fn read_bytes<D: Disk + Drop>(
     ensures long { length into.new ≡ page_bytes }
     ensures past { D.past disk.new.disk ≡ D.past disk.old.disk }
     ensures later { D.is_later disk.old.disk disk.new.disk × IsCounted (count_of D.past D.faults D.memory_refusals disk.old) (count_of D.past D.faults D.memory_refusals disk.new) }
+    ensures calls { calls_of D.clock disk.new ≤ calls_of D.clock disk.old + 1 }
 {
     match read_home(disk, space, page, into) {
         Ok(()) => Ok(()),
@@ -105,6 +106,7 @@ pub(crate) fn fetch_page<D: Disk + Drop>(
     ensures keys { keys.new ≡ keys.old }
     ensures past { D.past disk.new.disk ≡ D.past disk.old.disk }
     ensures later { D.is_later disk.old.disk disk.new.disk × IsCounted (count_of D.past D.faults D.memory_refusals disk.old) (count_of D.past D.faults D.memory_refusals disk.new) }
+    ensures calls { calls_of D.clock disk.new ≤ calls_of D.clock disk.old + 1 }
 {
     let space = info.space;
     match read_bytes(disk, space, page, into) {
@@ -113,8 +115,8 @@ pub(crate) fn fetch_page<D: Disk + Drop>(
     }
 }
 
-// Copies the page of a name, where it is held.
-fn copy_held(pool: &mut Pool, name: PageName, into: &mut [u8]) -> bool
+/// Copies the page of a name, where it is held.
+pub(crate) fn copy_held(pool: &mut Pool, name: PageName, into: &mut [u8]) -> bool
     requires { length into.old ≡ page_bytes }
     ensures held { result ≡ is_held name pool.old }
     ensures page { result ≡ true → held_page name pool.old ≡ Some (plain_page into.new) }
@@ -172,6 +174,7 @@ pub(crate) fn load_page<D: Disk + Drop>(
     ensures keys { keys.new ≡ keys.old }
     ensures past { D.past disk.new.disk ≡ D.past disk.old.disk }
     ensures later { D.is_later disk.old.disk disk.new.disk × IsCounted (count_of D.past D.faults D.memory_refusals disk.old) (count_of D.past D.faults D.memory_refusals disk.new) }
+    ensures calls { calls_of D.clock disk.new ≤ calls_of D.clock disk.old + 1 }
 {
     if copy_held(pool, name, into) {
         return Ok(true);

@@ -35,6 +35,7 @@ impl SessionKeys {
     ghost use Rattle.std.specs.Prelude.{◌≡◌, IfOk, MatchOption};
     ghost use Rattle.key_ring.specs.Local.{local_key};
     ghost use Rattle.session_core.specs.Keys.{HasVersion, IsLeastIdLacking, log_key, space_key};
+    ghost use Rattle.session_core.specs.Taking.{key_of};
 
     /// The keys of this ring.
     pub(crate) fn new(alloc: Global, ring: Ring) -> Result<SessionKeys, OutOfMemory>
@@ -64,6 +65,22 @@ impl SessionKeys {
     {
         let local = self.local(info.key_id, version, &info.salt)?;
         Some(PageKey { local, algorithm })
+    }
+
+    /// The key that new texts of a space are sealed under: none at version 0.
+    pub(crate) fn seal_key(
+        &mut self,
+        algorithm: Algorithm,
+        info: &SpaceInfo,
+        version: u32,
+    ) -> Option<PageKey>
+        ensures value { result ≡ key_of self.old algorithm info.now version }
+        ensures same { self.new ≡ self.old }
+    {
+        if version == 0 {
+            return None;
+        }
+        self.page_key(algorithm, info, version)
     }
 
     /// The least of the id 1 and the spaces' key ids under which the ring lacks this version.

@@ -20,8 +20,11 @@
 
 mod activating;
 mod checkpoints;
+mod cleaning;
 mod closing;
 mod committing;
+mod current;
+mod dirt;
 mod fault;
 mod fetching;
 mod holding;
@@ -35,6 +38,8 @@ mod session;
 mod settling;
 mod stopping;
 mod tablespaces;
+mod taking;
+mod writing;
 
 pub use closing::Halted;
 pub use fault::{EngineFault, StartFault};

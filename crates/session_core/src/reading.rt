@@ -6,6 +6,7 @@ ghost use Rattle.page_places.specs.Texts.{page_bytes};
 ghost use Rattle.page_pool.specs.Pages.{is_held, plain_page};
 ghost use Rattle.redo_text.specs.Text.{IsRange};
 ghost use Rattle.space_head.specs.declared.space.Home.TheVariants.{Unused};
+ghost use Rattle.session_core.specs.Files.{calls_of};
 ghost use Rattle.session_core.specs.Reading.{IsLoadFault, IsPageOf, IsReadRefusal, OnlyReads, ReadsKind, ReadsPart, name_of_page, part_of_page};
 ghost use Rattle.session_core.specs.Spaces.{home_in, is_page};
 
@@ -97,6 +98,7 @@ impl<D: Disk + Drop> SessionCore<D> {
         ensures up { OnOk result (self.new.disk.stop ≡ None) }
         ensures long { length into.new ≡ page_bytes }
         ensures later { D.is_later self.old.disk.disk self.new.disk.disk × IsCounted (count_of D.past D.faults D.memory_refusals self.old.disk) (count_of D.past D.faults D.memory_refusals self.new.disk) }
+        ensures calls { calls_of D.clock self.new.disk ≤ calls_of D.clock self.old.disk + 1 }
     {
         load_page(
             &mut self.disk,
@@ -133,6 +135,7 @@ impl<D: Disk + Drop> SessionCore<D> {
         ensures still { (is_held (name_of_page space page) self.old.pool ≡ true) ⊎ (home_in self.old.store space page ≡ Unused) → self.new.disk ≡ self.old.disk }
         ensures up { OnOk result (self.new.disk.stop ≡ None) }
         ensures later { D.is_later self.old.disk.disk self.new.disk.disk × IsCounted (count_of D.past D.faults D.memory_refusals self.old.disk) (count_of D.past D.faults D.memory_refusals self.new.disk) }
+        ensures calls { calls_of D.clock self.new.disk ≤ calls_of D.clock self.old.disk + 1 }
     {
         self.check()?;
         let Some(_info) = self.page_info(space, page) else {
@@ -159,6 +162,7 @@ impl<D: Disk + Drop> SessionCore<D> {
         ensures still { (is_held (name_of_page space page) self.old.pool ≡ true) ⊎ (home_in self.old.store space page ≡ Unused) → self.new.disk ≡ self.old.disk }
         ensures up { OnOk result (self.new.disk.stop ≡ None) }
         ensures later { D.is_later self.old.disk.disk self.new.disk.disk × IsCounted (count_of D.past D.faults D.memory_refusals self.old.disk) (count_of D.past D.faults D.memory_refusals self.new.disk) }
+        ensures calls { calls_of D.clock self.new.disk ≤ calls_of D.clock self.old.disk + 1 }
     {
         self.check()?;
         let Some(_info) = self.page_info(space, page) else {

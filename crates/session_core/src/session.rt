@@ -1,5 +1,5 @@
 // A session: its parts, its start, and what it tells of itself.
-ghost use Rattle.std.specs.Prelude.{◌≡◌, ◌≤◌, IfErr, IfOk, OnOk};
+ghost use Rattle.std.specs.Prelude.{◌≡◌, ◌+◌, ◌≤◌, IfErr, IfOk, OnOk};
 ghost use Rattle.disk_model.specs.Past.{At};
 ghost use Rattle.redo_log.specs.Log.{IsOpen, empty_log};
 ghost use Rattle.store_files.specs.Header.{most_spaces};
@@ -132,6 +132,11 @@ impl<D: Disk + Drop> SessionCore<D> {
         ensures may { OnOk result (MayStart ring options.active rest.spaces) }
         ensures refused { IfErr result (λ r. IsStartRefusal D.past D.faults D.memory_refusals ring options.active rest r.rest r.why) }
         ensures later { IfErr result (λ r. D.is_later rest.disk r.rest.disk) }
+        ensures calls { IfOk result (λ s. D.clock s.disk.disk ≤ D.clock rest.disk + 1) }
+        ensures no_fault { IfOk result (λ s. D.faults s.disk.disk ≡ D.faults rest.disk) }
+        ensures no_refusal { IfOk result (λ s. D.memory_refusals s.disk.disk ≡ D.memory_refusals rest.disk) }
+        ensures refused_calls { IfErr result (λ r. D.clock r.rest.disk ≤ D.clock rest.disk + 1) }
+        ensures no_fault_at_want { IfErr result (λ r. r.why ≡ StartFault.OutOfMemory → D.faults r.rest.disk ≡ D.faults rest.disk) }
     {
         match check_start(&ring, options.active, rest.spaces()) {
             Ok(()) => prepare(alloc, rest, ring, options),
@@ -154,6 +159,11 @@ fn prepare<D: Disk + Drop>(
     ensures disk { IfOk result (λ s. HasBegun D.past D.is_later rest.disk s.disk) }
     ensures refused { IfErr result (λ r. IsStartRefusal D.past D.faults D.memory_refusals ring options.active rest r.rest r.why) }
     ensures later { IfErr result (λ r. D.is_later rest.disk r.rest.disk) }
+    ensures calls { IfOk result (λ s. D.clock s.disk.disk ≤ D.clock rest.disk + 1) }
+    ensures no_fault { IfOk result (λ s. D.faults s.disk.disk ≡ D.faults rest.disk) }
+    ensures no_refusal { IfOk result (λ s. D.memory_refusals s.disk.disk ≡ D.memory_refusals rest.disk) }
+    ensures refused_calls { IfErr result (λ r. D.clock r.rest.disk ≤ D.clock rest.disk + 1) }
+    ensures no_fault_at_want { IfErr result (λ r. r.why ≡ StartFault.OutOfMemory → D.faults r.rest.disk ≡ D.faults rest.disk) }
 {
     let Ok(pool) = Pool::new(alloc) else {
         return Err(no_memory(rest));
@@ -189,6 +199,11 @@ fn begin<D: Disk + Drop>(
     ensures disk { IfOk result (λ s. HasBegun D.past D.is_later parts.disk s.disk) }
     ensures refused { IfErr result (λ r. IsStartRefusal D.past D.faults D.memory_refusals keys options.active (rest_of parts) r.rest r.why) }
     ensures later { IfErr result (λ r. D.is_later parts.disk r.rest.disk) }
+    ensures calls { IfOk result (λ s. D.clock s.disk.disk ≤ D.clock parts.disk + 1) }
+    ensures no_fault { IfOk result (λ s. D.faults s.disk.disk ≡ D.faults parts.disk) }
+    ensures no_refusal { IfOk result (λ s. D.memory_refusals s.disk.disk ≡ D.memory_refusals parts.disk) }
+    ensures refused_calls { IfErr result (λ r. D.clock r.rest.disk ≤ D.clock parts.disk + 1) }
+    ensures no_fault_at_want { IfErr result (λ r. r.why ≡ StartFault.OutOfMemory → D.faults r.rest.disk ≡ D.faults parts.disk) }
 {
     let RestParts {
         mut disk,

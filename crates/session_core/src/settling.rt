@@ -1,5 +1,5 @@
 // The log is written out, and what is durable then is told.
-ghost use Rattle.std.specs.Prelude.{◌≡◌, None, IfErr, IfOk, OnErr, OnOk, length};
+ghost use Rattle.std.specs.Prelude.{◌≡◌, ◌+◌, ◌≤◌, None, IfErr, IfOk, OnErr, OnOk, length};
 ghost use Rattle.counted_disk.specs.Counting.{IsCounted, count_of};
 ghost use Rattle.disk_model.specs.Event.{Tell};
 ghost use Rattle.disk_model.specs.Past.{At, Is, MayGrow, grow};
@@ -8,8 +8,8 @@ ghost use Rattle.places.specs.Writes.{IsPart};
 ghost use Rattle.redo_log.specs.Events.{block_batch};
 ghost use Rattle.redo_log.specs.Log.{IsOpen, handed_over, pending_count, written_out};
 ghost use Rattle.store_image.specs.View.{block_bytes};
-ghost use Rattle.session_core.specs.Files.{HasStoreFiles, IsStopOf};
-ghost use Rattle.session_core.specs.Syncing.{IsStopBesideTurns, IsSyncRefusal, IsSyncedInPart, synced_session, synced_past, written_past};
+ghost use Rattle.session_core.specs.Files.{HasStoreFiles, IsStopOf, calls_of};
+ghost use Rattle.session_core.specs.Syncing.{IsStopBesideTurns, IsSyncRefusal, IsSyncedInPart, synced_session, synced_past, write_calls, written_past};
 
 use crate::stopping::fault_of;
 use crate::tablespaces::Tablespaces;
@@ -36,6 +36,7 @@ fn write_log<D: Disk + Drop>(
     ensures up { OnOk result (disk.new.stop ≡ None) }
     ensures open { IsOpen log.new }
     ensures later { D.is_later disk.old.disk disk.new.disk × IsCounted (count_of D.past D.faults D.memory_refusals disk.old) (count_of D.past D.faults D.memory_refusals disk.new) }
+    ensures calls { calls_of D.clock disk.new ≤ calls_of D.clock disk.old + write_calls (pending_count log.old) }
 {
     match log.write_out(disk) {
         Ok(()) => Ok(()),
@@ -54,6 +55,7 @@ pub(crate) fn tell_mark<D: Disk + Drop>(
     ensures stopped { IfErr result (IsStopBesideTurns disk.new) }
     ensures up { OnOk result (disk.new.stop ≡ None) }
     ensures later { D.is_later disk.old.disk disk.new.disk × IsCounted (count_of D.past D.faults D.memory_refusals disk.old) (count_of D.past D.faults D.memory_refusals disk.new) }
+    ensures calls { calls_of D.clock disk.new ≤ calls_of D.clock disk.old + 1 }
 {
     match disk.tell(mark) {
         Ok(()) => Ok(()),
@@ -71,6 +73,7 @@ impl<D: Disk + Drop> SessionCore<D> {
         ensures refused { IfErr result (IsSyncedInPart D.past self.old self.new) }
         ensures up { OnOk result (self.new.disk.stop ≡ None) }
         ensures later { D.is_later self.old.disk.disk self.new.disk.disk × IsCounted (count_of D.past D.faults D.memory_refusals self.old.disk) (count_of D.past D.faults D.memory_refusals self.new.disk) }
+        ensures calls { calls_of D.clock self.new.disk ≤ calls_of D.clock self.old.disk + (write_calls (pending_count self.old.log) + 1) }
     {
         write_log(&mut self.disk, &mut self.log, &self.store)?;
         let count = self.journal.len() as u64;
@@ -96,6 +99,7 @@ impl<D: Disk + Drop> SessionCore<D> {
         ensures was_up { OnOk result (self.old.disk.stop ≡ None) }
         ensures up { OnOk result (self.new.disk.stop ≡ None) }
         ensures later { D.is_later self.old.disk.disk self.new.disk.disk × IsCounted (count_of D.past D.faults D.memory_refusals self.old.disk) (count_of D.past D.faults D.memory_refusals self.new.disk) }
+        ensures calls { calls_of D.clock self.new.disk ≤ calls_of D.clock self.old.disk + (write_calls (pending_count self.old.log) + 1) }
     {
         self.check()?;
         self.settle()

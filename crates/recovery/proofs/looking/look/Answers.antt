@@ -2,11 +2,18 @@ use Rattle.std.proofs.Common.{rules, ◌≡◌, ◌∙◌, ◌+◌, ◌≤◌, �
 use Rattle.std.proofs.lemmas.Option.{same_Some}
 use Rattle.cause_core.proofs.Causes.{handed}
 use Rattle.disk_model.specs.Event.{Event}
+use Rattle.disk_model.specs.Past.{At}
 use Rattle.disk_model.proofs.Moments.{at_each, at_is}
+use Rattle.doublewrite.specs.Refuse.{IsDiskRefuse}
+use Rattle.doublewrite.specs.declared.refuse.OpenRefuse.{OpenRefuse}
 use Rattle.store_files.specs.Header.{HeldHeader}
 use Rattle.store_form.specs.Said.{header_said}
+use Rattle.store_model.specs.declared.contents.SpaceContents.{SpaceContents}
+use Rattle.recovery.specs.Entry.{MayOpen}
 use Rattle.recovery.specs.Files.{IsFormatted}
 use Rattle.recovery.specs.Looking.{IsOpenRefusal, page_calls}
+use Rattle.recovery.proofs.EntryOpened.{begins_of}
+use Rattle.recovery.proofs.EntryRefusals.{clear_of}
 use Rattle.recovery.proofs.looking.look.Goals as goal
 
 -- a log has one header
@@ -96,3 +103,30 @@ returns-clause-fits g c = record {
   floors = c.in_ok-changes.ensures.floors;
   numbers = c.in_ok-changes.ensures.numbers;
 }
+
+pub returns-in_err-log-clause-clear : goal.returns-in_err-log-clause-clear
+returns-in_err-log-clause-clear g c =
+    let past = g.D.Disk.past c.args.disk.now in
+    let why = c.in_err-log.field-0.0 in
+    let is : IsErrAnd c.from_residual.result (λ e. e ≡ why) = search rules in
+    handed (λ (e : OpenRefuse). At (λ es. (contents : List SpaceContents) (last : ℕ) → MayOpen c.args.ring.now c.args.active contents last es → IsDiskRefuse e) past) c.from_residual.result why is
+    (clear_of c.args.ring.now c.args.active past why (c.in_err-log.ensures.refused c.args.ring.now c.args.active))
+
+pub returns-in_err-pages-clause-clear : goal.returns-in_err-pages-clause-clear
+returns-in_err-pages-clause-clear g c =
+    let past = g.D.Disk.past c.args.disk.now in
+    let why = c.in_err-pages.field-0.0 in
+    let is : IsErrAnd c.from_residual-in_err-pages.result (λ e. e ≡ why) = search rules in
+    handed (λ (e : OpenRefuse). At (λ es. (contents : List SpaceContents) (last : ℕ) → MayOpen c.args.ring.now c.args.active contents last es → IsDiskRefuse e) past) c.from_residual-in_err-pages.result why is
+    (clear_of c.args.ring.now c.args.active past why (subst (λ p. IsOpenRefusal c.args.ring.now c.args.active p why) c.in_ok-log.ensures.same c.in_err-pages.ensures.refused))
+
+pub returns-in_err-changes-clause-clear : goal.returns-in_err-changes-clause-clear
+returns-in_err-changes-clause-clear g c =
+    let past = g.D.Disk.past c.args.disk.now in
+    let why = c.in_err-changes.field-0.0 in
+    let is : IsErrAnd c.from_residual-in_err-changes.result (λ e. e ≡ why) = search rules in
+    handed (λ (e : OpenRefuse). At (λ es. (contents : List SpaceContents) (last : ℕ) → MayOpen c.args.ring.now c.args.active contents last es → IsDiskRefuse e) past) c.from_residual-in_err-changes.result why is
+    (clear_of c.args.ring.now c.args.active past why (subst (λ p. IsOpenRefusal c.args.ring.now c.args.active p why) (c.in_ok-pages.ensures.same ∙ c.in_ok-log.ensures.same) c.in_err-changes.ensures.refused))
+
+pub returns-clause-begins : goal.returns-clause-begins
+returns-clause-begins g c = begins_of c.args.ring.now c.args.active (g.D.Disk.past c.args.disk.now) _ (returns-clause-found g c) (returns-clause-fits g c)

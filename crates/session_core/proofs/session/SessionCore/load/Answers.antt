@@ -1,7 +1,8 @@
-use Rattle.std.proofs.Common.{◌≡◌, ◌≢◌, ◌⊎◌, true, List, None, inl, inr, sym, subst}
+use Rattle.std.proofs.Common.{◌≡◌, ◌≢◌, ◌⊎◌, ◌+◌, ◌≤◌, true, List, None, inl, inr, sym, subst}
 use Rattle.counted_disk.specs.Counting.{IsCounted, count_of}
 use Rattle.disk_model.proofs.Moments.{at_each, at_is}
 use Rattle.key_ring.specs.Ring.{RingEntry}
+use Rattle.session_core.specs.Files.{calls_of}
 use Rattle.session_core.specs.Keys.{HasVersion}
 use Rattle.session_core.specs.Session.{Running}
 use Rattle.session_core.specs.Spaces.{is_page}
@@ -13,6 +14,9 @@ pub load_page-requires-clause-page : goal.load_page-requires-clause-page
 load_page-requires-clause-page g c =
     page_below c.self.inside.store.spaces c.args.name.space c.args.name.page
     (subst (λ (r : Running _). is_page r.store.spaces c.args.name.space c.args.name.page ≡ true) (sym c.self.view_is) c.requires.page)
+
+pub returns-clause-calls : goal.returns-clause-calls
+returns-clause-calls g c = subst (λ (r : Running _). calls_of g.D.Disk.clock c.load_page.new.disk ≤ calls_of g.D.Disk.clock r.disk + 1) c.self.view_is c.load_page.ensures.calls
 
 pub returns-clause-later : goal.returns-clause-later
 returns-clause-later g c =

@@ -1,14 +1,14 @@
-use Rattle.std.proofs.Common.{◌≡◌, ℕ, None, length, sym, subst, rules}
+use Rattle.std.proofs.Common.{◌≡◌, ℕ, ◌+◌, ◌≤◌, None, length, sym, subst, rules, arith}
 use Rattle.std.specs.Prelude.{IsErrAnd}
 use Rattle.cause_core.proofs.Causes.{handed}
 use Rattle.counted_disk.specs.Counting.{IsCounted, count_of, counts_then}
 use Rattle.disk_model.specs.Event.{Tell}
 use Rattle.disk_model.specs.Past.{Past, At, grow}
 use Rattle.disk_model.specs.declared.names.Mark.TheVariants.{Acked}
-use Rattle.session_core.specs.Files.{HasStoreFiles}
-use Rattle.redo_log.specs.Log.{written_out}
+use Rattle.session_core.specs.Files.{HasStoreFiles, calls_of}
+use Rattle.redo_log.specs.Log.{pending_count, written_out}
 use Rattle.session_core.specs.Session.{IsSession, Running}
-use Rattle.session_core.specs.Syncing.{written_past}
+use Rattle.session_core.specs.Syncing.{write_calls, written_past}
 use Rattle.session_core.specs.Told.{ReadsAsTold}
 use Rattle.session_core.proofs.LogWrites.{reads_out, told_mark}
 use Rattle.session_core.proofs.SettleLaws.{files_told, session_synced, unwritten}
@@ -40,6 +40,23 @@ returns-clause-later g c =
     let second = c.tell_mark.ensures.later in
     subst (λ (r : Running _). g.D.Disk.is_later r.disk.disk c.tell_mark.new.disk.disk × IsCounted (count_of g.D.Disk.past g.D.Disk.faults g.D.Disk.memory_refusals r.disk) (count_of g.D.Disk.past g.D.Disk.faults g.D.Disk.memory_refusals c.tell_mark.new.disk))
     c.self.view_is (g.met.D.Disk.is_later_transitive _ _ _ first.0 second.0, counts_then _ _ _ first.1 second.1)
+
+pub returns-in_err-write_log-clause-calls : goal.returns-in_err-write_log-clause-calls
+returns-in_err-write_log-clause-calls g c =
+    let first = c.write_log.ensures.calls in
+    subst (λ (r : Running _). calls_of g.D.Disk.clock c.write_log.new.disk ≤ calls_of g.D.Disk.clock r.disk + (write_calls (pending_count r.log) + 1)) c.self.view_is (omega (arith, first))
+
+pub returns-in_err-tell_mark-clause-calls : goal.returns-in_err-tell_mark-clause-calls
+returns-in_err-tell_mark-clause-calls g c =
+    let first = c.write_log.ensures.calls in
+    let second = c.tell_mark.ensures.calls in
+    subst (λ (r : Running _). calls_of g.D.Disk.clock c.tell_mark.new.disk ≤ calls_of g.D.Disk.clock r.disk + (write_calls (pending_count r.log) + 1)) c.self.view_is (omega (arith, first, second))
+
+pub returns-clause-calls : goal.returns-clause-calls
+returns-clause-calls g c =
+    let first = c.write_log.ensures.calls in
+    let second = c.tell_mark.ensures.calls in
+    subst (λ (r : Running _). calls_of g.D.Disk.clock c.tell_mark.new.disk ≤ calls_of g.D.Disk.clock r.disk + (write_calls (pending_count r.log) + 1)) c.self.view_is (omega (arith, first, second))
 
 -- what is told behind the write out, and behind the mark
 told_behind : {D : Type 0} (past : D → Past) (r : Running D) (kept : IsSession past r) (disk mid : Past) (count : ℕ) → r.disk.stop ≡ None → mid ≡ written_past r.log (past r.disk.disk) → disk ≡ grow (Tell (Acked count)) mid

@@ -1,0 +1,10 @@
+pub mod Stretches
+pub mod Journals
+pub mod Ready
+pub mod Outs
+pub mod Moves
+pub mod Firsts
+pub mod Begins
+pub mod Keeps
+pub mod Pages
+pub mod KeepsReads

@@ -1,0 +1,4 @@
+pub mod Journal
+pub mod Kept
+pub mod Engine
+pub mod Reading
