@@ -12,6 +12,7 @@ pub mod ToldLaws
 pub mod CheckpointLaws
 pub mod LogWrites
 pub mod SpaceEdits
+pub mod CloseLaws
 pub mod HoldLaws
 pub mod ChangeChecks
 pub mod LookLaws

@@ -3,8 +3,9 @@ use Rattle.std.specs.Prelude.{◌≡◌, ℕ, ◌≤◌, Bool, true, false, nat_
 use Rattle.space_head.specs.declared.space.SpaceInfo.{SpaceInfo}
 use Rattle.space_head.specs.declared.space.Home.{Home}
 use Rattle.space_head.specs.declared.space.Home.TheVariants.{Unused}
-use Rattle.store_files.specs.Header.{HeldHeader, HeldSpace, are_allowed}
+use Rattle.store_files.specs.Header.{HeldHeader, HeldSpace, are_allowed, most_spaces}
 use Rattle.store_form.specs.Rest.{homes_of}
+use Rattle.store_form.specs.declared.header.Header.{Header}
 
 -- the space of an id
 abbrev pub space_with_id : List SpaceInfo → ℕ → Option SpaceInfo
@@ -40,6 +41,12 @@ pub record StoreSpaces : Type 0 where
 pub record AreSpaces (s : StoreSpaces) : Type 0 where
   pub allowed : are_allowed s.header ≡ true
   pub have : HaveLists s.header.spaces s.spaces s.homes
+
+-- the header that is held is of format 2 and counts no more spaces than it has places for, and the spaces go together
+pub record AreHeldSpaces (header : Header) (s : StoreSpaces) : Type 0 where
+  pub format : header.format ≡ 2
+  pub count : header.count ≤ most_spaces
+  pub spaces : AreSpaces s
 
 -- what is known of a page, unused past the end
 abbrev pub home_in : StoreSpaces → ℕ → ℕ → Home

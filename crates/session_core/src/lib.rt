@@ -41,7 +41,7 @@ mod tablespaces;
 mod taking;
 mod writing;
 
-pub use closing::Halted;
+pub use closing::{Closed, Halted};
 pub use fault::{EngineFault, StartFault};
 pub use journal::{Author, Entry, Journal, Receipt};
 pub use options::SessionOptions;

@@ -25,33 +25,64 @@ pub(crate) struct Tablespaces {
     homes: Homes,
 }
 
+/// What is said of the spaces of a store, taken apart.
+#[derive(Drop)]
+pub(crate) struct SpaceParts {
+    pub(crate) header: Header,
+    pub(crate) spaces: Spaces,
+    pub(crate) homes: Homes,
+}
+
 impl Model for Tablespaces {
-    ghost use Rattle.session_core.specs.Spaces.{StoreSpaces, AreSpaces};
+    ghost use Rattle.session_core.specs.Spaces.{AreHeldSpaces, StoreSpaces};
     ghost use Rattle.store_form.specs.Said.{header_said};
 
     ghost Value = { StoreSpaces };
 
     ghost view = { λ t. record { header = header_said t.header; spaces = t.spaces; homes = t.homes } };
 
-    ghost invariant = { λ t. AreSpaces (record { header = header_said t.header; spaces = t.spaces; homes = t.homes }) };
+    ghost invariant = { λ t. AreHeldSpaces t.header (record { header = header_said t.header; spaces = t.spaces; homes = t.homes }) };
 }
 
 impl Tablespaces {
-    ghost use Rattle.std.specs.Prelude.{◌≡◌, ◌<◌, true, false, length, IfNone, IfSome, Some};
+    ghost use Rattle.std.specs.Prelude.{◌≡◌, ◌<◌, ◌≤◌, true, false, length, IfNone, IfSome, Some};
     ghost use Rattle.space_head.specs.declared.space.SpaceInfo.{SpaceInfo};
     ghost use Rattle.crash_image.specs.Recovers.{AreOfStore, IsOfStore};
     ghost use Rattle.session_core.specs.SpaceChanges.{spaces_after, spaces_changed, with_home, with_space};
     ghost use Rattle.session_core.specs.Spaces.{AreSpaces, home_in, is_page, space_with_id};
+    ghost use Rattle.store_files.specs.Header.{most_spaces};
     ghost use Rattle.store_form.specs.Rest.{homes_of};
     ghost use Rattle.store_model.specs.Fold.{floor_set, made_ciphered};
     ghost use Rattle.store_form.specs.Said.{header_said};
 
     /// The spaces of a store at rest.
     pub(crate) fn of(header: Header, spaces: Spaces, homes: Homes) -> Tablespaces
-        requires { AreSpaces (record { header = header_said header; spaces = spaces; homes = homes }) }
+        requires format { header.format ≡ 2 }
+        requires count { header.count ≤ most_spaces }
+        requires spaces { AreSpaces (record { header = header_said header; spaces = spaces; homes = homes }) }
         ensures { result ≡ record { header = header_said header; spaces = spaces; homes = homes } }
     {
         Tablespaces {
+            header,
+            spaces,
+            homes,
+        }
+    }
+
+    /// The parts. It takes no memory.
+    pub(crate) fn into_parts(self) -> SpaceParts
+        ensures header { header_said result.header ≡ self.header }
+        ensures format { result.header.format ≡ 2 }
+        ensures count { result.header.count ≤ most_spaces }
+        ensures spaces { result.spaces ≡ self.spaces }
+        ensures homes { result.homes ≡ self.homes }
+    {
+        let Tablespaces {
+            header,
+            spaces,
+            homes,
+        } = self;
+        SpaceParts {
             header,
             spaces,
             homes,

@@ -11,8 +11,8 @@ new-rest-requires-clause-reads g c =
     let p = c.args.parts in
     at_told (ReadsAtRest (header_said p.header) p.spaces p.homes p.next p.sequence) Started _ _ (λ es read. told_reads (header_said p.header) p.spaces p.homes p.next p.sequence es Started read) c.requires.reads c.in-Err.ensures.err
 
-pub of-store-requires : goal.of-store-requires
-of-store-requires g c = let p = c.args.parts in rest_spaces (header_said p.header) p.spaces p.homes p.next p.sequence c.requires.form
+pub of-store-requires-clause-spaces : goal.of-store-requires-clause-spaces
+of-store-requires-clause-spaces g c = let p = c.args.parts in rest_spaces (header_said p.header) p.spaces p.homes p.next p.sequence c.requires.form
 
 pub invariant_of-result : goal.invariant_of-result
 invariant_of-result g c =

@@ -9,16 +9,16 @@ pub get-requires : goal.get-requires
 get-requires c =
     let is = subst (λ (s : StoreSpaces). space_with_id s.spaces c.args.space ≡ Some c.requires.0) (sym c.self.view_is) c.requires.1 in
     let place : place_in c.self.inside.spaces c.args.space ≡ c.place_of-place.result = sym (c.place_of-place.ensures ∙ ap (λ (l : List SpaceInfo). place_in l c.args.space) c.as_slice.ensures) in
-    subst (λ (n : ℕ). n < length c.self.inside.homes) place (space_here _ c.self.inside.spaces c.self.inside.homes c.args.space c.requires.0 c.self.invariant.have is).listed
+    subst (λ (n : ℕ). n < length c.self.inside.homes) place (space_here _ c.self.inside.spaces c.self.inside.homes c.args.space c.requires.0 c.self.invariant.spaces.have is).listed
 
 pub returns-clause-homes : goal.returns-clause-homes
 returns-clause-homes c =
     let is = subst (λ (s : StoreSpaces). space_with_id s.spaces c.args.space ≡ Some c.requires.0) (sym c.self.view_is) c.requires.1 in
     let place : c.place_of-place.result ≡ place_in c.self.inside.spaces c.args.space = c.place_of-place.ensures ∙ ap (λ (l : List SpaceInfo). place_in l c.args.space) c.as_slice.ensures in
-    let found = space_here _ c.self.inside.spaces c.self.inside.homes c.args.space c.requires.0 c.self.invariant.have is in
+    let found = space_here _ c.self.inside.spaces c.self.inside.homes c.args.space c.requires.0 c.self.invariant.spaces.have is in
     c.as_slice-2.ensures ∙ c.get.ensures ∙ ap (λ (n : ℕ). slice_index_or c.self.inside.homes n []) place ∙ found.homes ∙ ap (λ (s : StoreSpaces). homes_of s.spaces s.homes c.args.space) c.self.view_is
 
 pub returns-clause-long : goal.returns-clause-long
 returns-clause-long c = λ info is.
     let here : space_with_id c.self.inside.spaces c.args.space ≡ Some info = subst (λ (s : StoreSpaces). space_with_id s.spaces c.args.space ≡ Some info) (sym c.self.view_is) is in
-    ap (λ (s : StoreSpaces). length (homes_of s.spaces s.homes c.args.space)) (sym c.self.view_is) ∙ (space_here _ c.self.inside.spaces c.self.inside.homes c.args.space info c.self.invariant.have here).long
+    ap (λ (s : StoreSpaces). length (homes_of s.spaces s.homes c.args.space)) (sym c.self.view_is) ∙ (space_here _ c.self.inside.spaces c.self.inside.homes c.args.space info c.self.invariant.spaces.have here).long

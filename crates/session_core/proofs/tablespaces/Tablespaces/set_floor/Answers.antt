@@ -11,7 +11,11 @@ invariant_of-self c =
     let held = (header_said c.self.inside.header).spaces in
     let homes = c.self.inside.homes in
     record {
-      allowed = c.self.invariant.allowed;
-      have = subst (λ (ss : List SpaceInfo). HaveLists held ss homes) (sym c.put_floor.ensures)
-          (have_space held c.self.inside.spaces homes c.args.space (floor_set c.args.version) (record { space = λ x. refl; pages = λ x. refl; key_id = λ x. refl }) c.self.invariant.have);
+      format = c.self.invariant.format;
+      count = c.self.invariant.count;
+      spaces = record {
+        allowed = c.self.invariant.spaces.allowed;
+        have = subst (λ (ss : List SpaceInfo). HaveLists held ss homes) (sym c.put_floor.ensures)
+            (have_space held c.self.inside.spaces homes c.args.space (floor_set c.args.version) (record { space = λ x. refl; pages = λ x. refl; key_id = λ x. refl }) c.self.invariant.spaces.have);
+      };
     }

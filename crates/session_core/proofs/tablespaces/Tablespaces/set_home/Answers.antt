@@ -14,6 +14,10 @@ invariant_of-self c =
     let homes = c.self.inside.homes in
     let is = c.put_home.ensures ∙ ap (λ (l : List SpaceInfo). with_home l homes c.args.space c.args.page c.args.home) c.as_slice.ensures in
     record {
-      allowed = c.self.invariant.allowed;
-      have = subst (λ (os : List (List Home)). HaveLists held spaces os) (sym is) (have_home held spaces homes c.args.space c.args.page c.args.home c.self.invariant.have);
+      format = c.self.invariant.format;
+      count = c.self.invariant.count;
+      spaces = record {
+        allowed = c.self.invariant.spaces.allowed;
+        have = subst (λ (os : List (List Home)). HaveLists held spaces os) (sym is) (have_home held spaces homes c.args.space c.args.page c.args.home c.self.invariant.spaces.have);
+      };
     }
