@@ -15,6 +15,8 @@ pub mod SpaceEdits
 pub mod CloseLaws
 pub mod HoldLaws
 pub mod ChangeChecks
+pub mod LookLaws
+pub mod EnterLaws
 pub mod CopyLaws
 pub mod TakeLaws
 pub mod CurrentLaws
