@@ -7,6 +7,7 @@ use Rattle.doublewrite.specs.declared.refuse.OpenRefuse.{OpenRefuse}
 use Rattle.doublewrite.specs.declared.refuse.OpenRefuse.TheVariants.{NotFormatted, Mixed, Damaged, BadRecord, DiskFault, OutOfMemory}
 use Rattle.key_ring.specs.Ring.{RingEntry}
 use Rattle.redo_log.specs.Blocks.{Keys, redo_form}
+use Rattle.redo_log.specs.Runs.{AreVersions}
 use Rattle.redo_text.specs.declared.change.Change.{Change}
 use Rattle.ring_log.specs.Scans.{IsRingRun}
 use Rattle.space_head.specs.declared.space.SpaceInfo.{SpaceInfo}
@@ -92,10 +93,11 @@ module _ (keys : List RingEntry) (active : ℕ) where
 
   -- ---- what is given
 
-  -- Each step that looks at the disk found what it looks for, and this is told of it.
+  -- Each step that looks at the disk found what it looks for, and this is told of it; and of the run the versions of its blocks.
   pub record IsAnalysis (found : Analysis) (es : List Event) : Type 0 where
     pub heads : List SpaceInfo
     pub changes : FoundChanges (header_said found.header) (checkpoint_said found.checkpoint) found.run.last found.notes heads found.changes es
+    pub versions : AreVersions (block_at found.header.blocks (reads Log es)) found.checkpoint.from (found.run.last + 1) found.run.versions
 
 -- What is told fits together, also where the disk doesn't tell what it reads as, and the steps that look at numbers alone found them right.
 pub record FitsTogether (active : ℕ) (found : Analysis) : Type 0 where

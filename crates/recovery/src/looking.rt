@@ -137,6 +137,7 @@ fn find_log<D: Disk>(alloc: Global, disk: &mut D) -> Result<LogFound, OpenRefuse
     ensures same { D.past disk.new ≡ D.past disk.old }
     ensures later { D.is_later disk.old disk.new }
     ensures calls { At (λ es. (h : HeldHeader) → IsFormatted h es → D.clock disk.new ≤ D.clock disk.old + log_calls h) (D.past disk.old) }
+    ensures unformatted { At (λ es. ((h : HeldHeader) → IsFormatted h es → ⊥) → D.clock disk.new ≤ D.clock disk.old + 2) (D.past disk.old) }
     ensures cause { HasCauseOf DiskFault (D.faults disk.old) (D.faults disk.new) result }
     ensures memory { D.memory_refusals disk.old ≤ D.memory_refusals disk.new }
     ensures no_fault { (IsErrOf result DiskFault → ⊥) → D.faults disk.new ≡ D.faults disk.old }
@@ -233,6 +234,10 @@ fn find_later<D: Disk>(
 /// page is read from, what its spaces are and what the run changes, and looks at its files' lengths, the
 /// keys of the ring, the least versions of the spaces and the numbers that are left. It only reads.
 ///
+/// A store that recovers as it reads is refused nothing but a fault or want of memory, where its files
+/// are there, the ring has each key that it needs, `active` is below no least version and numbers are
+/// left.
+///
 /// # Errors
 /// That of the first step, in this order, which doesn't find what it looks for: those of
 /// [`find_header`], [`check_lengths`], [`find_checkpoint`], [`find_pages`], [`find_heads`],
@@ -253,6 +258,7 @@ pub fn look<D: Disk>(
     ensures same { D.past disk.new ≡ D.past disk.old }
     ensures later { D.is_later disk.old disk.new }
     ensures calls { At (λ es. (h : HeldHeader) → IsFormatted h es → D.clock disk.new ≤ D.clock disk.old + look_calls h) (D.past disk.old) }
+    ensures unformatted { At (λ es. ((h : HeldHeader) → IsFormatted h es → ⊥) → D.clock disk.new ≤ D.clock disk.old + 2) (D.past disk.old) }
     ensures cause { HasCauseOf DiskFault (D.faults disk.old) (D.faults disk.new) result }
     ensures memory { D.memory_refusals disk.old ≤ D.memory_refusals disk.new }
     ensures no_fault { (IsErrOf result DiskFault → ⊥) → D.faults disk.new ≡ D.faults disk.old }

@@ -1,7 +1,7 @@
 use Rattle.std.proofs.Common.{rules, ◌≡◌, ◌∙◌, ℕ, List, sym, subst, IsErrAnd}
 use Rattle.cause_core.proofs.Causes.{handed}
 use Rattle.disk_model.specs.Past.{At}
-use Rattle.disk_model.proofs.Moments.{at_both, at_is}
+use Rattle.disk_model.proofs.Moments.{at_both, at_each, at_is}
 use Rattle.doublewrite.specs.declared.refuse.OpenRefuse.{OpenRefuse}
 use Rattle.key_ring.specs.Ring.{RingEntry}
 use Rattle.store_form.specs.Said.{header_said}
@@ -52,3 +52,18 @@ returns-clause-found g c =
         run = run.here es now;
       };
     }
+
+pub returns-in_err-header-clause-unformatted : goal.returns-in_err-header-clause-unformatted
+returns-in_err-header-clause-unformatted g c = record { here = λ es now none. c.in_err-header.ensures.calls }
+
+pub returns-in_err-check_lengths-clause-unformatted : goal.returns-in_err-check_lengths-clause-unformatted
+returns-in_err-check_lengths-clause-unformatted g c = at_each (λ es formatted none. absurd (none (header_said c.in_ok-header.header) formatted)) c.in_ok-header.ensures.found
+
+pub returns-in_err-checkpoint-clause-unformatted : goal.returns-in_err-checkpoint-clause-unformatted
+returns-in_err-checkpoint-clause-unformatted g c = at_each (λ es formatted none. absurd (none (header_said c.in_ok-header.header) formatted)) c.in_ok-header.ensures.found
+
+pub returns-in_err-run-clause-unformatted : goal.returns-in_err-run-clause-unformatted
+returns-in_err-run-clause-unformatted g c = at_each (λ es formatted none. absurd (none (header_said c.in_ok-header.header) formatted)) c.in_ok-header.ensures.found
+
+pub returns-clause-unformatted : goal.returns-clause-unformatted
+returns-clause-unformatted g c = at_each (λ es formatted none. absurd (none (header_said c.in_ok-header.header) formatted)) c.in_ok-header.ensures.found

@@ -88,7 +88,7 @@ returns-clause-calls g c = record {
 pub returns-clause-found : goal.returns-clause-found
 returns-clause-found g c =
     let changes = at_is (sym (c.in_ok-pages.ensures.same ∙ c.in_ok-log.ensures.same)) c.in_ok-changes.ensures.found in
-    record { here = λ es now. record { heads = c.in_ok-pages.pages.heads; changes = changes.here es now } }
+    record { here = λ es now. record { heads = c.in_ok-pages.pages.heads; changes = changes.here es now; versions = c.in_ok-log.ensures.versions.here es now } }
 
 pub returns-clause-fits : goal.returns-clause-fits
 returns-clause-fits g c = record {
@@ -130,3 +130,15 @@ returns-in_err-changes-clause-clear g c =
 
 pub returns-clause-begins : goal.returns-clause-begins
 returns-clause-begins g c = begins_of c.args.ring.now c.args.active (g.D.Disk.past c.args.disk.now) _ (returns-clause-found g c) (returns-clause-fits g c)
+
+pub returns-in_err-log-clause-unformatted : goal.returns-in_err-log-clause-unformatted
+returns-in_err-log-clause-unformatted g c = c.in_err-log.ensures.unformatted
+
+pub returns-in_err-pages-clause-unformatted : goal.returns-in_err-pages-clause-unformatted
+returns-in_err-pages-clause-unformatted g c = at_each (λ es found none. absurd (none (header_said c.in_ok-log.log.header) found.files.formatted)) c.in_ok-log.ensures.found
+
+pub returns-in_err-changes-clause-unformatted : goal.returns-in_err-changes-clause-unformatted
+returns-in_err-changes-clause-unformatted g c = at_each (λ es found none. absurd (none (header_said c.in_ok-log.log.header) found.files.formatted)) c.in_ok-log.ensures.found
+
+pub returns-clause-unformatted : goal.returns-clause-unformatted
+returns-clause-unformatted g c = at_each (λ es found none. absurd (none (header_said c.in_ok-log.log.header) found.files.formatted)) c.in_ok-log.ensures.found
