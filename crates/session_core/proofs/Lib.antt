@@ -20,4 +20,7 @@ pub mod EnterLaws
 pub mod CopyLaws
 pub mod TakeLaws
 pub mod CurrentLaws
+pub mod CleanedLaws
+pub mod HomeEdits
+pub mod MarkLaws
 pub mod PutWrites
