@@ -24,3 +24,4 @@ pub mod CleanedLaws
 pub mod HomeEdits
 pub mod MarkLaws
 pub mod PutWrites
+pub mod TextTells

@@ -10,6 +10,7 @@ use Rattle.page_pool.specs.Pages.{PoolState, held_page}
 use Rattle.page_pool.specs.declared.names.DirtyPage.{DirtyPage}
 use Rattle.page_text.specs.Text.{Plain}
 use Rattle.space_head.specs.declared.space.Home.TheVariants.{Clean}
+use Rattle.store_form.specs.Rest.{home_told}
 use Rattle.store_image.specs.View.{block_bytes}
 use Rattle.store_model.specs.Fold.{used}
 use Rattle.store_model.specs.declared.contents.PlainPage.{PlainPage}
@@ -40,6 +41,11 @@ texts_in pages = map (λ (p : TextOfPage). p.text) pages
 
 abbrev pub lsn_of : List ℕ → ℕ
 lsn_of text = be64_at text page_lsn_at
+
+-- the page of a text is dirty at its LSN, and a home that reads as the text is clean: under this version, or in clear for page 0
+pub record IsDueText (pool : PoolState) (s version : ℕ) (text : List ℕ) : Type 0 where
+  pub dirty : is_dirty_at (name_of_page s (page_number_of text)) (lsn_of text) pool.dirty.entries ≡ true
+  pub home : home_told text ≡ Clean (sealed_version (page_number_of text) version)
 
 -- one of the texts has changes of blocks of the log behind this one
 abbrev pub need_log : ℕ → List (List ℕ) → Bool
