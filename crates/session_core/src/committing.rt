@@ -8,6 +8,7 @@ ghost use Rattle.page_pool.specs.declared.names.PageName.{PageName};
 ghost use Rattle.redo_text.specs.Text.{AreAllowed};
 ghost use Rattle.session_core.specs.Committing.{AreOfPages, AreSized, IsCommitRefusal, IsSized, IsUnfit, first_bad_range, first_missing_page};
 ghost use Rattle.session_core.specs.Entering.{AreFromOne, EntersHeld, HasEntryRoom, HasNoEntryRoom, HoldsAfter, IsAppended, IsEntered, IsNotEntered, OnlyLooksFor, blocks_of, lsn_behind, receipt_of};
+ghost use Rattle.session_core.specs.Files.{calls_of};
 ghost use Rattle.session_core.specs.Holding.{AreAtHand, HoldsNamed, IsHoldRefusal};
 ghost use Rattle.session_core.specs.Keys.{log_key};
 ghost use Rattle.session_core.specs.Spaces.{is_page};
@@ -236,6 +237,7 @@ impl<D: Disk + Drop> SessionCore<D> {
         ensures still { AreAtHand self.old.store mtr.now self.old.pool → self.new.disk ≡ self.old.disk }
         ensures up { OnOk result (self.new.disk.stop ≡ None) }
         ensures later { D.is_later self.old.disk.disk self.new.disk.disk × IsCounted (count_of D.past D.faults D.memory_refusals self.old.disk) (count_of D.past D.faults D.memory_refusals self.new.disk) }
+        ensures calls { calls_of D.clock self.new.disk ≤ calls_of D.clock self.old.disk + length mtr.now }
     {
         hold_named(
             &mut self.disk,
@@ -308,6 +310,7 @@ impl<D: Disk + Drop> SessionCore<D> {
         ensures still { AreAtHand self.old.store mtr self.old.pool → self.new.disk ≡ self.old.disk }
         ensures up { OnOk result (self.new.disk.stop ≡ None) }
         ensures later { D.is_later self.old.disk.disk self.new.disk.disk × IsCounted (count_of D.past D.faults D.memory_refusals self.old.disk) (count_of D.past D.faults D.memory_refusals self.new.disk) }
+        ensures calls { calls_of D.clock self.new.disk ≤ calls_of D.clock self.old.disk + length mtr }
     {
         check_room(&self.log, &self.pool, &mtr)?;
         self.hold(&mtr)?;
@@ -316,8 +319,9 @@ impl<D: Disk + Drop> SessionCore<D> {
 
     /// Makes the changes of a mini-transaction, as the next entry of the journal, and answers how many
     /// entries there are with it, and its LSN. Its blocks are pending: they are durable behind the next
-    /// [`SessionCore::sync`]. Its pages that are neither held nor unused are read from their homes. It has
-    /// 1 to 64 changes, each a Put or a Kind, none of which sets the type 8 or 9.
+    /// [`SessionCore::sync`]. Its pages that are neither held nor unused are read from their homes, by at
+    /// most one call of the disk for each change. It has 1 to 64 changes, each a Put or a Kind, none of
+    /// which sets the type 8 or 9.
     ///
     /// # Errors
     /// The first of these, in this order, and nothing but the clean pages is changed:
@@ -343,6 +347,7 @@ impl<D: Disk + Drop> SessionCore<D> {
         ensures still { AreAtHand self.old.store mtr self.old.pool → self.new.disk ≡ self.old.disk }
         ensures up { OnOk result (self.new.disk.stop ≡ None) }
         ensures later { D.is_later self.old.disk.disk self.new.disk.disk × IsCounted (count_of D.past D.faults D.memory_refusals self.old.disk) (count_of D.past D.faults D.memory_refusals self.new.disk) }
+        ensures calls { calls_of D.clock self.new.disk ≤ calls_of D.clock self.old.disk + length mtr }
     {
         self.check()?;
         check_changes(&self.store, mtr.changes())?;

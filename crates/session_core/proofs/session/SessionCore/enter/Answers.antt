@@ -1,9 +1,10 @@
-use Rattle.std.proofs.Common.{◌≡◌, refl, rules, subst, sym}
+use Rattle.std.proofs.Common.{◌≡◌, ◌+◌, ◌≤◌, length, refl, rules, subst, sym}
 use Rattle.std.specs.Prelude.{IsErrAnd}
 use Rattle.cause_core.proofs.Causes.{handed}
 use Rattle.counted_disk.specs.Counting.{IsCounted, count_of}
 use Rattle.counted_disk.specs.declared.counted.Counted.{Counted}
 use Rattle.session_core.specs.Entering.{HasEntryRoom, HasNoEntryRoom, NoRoom, NotHeld}
+use Rattle.session_core.specs.Files.{calls_of}
 use Rattle.session_core.specs.Session.{Running}
 use Rattle.session_core.proofs.EnterLaws.{entered_then, of_store_then, receipt_then, refused_then, room_then}
 use Rattle.session_core.proofs.session.SessionCore.enter.Goals as goal
@@ -45,3 +46,6 @@ pub returns-clause-later : goal.returns-clause-later
 returns-clause-later g c =
     subst (λ (d : Counted _). g.D.Disk.is_later c.args.self.now.disk.disk d.disk × IsCounted (count_of g.D.Disk.past g.D.Disk.faults g.D.Disk.memory_refusals c.args.self.now.disk) (count_of g.D.Disk.past g.D.Disk.faults g.D.Disk.memory_refusals d))
     (sym c.enter_held.ensures.disk) c.hold.ensures.later
+
+pub returns-clause-calls : goal.returns-clause-calls
+returns-clause-calls g c = subst (λ (d : Counted _). calls_of g.D.Disk.clock d ≤ calls_of g.D.Disk.clock c.args.self.now.disk + length c.args.mtr) (sym c.enter_held.ensures.disk) c.hold.ensures.calls

@@ -1,8 +1,10 @@
-use Rattle.std.proofs.Common.{◌≡◌, List, None, sym, subst}
+use Rattle.std.proofs.Common.{◌≡◌, ◌+◌, ◌≤◌, List, length, None, sym, subst}
 use Rattle.counted_disk.specs.Counting.{IsCounted, count_of}
 use Rattle.disk_model.proofs.Moments.{at_each, at_is}
 use Rattle.key_ring.specs.Ring.{RingEntry}
+use Rattle.redo_text.specs.declared.change.Change.{Change}
 use Rattle.session_core.specs.Entering.{AreFromOne}
+use Rattle.session_core.specs.Files.{calls_of}
 use Rattle.session_core.specs.Keys.{HasVersion}
 use Rattle.session_core.specs.Session.{Running}
 use Rattle.session_core.proofs.LookLaws.{dirty_looks, told_looks}
@@ -34,3 +36,8 @@ pub returns-clause-later : goal.returns-clause-later
 returns-clause-later g c =
     subst (λ (r : Running _). g.D.Disk.is_later r.disk.disk c.hold_named.new.disk.disk × IsCounted (count_of g.D.Disk.past g.D.Disk.faults g.D.Disk.memory_refusals r.disk) (count_of g.D.Disk.past g.D.Disk.faults g.D.Disk.memory_refusals c.hold_named.new.disk))
     c.self.view_is c.hold_named.ensures.later
+
+pub returns-clause-calls : goal.returns-clause-calls
+returns-clause-calls g c =
+    subst (λ (r : Running _). calls_of g.D.Disk.clock c.hold_named.new.disk ≤ calls_of g.D.Disk.clock r.disk + length c.args.mtr.now) c.self.view_is
+    (subst (λ (l : List Change). calls_of g.D.Disk.clock c.hold_named.new.disk ≤ calls_of g.D.Disk.clock c.self.inside.disk + length l) c.changes.ensures c.hold_named.ensures.calls)
