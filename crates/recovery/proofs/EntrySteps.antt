@@ -1,4 +1,4 @@
--- Nothing is refused of a store that recovers as it reads, where nothing is in the way of opening it.
+-- What the steps of an opening look at of a store that recovers as it reads: its files, its pages, and the texts of its run.
 use Rattle.std.proofs.Common.{◌≡◌, ℕ, suc, ◌+◌, ◌<◌, ◌≤◌, Bool, true, if◌then◌else◌, List, [], ◌∷◌, ◌++◌, length, map, slice_index_or, refl, sym, ap, subst, ◌∙◌, arith, append_assoc}
 use Rattle.disk_model.specs.Event.{Event, is_there, reads}
 use Rattle.key_ring.specs.Ring.{RingEntry}

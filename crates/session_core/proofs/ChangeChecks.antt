@@ -1,5 +1,5 @@
 -- What is checked of a mini-transaction before it is entered: its pages, its ranges and its numbers.
-use Rattle.std.proofs.Common.{◌≡◌, ◌≢◌, ℕ, ◌+◌, ◌<◌, ◌≤◌, ◌&&◌, Bool, true, false, true≢false, eq-eqb, nat_eq, nat_le, nat_lt, not, if◌then◌else◌, List, [], ◌∷◌, length, Option, Some, None, Result, Ok, Err, refl, sym, ap, ◌∙◌, subst, arith}
+use Rattle.std.proofs.Common.{◌≡◌, ◌≢◌, ℕ, ◌+◌, ◌<◌, ◌≤◌, ◌&&◌, Bool, true, false, true≢false, eq-eqb, nat_eq, nat_le, nat_lt, not, if◌then◌else◌, List, [], ◌∷◌, length, Option, Some, None, Result, Ok, Err, OnOk, refl, sym, ap, ◌∙◌, subst, arith}
 use Rattle.std.specs.Prelude.{IfErr}
 use Rattle.std.proofs.lemmas.Bool.{and_parts}
 use Rattle.std.proofs.lemmas.Bool.Decides.{nat_tests}
@@ -13,7 +13,8 @@ use Rattle.space_head.specs.declared.space.Home.{Home}
 use Rattle.space_head.specs.declared.space.SpaceInfo.{SpaceInfo}
 use Rattle.store_files.specs.Header.{HeldSpace}
 use Rattle.store_files.specs.Pages.{has_page}
-use Rattle.session_core.specs.Committing.{AreOfPages, AreSized, first_bad_range, first_missing_page, is_body_range}
+use Rattle.session_core.specs.Committing.{AreOfPages, AreSized, IsUnfit, Missing, NoRange, first_bad_range, first_missing_page, is_body_range}
+use Rattle.session_core.specs.Entering.{AreFromOne}
 use Rattle.session_core.specs.Spaces.{HaveLists, is_page}
 use Rattle.session_core.specs.declared.fault.EngineFault.{EngineFault}
 use Rattle.session_core.specs.declared.fault.EngineFault.TheVariants.{BadRange, NoSuchPage}
@@ -178,3 +179,46 @@ put_unfit c s p at bytes (Err e) is (same, no_range) =
     by : (b : Bool) → is_body_range at (length bytes) ≡ b → (if b then None else Some (bad_range at bytes)) ≡ Some (bad_range at bytes)
     by true test = absurd (no_range (body_range at (length bytes) test))
     by false test = refl
+
+-- they name no page 0
+pub from_allowed : (cs : List Change) → AreOfPages cs → AreAllowed cs → AreFromOne cs
+from_allowed [] of_pages allowed = tt
+from_allowed (Put s page at bytes ∷ cs) of_pages allowed = ((λ e. let some = allowed.0.1 in omega (arith, some, e)), from_allowed cs of_pages.1 allowed.1)
+from_allowed (Kind s page kind ∷ cs) of_pages allowed = ((λ e. let some = allowed.0.1 in omega (arith, some, e)), from_allowed cs of_pages.1 allowed.1)
+from_allowed (Touch s page ∷ cs) of_pages allowed = absurd of_pages.0
+from_allowed (Floor s version ∷ cs) of_pages allowed = absurd of_pages.0
+from_allowed (Encrypt s ∷ cs) of_pages allowed = absurd of_pages.0
+
+-- ---- of all changes, once the pages were checked
+
+module _ {T : Type 0} (spaces : List SpaceInfo) (cs : List Change) (result : Result T EngineFault) (of_pages : AreOfPages cs) (there : first_missing_page spaces cs ≡ None) where
+  pub allowed_then : OnOk result (first_bad_range cs ≡ None) → OnOk result (AreSized cs) → OnOk result (AreAllowed cs)
+  allowed_then ranged sized = by result ranged sized
+    where
+      by : (r : Result T EngineFault) → OnOk r (first_bad_range cs ≡ None) → OnOk r (AreSized cs) → OnOk r (AreAllowed cs)
+      by (Ok v) h k = all_allowed spaces cs of_pages there h k
+      by (Err e) h k = tt
+
+  pub from_then : OnOk result (first_bad_range cs ≡ None) → OnOk result (AreSized cs) → OnOk result (AreFromOne cs)
+  from_then ranged sized = by result ranged sized
+    where
+      by : (r : Result T EngineFault) → OnOk r (first_bad_range cs ≡ None) → OnOk r (AreSized cs) → OnOk r (AreFromOne cs)
+      by (Ok v) h k = from_allowed cs of_pages (all_allowed spaces cs of_pages there h k)
+      by (Err e) h k = tt
+
+  pub of_store_checked : (hs : List HeldSpace) (os : List (List Home)) → HaveLists hs spaces os → OnOk result (AreOfStore hs cs)
+  of_store_checked hs os have = by result
+    where
+      by : (r : Result T EngineFault) → OnOk r (AreOfStore hs cs)
+      by (Ok v) = all_of_store hs spaces os have cs of_pages there
+      by (Err e) = tt
+
+  pub unfit_range : IfErr result (λ e. (r : ℕ × ℕ) × (first_bad_range cs ≡ Some r) × (e ≡ BadRange r.0 r.1)) → IfErr result (IsUnfit spaces cs)
+  unfit_range refused = by result refused
+    where
+      by : (r : Result T EngineFault) → IfErr r (λ e. (x : ℕ × ℕ) × (first_bad_range cs ≡ Some x) × (e ≡ BadRange x.0 x.1)) → IfErr r (IsUnfit spaces cs)
+      by (Ok v) h = tt
+      by (Err e) (x, is, same) = subst (IsUnfit spaces cs) (sym same) (NoRange x.0 x.1 there is)
+
+pub unfit_page : (spaces : List SpaceInfo) (cs : List Change) (e : EngineFault) → (name : PageName) × (first_missing_page spaces cs ≡ Some name) × (e ≡ NoSuchPage name.space name.page) → IsUnfit spaces cs e
+unfit_page spaces cs e (name, is, same) = subst (IsUnfit spaces cs) (sym same) (Missing name is)

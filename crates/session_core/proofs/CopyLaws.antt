@@ -168,7 +168,7 @@ copied_next pool start now i d lt is so = by (nat_eq d.space now.space) refl (na
         copied_other pool start now i d lt is (λ same. apart (same ∙ sym space_same)) so
 
 -- an element is the same whatever stands in for one that isn't there
-get_or_any : (ds : List DirtyPage) (i : ℕ) (y z : DirtyPage) → i < length ds → get_or ds i y ≡ get_or ds i z
+pub get_or_any : (ds : List DirtyPage) (i : ℕ) (y z : DirtyPage) → i < length ds → get_or ds i y ≡ get_or ds i z
 get_or_any [] i y z lt = absurd (omega (arith, lt))
 get_or_any (x ∷ ds) zero y z lt = refl
 get_or_any (x ∷ ds) (suc i) y z lt = get_or_any ds i y z (omega (arith, lt))

@@ -38,7 +38,7 @@ passing test (e ∷ es) x at = by (test e.0) refl (passing test es x)
         subst (λ (y : PageName × PlainPage). test y.0 ≡ true) same is
     by false is later = later (ap (λ (b : Bool). cond b (Some e) (lookup_entry test es)) (sym is) ∙ at)
 
-name_back : (one other : PageName) → is_name one other ≡ false → is_name other one ≡ false
+pub name_back : (one other : PageName) → is_name one other ≡ false → is_name other one ≡ false
 name_back one other h = grind (arith, nat_tests)
 
 -- one page comes first, and each other is found as before
@@ -63,7 +63,7 @@ found_clean name other s = by (is_name name other) refl
 pub held_found_all : (name other : PageName) (s : PoolState) → held_page other (found_page name s) ≡ held_page other s
 held_found_all name other s = ap (λ (o : Option PlainPage). if is_dirty other s.dirty then slice_get s.dirty.pages (place_of other s.dirty.entries) else o) (found_clean name other s)
 
-in_front : (name : PageName) (n : ℕ) (es : List (PageName × PlainPage)) (page : PlainPage) → lookup (is_name name) (take n es) ≡ Some page → lookup (is_name name) es ≡ Some page
+pub in_front : (name : PageName) (n : ℕ) (es : List (PageName × PlainPage)) (page : PlainPage) → lookup (is_name name) (take n es) ≡ Some page → lookup (is_name name) es ≡ Some page
 in_front name zero es page is = absurd (none-some page is)
 in_front name (suc n) [] page is = absurd (none-some page is)
 in_front name (suc n) (e ∷ es) page is = by (is_name name e.0) refl (in_front name n es page)

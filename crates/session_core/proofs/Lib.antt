@@ -15,7 +15,13 @@ pub mod SpaceEdits
 pub mod CloseLaws
 pub mod HoldLaws
 pub mod ChangeChecks
+pub mod LookLaws
+pub mod EnterLaws
 pub mod CopyLaws
 pub mod TakeLaws
 pub mod CurrentLaws
+pub mod CleanedLaws
+pub mod HomeEdits
+pub mod MarkLaws
 pub mod PutWrites
+pub mod TextTells

@@ -60,9 +60,13 @@ abbrev pub AreSized : List Change → Type 0
 AreSized [] = Unit {0}
 AreSized (c ∷ cs) = IsSized c × AreSized cs
 
--- Why a mini-transaction isn't committed, in this order: the session was stopped; a page that it names isn't the store's, or is page 0; a range isn't one; or it isn't entered.
+-- Why changes aren't taken: the store hasn't a page that one names, or it is page 0; or all are there and a range isn't one.
+pub data IsUnfit (spaces : List SpaceInfo) (mtr : List Change) : EngineFault → Type 0 where
+  Missing : (name : PageName) → first_missing_page spaces mtr ≡ Some name → IsUnfit spaces mtr (NoSuchPage name.space name.page)
+  NoRange : (at size : ℕ) → first_missing_page spaces mtr ≡ None → first_bad_range mtr ≡ Some (at, size) → IsUnfit spaces mtr (BadRange at size)
+
+-- Why a mini-transaction isn't committed, in this order: the session was stopped; a change isn't taken; or all are and it isn't entered.
 pub data IsCommitRefusal {D : Type 0} (past : D → Past) (mtr : List Change) (old new : Running D) : EngineFault → Type 0 where
   Stopped : (e : EngineFault) → up_or_refused old.disk.stop old.disk.turns ≡ Err e → new ≡ old → IsCommitRefusal past mtr old new e
-  Missing : (name : PageName) → old.disk.stop ≡ None → first_missing_page old.store.spaces mtr ≡ Some name → new ≡ old → IsCommitRefusal past mtr old new (NoSuchPage name.space name.page)
-  Unfit : (at size : ℕ) → old.disk.stop ≡ None → first_missing_page old.store.spaces mtr ≡ None → first_bad_range mtr ≡ Some (at, size) → new ≡ old → IsCommitRefusal past mtr old new (BadRange at size)
+  Unfit : (e : EngineFault) → old.disk.stop ≡ None → IsUnfit old.store.spaces mtr e → new ≡ old → IsCommitRefusal past mtr old new e
   NotEntered : (e : EngineFault) → old.disk.stop ≡ None → first_missing_page old.store.spaces mtr ≡ None → first_bad_range mtr ≡ None → IsNotEntered past mtr old new e → IsCommitRefusal past mtr old new e

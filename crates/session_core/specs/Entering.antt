@@ -1,10 +1,11 @@
 -- A mini-transaction becomes an entry of the journal.
-use Rattle.std.specs.Prelude.{◌≡◌, ◌⊎◌, ℕ, ◌+◌, ◌*◌, ◌<◌, ◌≤◌, true, List, [], ◌∷◌, ◌++◌, length, Option, Some, None}
+use Rattle.std.specs.Prelude.{◌≡◌, ◌≢◌, ◌⊎◌, ℕ, ◌+◌, ◌*◌, ◌<◌, ◌≤◌, true, List, [], ◌∷◌, ◌++◌, length, Option, Some, None}
 use Rattle.counted_disk.specs.declared.counted.Counted.{Counted}
 use Rattle.disk_model.specs.Event.{Event}
 use Rattle.disk_model.specs.Past.{Past, At}
-use Rattle.page_pool.specs.Changes.{fresh_pages, pool_after}
-use Rattle.page_pool.specs.Pages.{PoolState}
+use Rattle.page_pool.specs.Changes.{fresh_pages, held_after, page_of_change, pool_after}
+use Rattle.page_pool.specs.Pages.{PoolState, held_page}
+use Rattle.page_pool.specs.declared.names.PageName.{PageName}
 use Rattle.redo_log.specs.Append.{IsEntry, JournalGrows, appended, with_pending}
 use Rattle.redo_log.specs.Blocks.{Keys, redo_form}
 use Rattle.redo_log.specs.Log.{FitsRing, free_of}
@@ -26,6 +27,15 @@ use Rattle.session_core.specs.declared.fault.EngineFault.TheVariants.{LogFull, O
 use Rattle.session_core.specs.declared.journal.Author.{Author}
 use Rattle.session_core.specs.declared.journal.Entry.{Entry}
 use Rattle.session_core.specs.declared.journal.Receipt.{Receipt}
+
+-- the changes name pages from page 1 on
+abbrev pub AreFromOne : List Change → Type 0
+AreFromOne [] = Unit {0}
+AreFromOne (c ∷ cs) = ((page_of_change c).page ≢ 0) × AreFromOne cs
+
+-- each page holds what the changes that name it make of it
+abbrev pub HoldsAfter : List Change → PoolState → PoolState → Type 0
+HoldsAfter cs old new = (name : PageName) → held_page name new ≡ held_after cs name (held_page name old)
 
 -- how many blocks a mini-transaction has
 abbrev pub blocks_of : List Change → ℕ

@@ -1,5 +1,5 @@
 -- Which texts of a sealed batch are written to their homes, and what is left of the pool and of what is known of homes.
-use Rattle.std.specs.Prelude.{ℕ, ◌*◌, ◌<◌, Bool, false, nat_eq, nat_lt, ◌&&◌, ◌||◌, if◌then◌else◌, List, [], ◌∷◌, length, map, slice_index_or}
+use Rattle.std.specs.Prelude.{◌≡◌, ℕ, ◌*◌, ◌<◌, Bool, true, false, nat_eq, nat_lt, ◌&&◌, ◌||◌, if◌then◌else◌, List, [], ◌∷◌, length, map, slice_index_or}
 use Rattle.std.specs.Str.{bytes_eq}
 use Rattle.byte_list.specs.Fields.{be64_at}
 use Rattle.doublewrite.specs.Text.{page_number_of}
@@ -7,8 +7,10 @@ use Rattle.page_batch.specs.Batch.{CopiedPage, TextOfPage, sealed_version}
 use Rattle.page_places.specs.Texts.{page_lsn_at}
 use Rattle.page_pool.specs.Changes.{cleaned, is_dirty_at}
 use Rattle.page_pool.specs.Pages.{PoolState, held_page}
+use Rattle.page_pool.specs.declared.names.DirtyPage.{DirtyPage}
 use Rattle.page_text.specs.Text.{Plain}
 use Rattle.space_head.specs.declared.space.Home.TheVariants.{Clean}
+use Rattle.store_form.specs.Rest.{home_told}
 use Rattle.store_image.specs.View.{block_bytes}
 use Rattle.store_model.specs.Fold.{used}
 use Rattle.store_model.specs.declared.contents.PlainPage.{PlainPage}
@@ -40,6 +42,11 @@ texts_in pages = map (λ (p : TextOfPage). p.text) pages
 abbrev pub lsn_of : List ℕ → ℕ
 lsn_of text = be64_at text page_lsn_at
 
+-- the page of a text is dirty at its LSN, and a home that reads as the text is clean: under this version, or in clear for page 0
+pub record IsDueText (pool : PoolState) (s version : ℕ) (text : List ℕ) : Type 0 where
+  pub dirty : is_dirty_at (name_of_page s (page_number_of text)) (lsn_of text) pool.dirty.entries ≡ true
+  pub home : home_told text ≡ Clean (sealed_version (page_number_of text) version)
+
 -- one of the texts has changes of blocks of the log behind this one
 abbrev pub need_log : ℕ → List (List ℕ) → Bool
 need_log number [] = false
@@ -51,6 +58,16 @@ need_log number (t ∷ ts) = nat_lt (number * block_bytes) (lsn_of t) || need_lo
 abbrev pub cleaned_all : ℕ → List (List ℕ) → PoolState → PoolState
 cleaned_all s [] pool = pool
 cleaned_all s (t ∷ ts) pool = cleaned_all s ts (cleaned (name_of_page s (page_number_of t)) (lsn_of t) pool)
+
+-- one of the texts is of the page of this number
+abbrev pub name_number : ℕ → List (List ℕ) → Bool
+name_number p [] = false
+name_number p (t ∷ ts) = nat_eq (page_number_of t) p || name_number p ts
+
+-- each text is of a page that is dirty at its LSN, and is of another page than those behind it
+abbrev pub AreOfDirty : ℕ → List (List ℕ) → List DirtyPage → Type 0
+AreOfDirty s [] ds = Unit {0}
+AreOfDirty s (t ∷ ts) ds = (is_dirty_at (name_of_page s (page_number_of t)) (lsn_of t) ds ≡ true) × (name_number (page_number_of t) ts ≡ false) × AreOfDirty s ts ds
 
 -- and what is known of homes: each of these pages is clean there, page 0 in clear and each other one under this version
 abbrev pub homes_written : ℕ → ℕ → List (List ℕ) → StoreSpaces → StoreSpaces

@@ -1,10 +1,16 @@
 // What is left behind the texts of a batch that were written: their pages are clean, in memory and at home.
-ghost use Rattle.std.specs.Prelude.{◌≡◌, ◌≤◌, ◌^◌, Some};
+ghost use Rattle.std.specs.Prelude.{◌≡◌, ◌≤◌, ◌^◌, true, false, Some, All};
 ghost use Rattle.page_batch.specs.Batch.{sealed_version};
-ghost use Rattle.session_core.specs.Putting.{NameWithin, cleaned_all, homes_written, lsn_of, need_log};
+ghost use Rattle.page_pool.specs.Pages.{held_page, is_dirty};
+ghost use Rattle.page_pool.specs.declared.names.PageName.{PageName};
+ghost use Rattle.redo_log.specs.Log.{durable};
+ghost use Rattle.redo_log.specs.State.{LogState};
+ghost use Rattle.session_core.specs.Dirty.{AreMarked, AreTyped, HasPendingPage, IsInRun};
+ghost use Rattle.session_core.specs.Putting.{AreOfDirty, NameWithin, cleaned_all, homes_written, lsn_of, need_log};
 ghost use Rattle.session_core.specs.Spaces.{space_with_id};
 ghost use Rattle.space_head.specs.declared.space.Home.TheVariants.{Clean};
 ghost use Rattle.space_head.specs.declared.space.SpaceInfo.{SpaceInfo};
+ghost use Rattle.store_model.specs.declared.contents.PlainPage.{PlainPage};
 
 use crate::tablespaces::Tablespaces;
 use byte_list::fields::be64_at;
@@ -38,9 +44,14 @@ pub(crate) fn need_log(texts: &PageTexts, number: u64) -> bool
 
 /// Marks the page of each text clean, where it is dirty at the text's LSN. It takes no memory.
 pub(crate) fn clean_pages(pool: &mut Pool, space: u32, texts: &PageTexts)
-    ensures { pool.new ≡ cleaned_all space texts.now pool.old }
+    ensures cleaned { pool.new ≡ cleaned_all space texts.now pool.old }
+    // What is held of a page was held of it, and each dirty page was dirty.
+    ensures held { (name : PageName) → (page : PlainPage) → held_page name pool.new ≡ Some page → held_page name pool.old ≡ Some page }
+    ensures dirty { (name : PageName) → is_dirty name pool.new.dirty ≡ true → is_dirty name pool.old.dirty ≡ true }
+    ensures within { (log : LogState) → All (IsInRun log) pool.old.dirty.entries → All (IsInRun log) pool.new.dirty.entries }
 {
     for i in 0..texts.len() {
+        let _kept = pool.dirty();
         let text = texts.get(i);
         pool.clean(space, text.number(), lsn_of(text));
     }
@@ -66,4 +77,31 @@ pub(crate) fn set_homes(store: &mut Tablespaces, space: u32, version: u32, texts
         let page = texts.get(i).number();
         store.set_home(space, page, written_home(page, version));
     }
+}
+
+/// Notes that the texts were written to their homes: their pages are clean, in memory and in what is known
+/// of homes. It takes no memory.
+pub(crate) fn note_written(
+    pool: &mut Pool,
+    store: &mut Tablespaces,
+    space: u32,
+    version: u32,
+    texts: &PageTexts,
+)
+    requires within { (info : SpaceInfo) × (space_with_id store.old.spaces space ≡ Some info) × NameWithin texts.now info.pages }
+    requires dirty { AreOfDirty space texts.now pool.old.dirty.entries }
+    requires marks { AreMarked store.old pool.old.dirty }
+    ensures cleaned { pool.new ≡ cleaned_all space texts.now pool.old }
+    ensures homes { store.new ≡ homes_written space version texts.now store.old }
+    ensures marks { AreMarked store.new pool.new.dirty }
+    ensures typed { AreTyped pool.old → AreTyped pool.new }
+    ensures held { (name : PageName) → (page : PlainPage) → held_page name pool.new ≡ Some page → held_page name pool.old ≡ Some page }
+    ensures within { (log : LogState) → All (IsInRun log) pool.old.dirty.entries → All (IsInRun log) pool.new.dirty.entries }
+    // Where no text has changes of blocks that aren't durable, a page that needs them is dirty still.
+    ensures pending { (log : LogState) → need_log (durable log) texts.now ≡ false → HasPendingPage log pool.old.dirty.entries → HasPendingPage log pool.new.dirty.entries }
+{
+    let _listed = pool.dirty();
+    let _spaces = store.spaces();
+    clean_pages(pool, space, texts);
+    set_homes(store, space, version, texts);
 }

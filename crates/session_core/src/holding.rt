@@ -1,5 +1,5 @@
 // The pages of a mini-transaction are held: those that aren't are read from their homes.
-ghost use Rattle.std.specs.Prelude.{◌≡◌, ◌≢◌, ◌<◌, ◌≤◌, true, None, Some, IfErr, OnErr, OnOk, length};
+ghost use Rattle.std.specs.Prelude.{◌≡◌, ◌≢◌, ◌+◌, ◌<◌, ◌≤◌, true, None, Some, IfErr, OnErr, OnOk, length};
 ghost use Rattle.byte_list.specs.Fields.{be16_at};
 ghost use Rattle.counted_disk.specs.Counting.{IsCounted, count_of};
 ghost use Rattle.crash_image.specs.Recovers.{AreOfStore};
@@ -10,7 +10,7 @@ ghost use Rattle.page_pool.specs.Pages.{is_held, plain_page};
 ghost use Rattle.page_text.specs.declared.fault.OpenFault.TheVariants.{WrongKind};
 ghost use Rattle.space_head.specs.declared.space.Home.TheVariants.{Unused};
 ghost use Rattle.space_head.specs.declared.space.SpaceInfo.{SpaceInfo};
-ghost use Rattle.session_core.specs.Files.{HasStoreFiles};
+ghost use Rattle.session_core.specs.Files.{HasStoreFiles, calls_of};
 ghost use Rattle.session_core.specs.Holding.{AreAtHand, HoldsNamed, IsAtHand, IsHoldFault, IsHoldRefusal, IsTakeFault, IsTakenFromHome, LooksFor, MeetsPage};
 ghost use Rattle.session_core.specs.Spaces.{home_in, space_with_id};
 ghost use Rattle.session_core.specs.declared.fault.EngineFault.TheVariants.{Damaged};
@@ -75,6 +75,7 @@ fn take_home<D: Disk + Drop>(
     ensures keys { keys.new ≡ keys.old }
     ensures past { D.past disk.new.disk ≡ D.past disk.old.disk }
     ensures later { D.is_later disk.old.disk disk.new.disk × IsCounted (count_of D.past D.faults D.memory_refusals disk.old) (count_of D.past D.faults D.memory_refusals disk.new) }
+    ensures calls { calls_of D.clock disk.new ≤ calls_of D.clock disk.old + 1 }
 {
     let Some(info) = store.info(name.space) else {
         unreachable!();
@@ -116,6 +117,7 @@ fn hold_page<D: Disk + Drop>(
     ensures keys { keys.new ≡ keys.old }
     ensures past { D.past disk.new.disk ≡ D.past disk.old.disk }
     ensures later { D.is_later disk.old.disk disk.new.disk × IsCounted (count_of D.past D.faults D.memory_refusals disk.old) (count_of D.past D.faults D.memory_refusals disk.new) }
+    ensures calls { calls_of D.clock disk.new ≤ calls_of D.clock disk.old + 1 }
 {
     if bring(pool, name) || is_new(store, name) {
         return Ok(());
@@ -149,6 +151,7 @@ fn hold_each<D: Disk + Drop>(
     ensures keys { keys.new ≡ keys.old }
     ensures past { D.past disk.new.disk ≡ D.past disk.old.disk }
     ensures later { D.is_later disk.old.disk disk.new.disk × IsCounted (count_of D.past D.faults D.memory_refusals disk.old) (count_of D.past D.faults D.memory_refusals disk.new) }
+    ensures calls { calls_of D.clock disk.new ≤ calls_of D.clock disk.old + length changes.now }
 {
     let _spaces = store.spaces();
     for change in changes {
@@ -178,6 +181,7 @@ pub(crate) fn hold_named<D: Disk + Drop>(
     ensures keys { keys.new ≡ keys.old }
     ensures past { D.past disk.new.disk ≡ D.past disk.old.disk }
     ensures later { D.is_later disk.old.disk disk.new.disk × IsCounted (count_of D.past D.faults D.memory_refusals disk.old) (count_of D.past D.faults D.memory_refusals disk.new) }
+    ensures calls { calls_of D.clock disk.new ≤ calls_of D.clock disk.old + length changes.now }
 {
     let mut bytes = [0; PAGE_BYTES];
     hold_each(disk, keys, store, pool, changes, &mut bytes)

@@ -9,6 +9,7 @@ pub mod LogWrites
 pub mod Commits
 pub mod HomesRead
 pub mod Puts
+pub mod BatchRecords
 pub mod PutRecords
 pub mod Checks
 pub mod Clears

@@ -50,6 +50,13 @@ returns-in_err-hold_page-clause-later g c =
     let second = c.hold_page.ensures.later in
     (g.met.D.Disk.is_later_transitive _ _ _ first.0 second.0, counts_then _ _ _ first.1 second.1)
 
+pub returns-in_err-hold_page-clause-calls : goal.returns-in_err-hold_page-clause-calls
+returns-in_err-hold_page-clause-calls g c =
+    let before = c.loop-change.invariant.calls in
+    let more = c.hold_page.ensures.calls in
+    let lt = c.loop-change-test.true in
+    omega (arith, before, more, lt)
+
 pub loop-change-preserved : goal.loop-change-preserved
 loop-change-preserved g c =
     let at = c.loop-change.invariant in
@@ -66,6 +73,8 @@ loop-change-preserved g c =
     (subst (λ (h : Past). MeetsPage c.loop-change.keys store h name c.loop-change.pool c.hold_page.new.pool) at.past c.in_ok-hold_page.ensures.meets) in
     let first = at.later in
     let second = c.hold_page.ensures.later in
+    let before = at.calls in
+    let more = c.hold_page.ensures.calls in
     record {
       looks = looks_meets c.args.keys.now store past changes name c.args.pool.now c.loop-change.pool c.hold_page.new.pool named at.looks meets;
       near = near_next c.args.keys.now store past changes c.loop-change.change-index item name c.loop-change.pool c.hold_page.new.pool lt c.requires.few c.change-item.is c.name_of.ensures meets at.near;
@@ -79,6 +88,7 @@ loop-change-preserved g c =
       keys = c.hold_page.ensures.keys ∙ at.keys;
       past = c.hold_page.ensures.past ∙ at.past;
       later = (g.met.D.Disk.is_later_transitive _ _ _ first.0 second.0, counts_then _ _ _ first.1 second.1);
+      calls = omega (arith, before, more);
     }
 
 pub returns-clause-held : goal.returns-clause-held

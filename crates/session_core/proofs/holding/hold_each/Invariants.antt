@@ -1,10 +1,11 @@
-use Rattle.std.proofs.Common.{◌≡◌, None, drop, length, take, true}
+use Rattle.std.proofs.Common.{◌≡◌, ◌+◌, ◌≤◌, None, drop, length, take, true}
 use Rattle.counted_disk.specs.Counting.{IsCounted, count_of}
 use Rattle.crash_image.specs.Recovers.{AreOfStore}
 use Rattle.page_places.specs.Texts.{page_bytes}
 use Rattle.page_pool.specs.Changes.{name_page}
 use Rattle.page_pool.specs.Pages.{is_held}
 use Rattle.page_pool.specs.declared.names.PageName.{PageName}
+use Rattle.session_core.specs.Files.{calls_of}
 use Rattle.session_core.specs.Holding.{AreAtHand, LooksFor}
 use Rattle.session_core.proofs.HoldLaws.{IsNear}
 use Rattle.session_core.proofs.holding.hold_each.Given as goal
@@ -20,4 +21,5 @@ invariant-loop-change g l = record {
   keys : l.keys ≡ l.fn.keys;
   past : g.D.Disk.past l.disk.disk ≡ g.D.Disk.past l.fn.disk.disk;
   later : g.D.Disk.is_later l.fn.disk.disk l.disk.disk × IsCounted (count_of g.D.Disk.past g.D.Disk.faults g.D.Disk.memory_refusals l.fn.disk) (count_of g.D.Disk.past g.D.Disk.faults g.D.Disk.memory_refusals l.disk);
+  calls : calls_of g.D.Disk.clock l.disk ≤ calls_of g.D.Disk.clock l.fn.disk + l.change-index;
 }
