@@ -19,7 +19,7 @@ use Rattle.page_text.specs.Text.{Plain, plain_of}
 use Rattle.store_model.specs.Fold.{used}
 use Rattle.store_model.specs.declared.contents.PlainPage.{PlainPage}
 use Rattle.session_core.specs.Dirty.{AreTyped}
-use Rattle.session_core.specs.Taking.{copied_of, dirty_of, plain_in, with_copy}
+use Rattle.session_core.specs.Taking.{copied_of, dirty_of, plain_of_page, with_copy}
 
 -- a dirty page is found where it is, and nothing of the pool changes
 pub found_dirty : (name : PageName) (pool : PoolState) → IsPool pool → is_dirty name pool.dirty ≡ true → found_page name pool ≡ pool
@@ -32,14 +32,14 @@ pub dirty_held : (name : PageName) (pool : PoolState) → is_dirty name pool.dir
 dirty_held name pool dirty = ap (λ (b : Bool). b || is_some (lookup (is_name name) pool.clean)) dirty
 
 -- the plain page in a page's bytes, in the words of both layers
-pub plain_same : (bytes : List ℕ) → length bytes ≡ 16384 → plain_of bytes ≡ plain_in (plain_page bytes)
+pub plain_same : (bytes : List ℕ) → length bytes ≡ 16384 → plain_of bytes ≡ plain_of_page (plain_page bytes)
 unfolding plain_page
 plain_same bytes long = ap (λ (n : ℕ). record { kind = be16_at bytes 24; bytes = range 38 (n - 8 - 38) bytes }) long
 
 pub copied_is : (pool : PoolState) (d : DirtyPage) (bytes : List ℕ) → length bytes ≡ 16384 → held_page (name_of_dirty d) pool ≡ Some (plain_page bytes) → record { page = d.page; lsn = d.lsn; plain = plain_of bytes } ≡ copied_of pool d
 copied_is pool d bytes long held =
     ap (λ (p : Plain). record { page = d.page; lsn = d.lsn; plain = p }) (plain_same bytes long)
-    ∙ ap (λ (o : Option PlainPage). record { page = d.page; lsn = d.lsn; plain = plain_in (used o) }) (sym held)
+    ∙ ap (λ (o : Option PlainPage). record { page = d.page; lsn = d.lsn; plain = plain_of_page (used o) }) (sym held)
 
 pub typed_copy : (pool : PoolState) (d : DirtyPage) (bytes : List ℕ) → AreTyped pool → held_page (name_of_dirty d) pool ≡ Some (plain_page bytes) → HasPageType d.page (be16_at bytes 24)
 unfolding plain_page

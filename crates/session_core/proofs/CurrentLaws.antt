@@ -16,7 +16,7 @@ use Rattle.space_head.specs.declared.space.Home.{Home}
 use Rattle.space_head.specs.declared.space.Home.TheVariants.{Clean}
 use Rattle.space_head.specs.declared.space.SpaceInfo.{SpaceInfo}
 use Rattle.session_core.specs.Dirty.{name_of_page}
-use Rattle.session_core.specs.Putting.{NameWithin, cleaned_all, current_pages, homes_written, is_same_page, lsn_of, need_log, texts_in}
+use Rattle.session_core.specs.Putting.{NameWithin, cleaned_all, current_pages, homes_after_put, is_same_page, lsn_of, need_log, texts_in}
 use Rattle.session_core.specs.SpaceChanges.{with_home}
 use Rattle.session_core.specs.Spaces.{StoreSpaces, space_with_id}
 use Rattle.session_core.proofs.CopyLaws.{plain_same}
@@ -100,12 +100,12 @@ need_later number i lsn ts text lt is lsn_is below =
 -- ---- what is known of homes
 
 pub written_more : (s version : ℕ) (ts : List (List ℕ)) (i page : ℕ) (text : List ℕ) (home : Home) (store new all : StoreSpaces) → i < length ts → text ≡ get_or ts i [] → page ≡ page_number_of text → home ≡ Clean (sealed_version page version)
-    → new ≡ record store { homes = with_home store.spaces store.homes s page home } → homes_written s version (drop i ts) store ≡ all → homes_written s version (drop (i + 1) ts) new ≡ all
+    → new ≡ record store { homes = with_home store.spaces store.homes s page home } → homes_after_put s version (drop i ts) store ≡ all → homes_after_put s version (drop (i + 1) ts) new ≡ all
 written_more s version ts i page text home store new all lt is page_is home_is new_is so =
     let first : drop i ts ≡ text ∷ drop (i + 1) ts = text_first ts i lt ∙ ap (λ (t : List ℕ). t ∷ drop (i + 1) ts) (sym is) in
     let here : new ≡ record store { homes = with_home store.spaces store.homes s (page_number_of text) (Clean (sealed_version (page_number_of text) version)) } =
     new_is ∙ ap (λ (h : Home). record store { homes = with_home store.spaces store.homes s page h }) home_is ∙ ap (λ (p : ℕ). record store { homes = with_home store.spaces store.homes s p (Clean (sealed_version p version)) }) page_is in
-    ap (homes_written s version (drop (i + 1) ts)) here ∙ ap (λ (l : List (List ℕ)). homes_written s version l store) (sym first) ∙ so
+    ap (homes_after_put s version (drop (i + 1) ts)) here ∙ ap (λ (l : List (List ℕ)). homes_after_put s version l store) (sym first) ∙ so
 
 -- the page of a text is one of its space
 pub number_within : (spaces : List SpaceInfo) (s : ℕ) (ts : List (List ℕ)) (i page : ℕ) (text : List ℕ) (now : List SpaceInfo) → ((info : SpaceInfo) × (space_with_id spaces s ≡ Some info) × NameWithin ts info.pages) → now ≡ spaces → i < length ts → text ≡ get_or ts i [] → page ≡ page_number_of text

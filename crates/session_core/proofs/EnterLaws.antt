@@ -40,7 +40,7 @@ use Rattle.store_model.specs.Fold.{used}
 use Rattle.store_model.specs.declared.contents.PlainPage.{PlainPage}
 use Rattle.session_core.specs.Committing.{IsCommitRefusal, NotEntered, first_bad_range, first_missing_page}
 use Rattle.session_core.specs.Dirty.{AreDirtyOf, AreMarked, AreTyped, HasPendingPage, IsInRun, name_of_page}
-use Rattle.session_core.specs.Entering.{AreFromOne, EntersHeld, HasEntryRoom, HoldsAfter, IsEntered, IsNotEntered, OnlyLooksFor, Wants, blocks_of, lsn_behind, receipt_of, with_entry}
+use Rattle.session_core.specs.Entering.{AreFromOne, EntersHeld, HasEntryRoom, HoldsAfter, IsEntered, IsNotEntered, OnlyLooksFor, Wants, mtr_block_count, lsn_behind, receipt_of, with_entry}
 use Rattle.session_core.specs.Files.{HasStoreFiles}
 use Rattle.session_core.specs.Holding.{HoldsNamed}
 use Rattle.session_core.specs.Keys.{HasVersion}
@@ -523,13 +523,13 @@ are_after (c ∷ cs) store from are = are_after cs (spaces_changed c store) from
 
 -- What the type keeps once a mini-transaction is the journal's last entry.
 module _ {D : Type 0} (past : D → Past) (r : Running D) (author : Option Author) (mtr : List Change) (key : RedoKey) where
-  pub session_entered : (store : StoreSpaces) (journal : List Entry) (log : LogState) (pool : PoolState) (lsn : ℕ) → IsSession past r → 0 < length mtr → AreFromOne mtr → AreAllowed mtr → AreOfStore r.store.header.spaces mtr → blocks_of mtr ≤ most_mtr_blocks
-      → store ≡ spaces_after mtr r.store → lsn ≡ lsn_behind r.log mtr → journal ≡ r.journal ++ (record { by = author; lsn = lsn; mtr = mtr }) ∷ [] → log ≡ appended r.log mtr key → IsOpen log → 0 < blocks_of mtr → pending_count log ≡ pending_count r.log + blocks_of mtr
+  pub session_entered : (store : StoreSpaces) (journal : List Entry) (log : LogState) (pool : PoolState) (lsn : ℕ) → IsSession past r → 0 < length mtr → AreFromOne mtr → AreAllowed mtr → AreOfStore r.store.header.spaces mtr → mtr_block_count mtr ≤ most_mtr_blocks
+      → store ≡ spaces_after mtr r.store → lsn ≡ lsn_behind r.log mtr → journal ≡ r.journal ++ (record { by = author; lsn = lsn; mtr = mtr }) ∷ [] → log ≡ appended r.log mtr key → IsOpen log → 0 < mtr_block_count mtr → pending_count log ≡ pending_count r.log + mtr_block_count mtr
       → pool ≡ pool_after (lsn_behind r.log mtr) r.log.next mtr r.pool → HoldsAfter mtr r.pool pool → IsSession past (record r { store = store; journal = journal; log = log; pool = pool })
   session_entered store journal log pool lsn kept long from allowed of_store few is_store lsn_is is_journal is_log open_log some pending is_pool holds =
       let spaces : store.spaces ≡ r.store.spaces = ap (λ (s : StoreSpaces). s.spaces) is_store ∙ spaces_same mtr r.store from in
       let header : store.header ≡ r.store.header = ap (λ (s : StoreSpaces). s.header) is_store ∙ header_same mtr r.store in
-      let more : HasMore r.log log (blocks_of mtr) = record {
+      let more : HasMore r.log log (mtr_block_count mtr) = record {
         blocks = ap (λ (l : LogState). l.blocks) is_log;
         from = ap (λ (l : LogState). l.from) is_log;
         sequence = ap (λ (l : LogState). l.sequence) is_log;
@@ -554,15 +554,15 @@ module _ {D : Type 0} (past : D → Past) (r : Running D) (author : Option Autho
         acked = omega (arith, acked, count);
         settled = subst (λ (l : List Entry). All (λ e. e.lsn ≤ durable log * 4096) (take r.acked l)) (sym is_journal)
             (subst (λ (l : List Entry). All (λ e. e.lsn ≤ durable log * 4096) l) (sym (take_front r.acked r.journal ((record { by = author; lsn = lsn; mtr = mtr }) ∷ []) acked))
-            (subst (λ (k : ℕ). All (λ e. e.lsn ≤ k * 4096) (take r.acked r.journal)) (sym (durable_same r.log log (blocks_of mtr) kept.numbers more)) kept.settled));
+            (subst (λ (k : ℕ). All (λ e. e.lsn ≤ k * 4096) (take r.acked r.journal)) (sym (durable_same r.log log (mtr_block_count mtr) kept.numbers more)) kept.settled));
         dirty = subst (λ (s : StoreSpaces). AreDirtyOf s log pool) (sym is_store)
             (subst (λ (p : PoolState). AreDirtyOf (spaces_after mtr r.store) log p) (sym is_pool)
-            (dirty_after r.store r.log log (blocks_of mtr) (lsn_behind r.log mtr) mtr r.pool kept.numbers more some refl kept.dirty long from kept.spaces of_store allowed holding));
+            (dirty_after r.store r.log log (mtr_block_count mtr) (lsn_behind r.log mtr) mtr r.pool kept.numbers more some refl kept.dirty long from kept.spaces of_store allowed holding));
         files = λ runs. subst (λ (h : HeldHeader). At (HasStoreFiles h.blocks store.spaces) (past r.disk.disk)) (sym header)
             (subst (λ (l : List SpaceInfo). At (HasStoreFiles r.store.header.blocks l) (past r.disk.disk)) (sym spaces) (kept.files runs));
         reads = λ runs. subst (λ (s : StoreSpaces). At (ReadsAsTold s log pool) (past r.disk.disk)) (sym is_store)
             (subst (λ (p : PoolState). At (ReadsAsTold (spaces_after mtr r.store) log p) (past r.disk.disk)) (sym is_pool)
-            (at_each (λ es told. told_after (lsn_behind r.log mtr) r.log.next mtr r.store r.log log (blocks_of mtr) r.pool es from kept.spaces of_store holding more told) (kept.reads runs)));
+            (at_each (λ es told. told_after (lsn_behind r.log mtr) r.log.next mtr r.store r.log log (mtr_block_count mtr) r.pool es from kept.spaces of_store holding more told) (kept.reads runs)));
       }
 
 -- What was entered once its pages were held, and the answer.

@@ -23,7 +23,7 @@ use Rattle.space_head.specs.declared.space.Home.{Home}
 use Rattle.space_head.specs.declared.space.Home.TheVariants.{Unused}
 use Rattle.space_head.specs.declared.space.SpaceInfo.{SpaceInfo}
 use Rattle.store_model.specs.declared.contents.PlainPage.{PlainPage}
-use Rattle.session_core.specs.Holding.{AreAtHand, HoldsNamed, IsAtHand, IsTakeFault, IsTakenFromHome, LooksFor, MeetsPage, NoHead, NotUsed, Taken, Was}
+use Rattle.session_core.specs.Holding.{AreAtHand, HoldsNamed, IsAtHand, IsHomeInUse, IsTakeFault, IsTakenFromHome, LooksForPages, MeetsPage, NoHead, NotUsed, Taken, Was}
 use Rattle.session_core.specs.Reading.{IsHomeRead}
 use Rattle.session_core.specs.Spaces.{StoreSpaces, home_in, space_with_id}
 use Rattle.session_core.specs.declared.fault.EngineFault.{EngineFault}
@@ -166,20 +166,20 @@ module _ (ring : List RingEntry) (store : StoreSpaces) (past : Past) where
   meets_dirty name old new (NotUsed apart some unused is) = ap (λ (s : PoolState). s.dirty) is
   meets_dirty name old new (Taken page apart far taken is) = ap (λ (s : PoolState). s.dirty) is
 
-  pub looks_none : (cs : List Change) (pool : PoolState) → LooksFor ring store past cs pool pool
+  pub looks_none : (cs : List Change) (pool : PoolState) → LooksForPages ring store past cs pool pool
   looks_none cs pool = record { dirty = refl; pages = λ name page is. inl is }
 
   -- one page more is looked for
-  pub looks_meets : (cs : List Change) (name : PageName) (old mid new : PoolState) → name_page cs name ≡ true → LooksFor ring store past cs old mid → MeetsPage ring store past name mid new → LooksFor ring store past cs old new
+  pub looks_meets : (cs : List Change) (name : PageName) (old mid new : PoolState) → name_page cs name ≡ true → LooksForPages ring store past cs old mid → MeetsPage ring store past name mid new → LooksForPages ring store past cs old new
   looks_meets cs name old mid new named looks meets = record {
     dirty = meets_dirty name mid new meets ∙ looks.dirty;
     pages = λ other page is. by other page meets is;
   }
     where
-      was_found : (other : PageName) (page : PlainPage) → new ≡ found_page name mid → held_page other new ≡ Some page → (held_page other old ≡ Some page) ⊎ ((name_page cs other ≡ true) × (is_dirty other old.dirty ≡ false) × IsTakenFromHome ring store past other page)
+      was_found : (other : PageName) (page : PlainPage) → new ≡ found_page name mid → held_page other new ≡ Some page → (held_page other old ≡ Some page) ⊎ ((name_page cs other ≡ true) × (is_dirty other old.dirty ≡ false) × IsTakenFromHome ring store past other page × IsHomeInUse store other)
       was_found other page same is = looks.pages other page (sym (held_found_all name other mid) ∙ ap (λ (s : PoolState). held_page other s) (sym same) ∙ is)
 
-      by : (other : PageName) (page : PlainPage) → MeetsPage ring store past name mid new → held_page other new ≡ Some page → (held_page other old ≡ Some page) ⊎ ((name_page cs other ≡ true) × (is_dirty other old.dirty ≡ false) × IsTakenFromHome ring store past other page)
+      by : (other : PageName) (page : PlainPage) → MeetsPage ring store past name mid new → held_page other new ≡ Some page → (held_page other old ≡ Some page) ⊎ ((name_page cs other ≡ true) × (is_dirty other old.dirty ≡ false) × IsTakenFromHome ring store past other page × IsHomeInUse store other)
       by other page (Was held same) is = was_found other page same is
       by other page (NotUsed apart some unused same) is = was_found other page same is
       by other page (Taken read apart far taken same) is = at (admitted_held name other read page mid (ap (λ (s : PoolState). held_page other s) (sym same) ∙ is))
@@ -187,10 +187,10 @@ module _ (ring : List RingEntry) (store : StoreSpaces) (past : Past) where
           clean : is_dirty name old.dirty ≡ false
           clean = ap (is_dirty name) (sym looks.dirty) ∙ not_dirty (is_dirty name mid.dirty) (is_some (lookup (is_name name) mid.clean)) apart
 
-          at : (held_page other mid ≡ Some page) ⊎ ((name ≡ other) × (read ≡ page)) → (held_page other old ≡ Some page) ⊎ ((name_page cs other ≡ true) × (is_dirty other old.dirty ≡ false) × IsTakenFromHome ring store past other page)
+          at : (held_page other mid ≡ Some page) ⊎ ((name ≡ other) × (read ≡ page)) → (held_page other old ≡ Some page) ⊎ ((name_page cs other ≡ true) × (is_dirty other old.dirty ≡ false) × IsTakenFromHome ring store past other page × IsHomeInUse store other)
           at (inl before) = looks.pages other page before
           at (inr (n, e)) =
-              inr (subst (λ (x : PageName). name_page cs x ≡ true) n named, subst (λ (x : PageName). is_dirty x old.dirty ≡ false) n clean, subst (λ (x : PageName). IsTakenFromHome ring store past x page) n (subst (λ (x : PlainPage). IsTakenFromHome ring store past name x) e taken))
+              inr (subst (λ (x : PageName). name_page cs x ≡ true) n named, subst (λ (x : PageName). is_dirty x old.dirty ≡ false) n clean, subst (λ (x : PageName). IsTakenFromHome ring store past x page) n (subst (λ (x : PlainPage). IsTakenFromHome ring store past name x) e taken), subst (IsHomeInUse store) n (λ some unused. far (inr (some, unused))))
 
   -- the page that is looked for is near
   pub near_met : (b : ℕ) (name : PageName) (old new : PoolState) → MeetsPage ring store past name old new → IsNear store (suc b) name new
@@ -263,14 +263,14 @@ named_at (d ∷ cs) (suc i) c lt is = second_of_two (is_name (page_of_change c) 
 
 module _ (ring : List RingEntry) (store : StoreSpaces) (past : Past) where
   -- a page that was only found changes nothing of what was looked for
-  pub looks_found : (cs : List Change) (name : PageName) (old mid new : PoolState) → new ≡ found_page name mid → LooksFor ring store past cs old mid → LooksFor ring store past cs old new
+  pub looks_found : (cs : List Change) (name : PageName) (old mid new : PoolState) → new ≡ found_page name mid → LooksForPages ring store past cs old mid → LooksForPages ring store past cs old new
   looks_found cs name old mid new same looks = record {
     dirty = ap (λ (s : PoolState). s.dirty) same ∙ looks.dirty;
     pages = λ other page is. looks.pages other page (sym (held_found_all name other mid) ∙ ap (λ (s : PoolState). held_page other s) (sym same) ∙ is);
   }
 
   -- once all are near they are held, or unused
-  pub all_held : (cs : List Change) (i : ℕ) (old new : PoolState) → length cs ≤ i → LooksFor ring store past cs old new → ((name : PageName) → name_page (take i cs) name ≡ true → IsNear store i name new) → HoldsNamed ring store past cs old new
+  pub all_held : (cs : List Change) (i : ℕ) (old new : PoolState) → length cs ≤ i → LooksForPages ring store past cs old new → ((name : PageName) → name_page (take i cs) name ≡ true → IsNear store i name new) → HoldsNamed ring store past cs old new
   all_held cs i old new end looks near = record {
     looks = looks;
     named = λ name named. near_at_hand ring store past i name new (near name (ap (λ (l : List Change). name_page l name) (take_all i cs end) ∙ named));

@@ -17,7 +17,7 @@ use Rattle.store_form.specs.Rest.{head_in_mode}
 use Rattle.store_model.specs.declared.contents.PlainPage.{PlainPage}
 use Rattle.session_core.specs.Dirty.{AreDirtyOf, AreMarked, AreTyped, HasPendingPage, IsInRun, name_of_page}
 use Rattle.session_core.specs.Entering.{AreFromOne}
-use Rattle.session_core.specs.Holding.{IsTakenFromHome, LooksFor}
+use Rattle.session_core.specs.Holding.{IsHomeInUse, IsTakenFromHome, LooksForPages}
 use Rattle.session_core.specs.Spaces.{StoreSpaces}
 use Rattle.session_core.specs.Told.{ReadsAsTold, SaysHead, TellsHead}
 use Rattle.session_core.proofs.HeldPages.{type_of_home}
@@ -31,7 +31,7 @@ named_from (c ∷ cs) name from is = by (is_name name (page_of_change c)) refl i
     by true test at later = subst (λ (n : PageName). n.page ≢ 0) (sym (same_name name (page_of_change c) test)) from.0
     by false test at later = later at
 
-module _ (ring : List RingEntry) (store : StoreSpaces) (past : Past) (cs : List Change) (old new : PoolState) (from : AreFromOne cs) (looks : LooksFor ring store past cs old new) where
+module _ (ring : List RingEntry) (store : StoreSpaces) (past : Past) (cs : List Change) (old new : PoolState) (from : AreFromOne cs) (looks : LooksForPages ring store past cs old new) where
   type_of_taken : (name : PageName) (page : PlainPage) → name.page ≢ 0 → IsTakenFromHome ring store past name page → HasPageType name.page page.kind
   type_of_taken name page some taken =
       subst (λ (x : PlainPage). HasPageType name.page x.kind) (sym taken.gives) (type_of_home taken.info.space name.page taken.info.key_id _ taken.read.bytes taken.left taken.was (λ test. some) taken.read.opened)
@@ -39,9 +39,9 @@ module _ (ring : List RingEntry) (store : StoreSpaces) (past : Past) (cs : List 
   typed_looks : AreTyped old → AreTyped new
   typed_looks typed name page is = by (looks.pages name page is)
     where
-      by : (held_page name old ≡ Some page) ⊎ ((name_page cs name ≡ true) × (is_dirty name old.dirty ≡ false) × IsTakenFromHome ring store past name page) → HasPageType name.page page.kind
+      by : (held_page name old ≡ Some page) ⊎ ((name_page cs name ≡ true) × (is_dirty name old.dirty ≡ false) × IsTakenFromHome ring store past name page × IsHomeInUse store name) → HasPageType name.page page.kind
       by (inl was) = typed name page was
-      by (inr (named, clean, taken)) = type_of_taken name page (named_from cs name from named) taken
+      by (inr (named, clean, taken, in_use)) = type_of_taken name page (named_from cs name from named) taken
 
   -- the dirty pages are as they were
   pub dirty_looks : (log : LogState) → AreDirtyOf store log old → AreDirtyOf store log new
@@ -60,10 +60,10 @@ module _ (ring : List RingEntry) (store : StoreSpaces) (past : Past) (cs : List 
   }
     where
       by : (page : PlainPage)
-          → (held_page (name_of_page info.space 0) old ≡ Some page) ⊎ ((name_page cs (name_of_page info.space 0) ≡ true) × (is_dirty (name_of_page info.space 0) old.dirty ≡ false) × IsTakenFromHome ring store past (name_of_page info.space 0) page)
+          → (held_page (name_of_page info.space 0) old ≡ Some page) ⊎ ((name_page cs (name_of_page info.space 0) ≡ true) × (is_dirty (name_of_page info.space 0) old.dirty ≡ false) × IsTakenFromHome ring store past (name_of_page info.space 0) page × IsHomeInUse store (name_of_page info.space 0))
           → SaysHead page (head_in_mode head.mode info)
       by page (inl was) = head.held page was
-      by page (inr (named, clean, taken)) = absurd (named_from cs (name_of_page info.space 0) from named refl)
+      by page (inr (named, clean, taken, in_use)) = absurd (named_from cs (name_of_page info.space 0) from named refl)
 
   -- and what the disk reads as is told of the session as before
   pub told_looks : (log : LogState) (es : List Event) → ReadsAsTold store log old es → ReadsAsTold store log new es

@@ -20,7 +20,7 @@ use Rattle.space_head.specs.declared.space.SpaceInfo.{SpaceInfo}
 use Rattle.store_files.specs.Header.{HeldSpace}
 use Rattle.store_model.specs.Fold.{used}
 use Rattle.session_core.specs.Dirty.{AreMarked, HasPendingPage, name_of_page}
-use Rattle.session_core.specs.Putting.{AreOfDirty, NameWithin, cleaned_all, homes_written, lsn_of, name_number, need_log}
+use Rattle.session_core.specs.Putting.{AreOfDirty, NameWithin, cleaned_all, homes_after_put, lsn_of, name_number, need_log}
 use Rattle.session_core.specs.SpaceChanges.{with_home}
 use Rattle.session_core.specs.Spaces.{HaveLists, StoreSpaces, home_in, space_with_id}
 use Rattle.session_core.proofs.CleanedLaws.{other_dirty, other_dirty_at, place_below}
@@ -80,7 +80,7 @@ of_dirty_left s p lsn (t ∷ ts) ds at none (here, once, rest) =
     (other_dirty_at (name_of_page s p) (name_of_page s (page_number_of t)) (lsn_of t) ds apart (place_below (name_of_page s p) lsn ds at) ∙ here, once, of_dirty_left s p lsn ts ds at each.1 rest)
 
 pub marked_all : (hs : List HeldSpace) (s v : ℕ) (info : SpaceInfo) (ts : List (List ℕ)) (store : StoreSpaces) (pool : PoolState) → HaveLists hs store.spaces store.homes → space_with_id store.spaces s ≡ Some info → NameWithin ts info.pages → AreNamedOnce pool.dirty.entries
-    → AreOfDirty s ts pool.dirty.entries → AreMarked store pool.dirty → AreMarked (homes_written s v ts store) (cleaned_all s ts pool).dirty
+    → AreOfDirty s ts pool.dirty.entries → AreMarked store pool.dirty → AreMarked (homes_after_put s v ts store) (cleaned_all s ts pool).dirty
 marked_all hs s v info [] store pool have is within once all marks = marks
 marked_all hs s v info (t ∷ ts) store pool have is within once (here, apart, rest) marks =
     let p : ℕ = page_number_of t in
@@ -89,7 +89,7 @@ marked_all hs s v info (t ∷ ts) store pool have is within once (here, apart, r
     let after : PoolState = record { dirty = without place pool.dirty; clean = admitted name (used (held_page name pool)) pool.clean } in
     let noted : StoreSpaces = record store { homes = with_home store.spaces store.homes s p (Clean (sealed_version p v)) } in
     let cleaned_is : cleaned name (lsn_of t) pool ≡ after = ap (λ (b : Bool). if b then after else pool) here in
-    subst (λ (q : PoolState). AreMarked (homes_written s v ts noted) (cleaned_all s ts q).dirty) (sym cleaned_is)
+    subst (λ (q : PoolState). AreMarked (homes_after_put s v ts noted) (cleaned_all s ts q).dirty) (sym cleaned_is)
     (marked_all hs s v info ts noted after (have_home hs store.spaces store.homes s p (Clean (sealed_version p v)) have) is (λ i lt. within (suc i) (omega (arith, lt))) (once_removed pool.dirty.entries place once)
     (of_dirty_left s p (lsn_of t) ts pool.dirty.entries here apart rest) (marked_one hs s p (sealed_version p v) (lsn_of t) info store pool.dirty have is (within 0 (omega arith)) once here marks))
 

@@ -12,7 +12,7 @@ use Rattle.store_form.specs.Plan.{IsKeyIdOf}
 use Rattle.session_core.specs.Keys.{HasVersion, planned, space_key}
 use Rattle.session_core.specs.Session.{Running}
 use Rattle.session_core.specs.Spaces.{space_with_id}
-use Rattle.session_core.specs.Taking.{IsTakeRefusal, Refused, key_of, version_of}
+use Rattle.session_core.specs.Taking.{IsTakeRefusal, Refused, key_of, sealing_version}
 use Rattle.session_core.specs.declared.fault.EngineFault.{EngineFault}
 use Rattle.session_core.specs.declared.fault.EngineFault.TheVariants.{OutOfMemory}
 
@@ -35,7 +35,7 @@ some_key ring algorithm spaces s active info keyed is =
 
 -- the key of the version that new texts of a space of the store are sealed under
 pub key_there : (ring : List RingEntry) (algorithm : Algorithm) (spaces : List SpaceInfo) (s active : ℕ) (info : SpaceInfo) → HasVersion ring active spaces → 1 ≤ active → space_with_id spaces s ≡ Some info
-    → IsSome (key_of ring algorithm info (version_of info active)) ↔ (version_of info active ≢ 0)
+    → IsSome (key_of ring algorithm info (sealing_version info active)) ↔ (sealing_version info active ≢ 0)
 key_there ring algorithm spaces s active info keyed some is = by info.ciphered
   where
     by : (b : Bool) → IsSome (key_of ring algorithm info (if b then active else 0)) ↔ ((if b then active else 0) ≢ 0)
@@ -44,7 +44,7 @@ key_there ring algorithm spaces s active info keyed some is = by info.ciphered
 
 -- and where it is taken for a session, by the values of the code
 pub keyed_batch : (ring : List RingEntry) (algorithm : Algorithm) (spaces : List SpaceInfo) (s active : ℕ) (info : SpaceInfo) (version : ℕ) (key : Option PageKey) → HasVersion ring active spaces → 1 ≤ active → space_with_id spaces s ≡ Some info
-    → version ≡ version_of info active → key ≡ key_of ring algorithm info version → IsSome key ↔ (version ≢ 0)
+    → version ≡ sealing_version info active → key ≡ key_of ring algorithm info version → IsSome key ↔ (version ≢ 0)
 keyed_batch ring algorithm spaces s active info version key keyed some is version_is key_is =
     subst (λ (k : Option PageKey). IsSome k ↔ (version ≢ 0)) (sym key_is)
     (subst (λ (v : ℕ). IsSome (key_of ring algorithm info v) ↔ (v ≢ 0)) (sym version_is) (key_there ring algorithm spaces s active info keyed some is))

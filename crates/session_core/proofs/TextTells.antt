@@ -17,7 +17,7 @@ use Rattle.space_head.specs.declared.space.Home.TheVariants.{Clean, Unused}
 use Rattle.store_form.specs.Rest.{home_told}
 use Rattle.store_form.proofs.RestPages.{text_not_zero}
 use Rattle.session_core.specs.Dirty.{name_of_page}
-use Rattle.session_core.specs.Putting.{IsDueText, current_pages, is_current, lsn_of, texts_in}
+use Rattle.session_core.specs.Putting.{IsDirtyText, current_pages, is_current, lsn_of, texts_in}
 
 module _ (space page lsn version : ℕ) (key : Option PageKey) (plain : Plain) (bytes : List ℕ) (long : 8 < length bytes) (number_fits : page < 2 ^ 32) (t : IsText 16384 space page lsn version key plain bytes) where
   version_told : be32_at bytes 0 ≡ version
@@ -37,7 +37,7 @@ and_first true b is = refl
 and_first false b is = is
 
 -- the text of a page that is as it was copied
-pub due_text : (pool : PoolState) (s version : ℕ) (key : Option PageKey) (p : TextOfPage) → 8 < length p.text → p.copied.page < 2 ^ 32 → is_current pool s p.copied ≡ true → IsTextOfPage s version key p → IsDueText pool s version p.text
+pub due_text : (pool : PoolState) (s version : ℕ) (key : Option PageKey) (p : TextOfPage) → 8 < length p.text → p.copied.page < 2 ^ 32 → is_current pool s p.copied ≡ true → IsTextOfPage s version key p → IsDirtyText pool s version p.text
 due_text pool s version key p long fits current is =
     let number : page_number_of p.text ≡ p.copied.page = number_told s p.copied.page p.copied.lsn (sealed_version p.copied.page version) (sealed_key p.copied.page key) p.copied.plain p.text long fits is in
     let lsn : lsn_of p.text ≡ p.copied.lsn = lsn_told s p.copied.page p.copied.lsn (sealed_version p.copied.page version) (sealed_key p.copied.page key) p.copied.plain p.text long fits is in
@@ -48,20 +48,20 @@ due_text pool s version key p long fits current is =
     }
 
 -- one text more, where it is kept
-pub due_more : (pool : PoolState) (s version : ℕ) (key : Option PageKey) (p : TextOfPage) (texts : List (List ℕ)) → 8 < length p.text → p.copied.page < 2 ^ 32 → IsTextOfPage s version key p → All (IsDueText pool s version) texts → All (IsDueText pool s version) (texts ++ texts_in (current_pages pool s (p ∷ [])))
+pub due_more : (pool : PoolState) (s version : ℕ) (key : Option PageKey) (p : TextOfPage) (texts : List (List ℕ)) → 8 < length p.text → p.copied.page < 2 ^ 32 → IsTextOfPage s version key p → All (IsDirtyText pool s version) texts → All (IsDirtyText pool s version) (texts ++ texts_in (current_pages pool s (p ∷ [])))
 due_more pool s version key p texts long fits is all = by (is_current pool s p.copied) refl
   where
-    by : (b : Bool) → is_current pool s p.copied ≡ b → All (IsDueText pool s version) (texts ++ texts_in (if b then p ∷ [] else []))
-    by true current = All-append (IsDueText pool s version) texts (p.text ∷ []) all (All-cons (IsDueText pool s version) p.text [] (due_text pool s version key p long fits current is) (All-nil (IsDueText pool s version)))
-    by false other = subst (λ (l : List (List ℕ)). All (IsDueText pool s version) l) (sym (append-nil texts)) all
+    by : (b : Bool) → is_current pool s p.copied ≡ b → All (IsDirtyText pool s version) (texts ++ texts_in (if b then p ∷ [] else []))
+    by true current = All-append (IsDirtyText pool s version) texts (p.text ∷ []) all (All-cons (IsDirtyText pool s version) p.text [] (due_text pool s version key p long fits current is) (All-nil (IsDirtyText pool s version)))
+    by false other = subst (λ (l : List (List ℕ)). All (IsDirtyText pool s version) l) (sym (append-nil texts)) all
 
 -- where its text was added
 pub due_one : (pool : PoolState) (s version : ℕ) (key : Option PageKey) (p : TextOfPage) (texts more : List (List ℕ)) (text : List ℕ) → 8 < length text → p.copied.page < 2 ^ 32 → text ≡ p.text → true ≡ is_current pool s p.copied → more ≡ texts ++ text ∷ [] → IsTextOfPage s version key p
-    → All (IsDueText pool s version) texts → All (IsDueText pool s version) more
+    → All (IsDirtyText pool s version) texts → All (IsDirtyText pool s version) more
 due_one pool s version key p texts more text long fits is current more_is of_page all =
     let own : 8 < length p.text = subst (λ (t : List ℕ). 8 < length t) is long in
-    let due : IsDueText pool s version text = subst (IsDueText pool s version) (sym is) (due_text pool s version key p own fits (sym current) of_page) in
-    subst (λ (l : List (List ℕ)). All (IsDueText pool s version) l) (sym more_is) (All-append (IsDueText pool s version) texts (text ∷ []) all (All-cons (IsDueText pool s version) text [] due (All-nil (IsDueText pool s version))))
+    let due : IsDirtyText pool s version text = subst (IsDirtyText pool s version) (sym is) (due_text pool s version key p own fits (sym current) of_page) in
+    subst (λ (l : List (List ℕ)). All (IsDirtyText pool s version) l) (sym more_is) (All-append (IsDirtyText pool s version) texts (text ∷ []) all (All-cons (IsDirtyText pool s version) text [] due (All-nil (IsDirtyText pool s version))))
 
 -- it is one text at most
 pub one_text : (pool : PoolState) (s : ℕ) (p : TextOfPage) → length (texts_in (current_pages pool s (p ∷ []))) ≤ 1

@@ -18,7 +18,7 @@ use Rattle.redo_text.specs.declared.key.RedoKey.{RedoKey}
 use Rattle.redo_text.specs.declared.key.TheConstants.{LAST_BLOCK}
 use Rattle.ring_log.specs.Ring.{RingReady, RingState}
 use Rattle.store_image.specs.View.{block_bytes, most_mtr_blocks}
-use Rattle.session_core.specs.Holding.{HoldsNamed, IsHoldRefusal, LooksFor}
+use Rattle.session_core.specs.Holding.{HoldsNamed, IsHoldRefusal, LooksForPages}
 use Rattle.session_core.specs.Keys.{log_key}
 use Rattle.session_core.specs.Session.{Running}
 use Rattle.session_core.specs.SpaceChanges.{spaces_after}
@@ -38,28 +38,28 @@ abbrev pub HoldsAfter : List Change → PoolState → PoolState → Type 0
 HoldsAfter cs old new = (name : PageName) → held_page name new ≡ held_after cs name (held_page name old)
 
 -- how many blocks a mini-transaction has
-abbrev pub blocks_of : List Change → ℕ
-blocks_of mtr = block_count (text_of mtr)
+abbrev pub mtr_block_count : List Change → ℕ
+mtr_block_count mtr = block_count (text_of mtr)
 
 -- There is room: its blocks are few, have numbers and are free, and so many pages may be dirty.
 pub record HasEntryRoom (log : LogState) (pool : PoolState) (mtr : List Change) : Type 0 where
-  pub few : blocks_of mtr ≤ most_mtr_blocks
-  pub numbers : log.next + blocks_of mtr ≤ LAST_BLOCK
+  pub few : mtr_block_count mtr ≤ most_mtr_blocks
+  pub numbers : log.next + mtr_block_count mtr ≤ LAST_BLOCK
   pub pages : length pool.dirty.entries + fresh_pages mtr pool.dirty ≤ 256
-  pub blocks : blocks_of mtr ≤ free_of log
+  pub blocks : mtr_block_count mtr ≤ free_of log
 
 -- Or there is none, for the first of these reasons.
 pub data HasNoEntryRoom (log : LogState) (pool : PoolState) (mtr : List Change) : EngineFault → Type 0 where
-  Long : most_mtr_blocks < blocks_of mtr → HasNoEntryRoom log pool mtr (TooLong (blocks_of mtr))
-  NoNumbers : blocks_of mtr ≤ most_mtr_blocks → LAST_BLOCK < log.next + blocks_of mtr → HasNoEntryRoom log pool mtr (Spent log.next)
-  NoPages : blocks_of mtr ≤ most_mtr_blocks → log.next + blocks_of mtr ≤ LAST_BLOCK → 256 < length pool.dirty.entries + fresh_pages mtr pool.dirty
+  Long : most_mtr_blocks < mtr_block_count mtr → HasNoEntryRoom log pool mtr (TooLong (mtr_block_count mtr))
+  NoNumbers : mtr_block_count mtr ≤ most_mtr_blocks → LAST_BLOCK < log.next + mtr_block_count mtr → HasNoEntryRoom log pool mtr (Spent log.next)
+  NoPages : mtr_block_count mtr ≤ most_mtr_blocks → log.next + mtr_block_count mtr ≤ LAST_BLOCK → 256 < length pool.dirty.entries + fresh_pages mtr pool.dirty
       → HasNoEntryRoom log pool mtr (PoolFull (length pool.dirty.entries) (fresh_pages mtr pool.dirty))
-  NoBlocks : blocks_of mtr ≤ most_mtr_blocks → log.next + blocks_of mtr ≤ LAST_BLOCK → length pool.dirty.entries + fresh_pages mtr pool.dirty ≤ 256 → free_of log < blocks_of mtr
-      → HasNoEntryRoom log pool mtr (LogFull (blocks_of mtr) (free_of log))
+  NoBlocks : mtr_block_count mtr ≤ most_mtr_blocks → log.next + mtr_block_count mtr ≤ LAST_BLOCK → length pool.dirty.entries + fresh_pages mtr pool.dirty ≤ 256 → free_of log < mtr_block_count mtr
+      → HasNoEntryRoom log pool mtr (LogFull (mtr_block_count mtr) (free_of log))
 
 -- the LSN of a mini-transaction behind this log: 4096 times the number of the block behind its last one
 abbrev pub lsn_behind : LogState → List Change → ℕ
-lsn_behind log mtr = (log.next + blocks_of mtr) * block_bytes
+lsn_behind log mtr = (log.next + mtr_block_count mtr) * block_bytes
 
 -- Its blocks are pending: the log is the one with them more, and a ring, a journal or a record of writes that the old one fitted fits it so.
 pub record IsAppended (old new : LogState) (mtr : List Change) (key : RedoKey) : Type 0 where
@@ -71,15 +71,15 @@ pub record IsAppended (old new : LogState) (mtr : List Change) (key : RedoKey) :
   pub recorded : (es : List Event) → BlocksOnce old es → BlocksOnce new es
 
 -- the entry that it becomes
-abbrev pub entry_of : LogState → Option Author → List Change → Entry
-entry_of log by mtr = record { by = by; lsn = lsn_behind log mtr; mtr = mtr }
+abbrev pub entry_behind : LogState → Option Author → List Change → Entry
+entry_behind log by mtr = record { by = by; lsn = lsn_behind log mtr; mtr = mtr }
 
 -- the session with the entry, under this key of the log, where the pool held its pages so
 abbrev pub with_entry : {D : Type 0} → Running D → Option Author → List Change → RedoKey → PoolState → Counted D → Running D
 with_entry r by mtr key pool disk = record r {
   disk = disk;
   store = spaces_after mtr r.store;
-  journal = r.journal ++ entry_of r.log by mtr ∷ [];
+  journal = r.journal ++ entry_behind r.log by mtr ∷ [];
   log = appended r.log mtr key;
   pool = pool_after (lsn_behind r.log mtr) r.log.next mtr pool;
 }
@@ -109,7 +109,7 @@ receipt_of r mtr = record { place = length r.journal + 1; lsn = lsn_behind r.log
 -- but for its disk, which was only read, and the clean pages, the session is as it was
 pub record OnlyLooksFor {D : Type 0} (past : D → Past) (mtr : List Change) (old new : Running D) : Type 0 where
   pub same : new ≡ record old { disk = new.disk; pool = new.pool }
-  pub looks : LooksFor old.ring old.store (past old.disk.disk) mtr old.pool new.pool
+  pub looks : LooksForPages old.ring old.store (past old.disk.disk) mtr old.pool new.pool
   pub past_is : past new.disk.disk ≡ past old.disk.disk
 
 -- Why it isn't entered, in this order: there is no room, and nothing is changed; one of its pages isn't held; or the machine has no memory.

@@ -23,6 +23,10 @@ use Rattle.session_core.specs.declared.fault.EngineFault.TheVariants.{Damaged, O
 abbrev pub IsAtHand : StoreSpaces → PageName → PoolState → Type 0
 IsAtHand store name pool = (is_held name pool ≡ true) ⊎ ((name.page ≢ 0) × (home_in store name.space name.page ≡ Unused))
 
+-- the home of a page isn't known as unused, unless it is page 0
+abbrev pub IsHomeInUse : StoreSpaces → PageName → Type 0
+IsHomeInUse store name = name.page ≢ 0 → home_in store name.space name.page ≡ Unused → ⊥
+
 -- all pages that changes name are
 abbrev pub AreAtHand : StoreSpaces → List Change → PoolState → Type 0
 AreAtHand store cs pool = (name : PageName) → name_page cs name ≡ true → IsAtHand store name pool
@@ -38,15 +42,15 @@ module _ (ring : List RingEntry) (store : StoreSpaces) (past : Past) where
     pub gives : page ≡ plain_page left
     pub head : name.page ≡ 0 → page.kind ≡ 8
 
-  -- What is held once pages were looked for. The dirty pages are the same, and a page that wasn't held before is one of those that changes name, as its home gives it.
-  pub record LooksFor (cs : List Change) (old new : PoolState) : Type 0 where
+  -- What is held once pages were looked for. The dirty pages are the same, and a page that wasn't held before is one of those that changes name, as its home, which is in use, gives it.
+  pub record LooksForPages (cs : List Change) (old new : PoolState) : Type 0 where
     pub dirty : new.dirty ≡ old.dirty
     pub pages : (name : PageName) (page : PlainPage) → held_page name new ≡ Some page
-        → (held_page name old ≡ Some page) ⊎ ((name_page cs name ≡ true) × (is_dirty name old.dirty ≡ false) × IsTakenFromHome name page)
+        → (held_page name old ≡ Some page) ⊎ ((name_page cs name ≡ true) × (is_dirty name old.dirty ≡ false) × IsTakenFromHome name page × IsHomeInUse store name)
 
   -- What is held once all were looked for.
   pub record HoldsNamed (cs : List Change) (old new : PoolState) : Type 0 where
-    pub looks : LooksFor cs old new
+    pub looks : LooksForPages cs old new
     pub named : AreAtHand store cs new
 
   -- What looking for a page leaves: it is held and was used last, or it is unused, or it was taken from its home and is held from then on.
@@ -72,5 +76,5 @@ module _ (ring : List RingEntry) (store : StoreSpaces) (past : Past) where
     pub name : PageName
     pub pool : PoolState
     pub named : name_page cs name ≡ true
-    pub looks : LooksFor cs old pool
+    pub looks : LooksForPages cs old pool
     pub fault : IsHoldFault name disk pool e

@@ -43,7 +43,7 @@ abbrev pub lsn_of : List ℕ → ℕ
 lsn_of text = be64_at text page_lsn_at
 
 -- the page of a text is dirty at its LSN, and a home that reads as the text is clean: under this version, or in clear for page 0
-pub record IsDueText (pool : PoolState) (s version : ℕ) (text : List ℕ) : Type 0 where
+pub record IsDirtyText (pool : PoolState) (s version : ℕ) (text : List ℕ) : Type 0 where
   pub dirty : is_dirty_at (name_of_page s (page_number_of text)) (lsn_of text) pool.dirty.entries ≡ true
   pub home : home_told text ≡ Clean (sealed_version (page_number_of text) version)
 
@@ -70,9 +70,9 @@ AreOfDirty s [] ds = Unit {0}
 AreOfDirty s (t ∷ ts) ds = (is_dirty_at (name_of_page s (page_number_of t)) (lsn_of t) ds ≡ true) × (name_number (page_number_of t) ts ≡ false) × AreOfDirty s ts ds
 
 -- and what is known of homes: each of these pages is clean there, page 0 in clear and each other one under this version
-abbrev pub homes_written : ℕ → ℕ → List (List ℕ) → StoreSpaces → StoreSpaces
-homes_written s version [] store = store
-homes_written s version (t ∷ ts) store = homes_written s version ts (record store { homes = with_home store.spaces store.homes s (page_number_of t) (Clean (sealed_version (page_number_of t) version)) })
+abbrev pub homes_after_put : ℕ → ℕ → List (List ℕ) → StoreSpaces → StoreSpaces
+homes_after_put s version [] store = store
+homes_after_put s version (t ∷ ts) store = homes_after_put s version ts (record store { homes = with_home store.spaces store.homes s (page_number_of t) (Clean (sealed_version (page_number_of t) version)) })
 
 -- the pages of the texts are pages of a space of so many
 abbrev pub NameWithin : List (List ℕ) → ℕ → Type 0

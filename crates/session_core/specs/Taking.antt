@@ -17,8 +17,8 @@ use Rattle.session_core.specs.declared.fault.EngineFault.{EngineFault}
 use Rattle.session_core.specs.declared.fault.EngineFault.TheVariants.{OutOfMemory}
 
 -- a page of a pool as it is sealed
-abbrev pub plain_in : PlainPage → Plain
-plain_in page = record { kind = page.kind; bytes = page.body }
+abbrev pub plain_of_page : PlainPage → Plain
+plain_of_page page = record { kind = page.kind; bytes = page.body }
 
 -- the dirty pages of a space, in their order
 abbrev pub dirty_of : ℕ → List DirtyPage → List DirtyPage
@@ -27,15 +27,15 @@ dirty_of s (d ∷ ds) = if nat_eq d.space s then d ∷ dirty_of s ds else dirty_
 
 -- a copy of one of them: its number, the LSN of its last change, and what the pool holds of it
 abbrev pub copied_of : PoolState → DirtyPage → CopiedPage
-copied_of pool d = record { page = d.page; lsn = d.lsn; plain = plain_in (used (held_page (name_of_dirty d) pool)) }
+copied_of pool d = record { page = d.page; lsn = d.lsn; plain = plain_of_page (used (held_page (name_of_dirty d) pool)) }
 
 -- a batch with a copy of this page more, where it is one of its space and there is room
 abbrev pub with_copy : PoolState → DirtyPage → BatchState → BatchState
 with_copy pool d b = if nat_eq d.space b.space && nat_lt (length b.pages) b.room then record b { pages = b.pages ++ copied_of pool d ∷ [] } else b
 
 -- the version that new texts of a space are sealed under: 0 where it isn't ciphered
-abbrev pub version_of : SpaceInfo → ℕ → ℕ
-version_of info active = if info.ciphered then active else 0
+abbrev pub sealing_version : SpaceInfo → ℕ → ℕ
+sealing_version info active = if info.ciphered then active else 0
 
 -- and the key: none at version 0
 abbrev pub key_of : List RingEntry → Algorithm → SpaceInfo → ℕ → Option PageKey
@@ -45,8 +45,8 @@ key_of ring algorithm info version = if nat_eq version 0 then None else space_ke
 abbrev pub taken_batch : {D : Type 0} → Running D → SpaceInfo → ℕ → BatchState
 taken_batch r info n = record {
   space = info.space;
-  version = version_of info r.active;
-  key = key_of r.ring r.store.header.algorithm info (version_of info r.active);
+  version = sealing_version info r.active;
+  key = key_of r.ring r.store.header.algorithm info (sealing_version info r.active);
   pages = map (copied_of r.pool) (take n (dirty_of info.space r.pool.dirty.entries));
   room = n;
 }

@@ -6,7 +6,7 @@ ghost use Rattle.page_pool.specs.declared.names.PageName.{PageName};
 ghost use Rattle.redo_log.specs.Log.{durable};
 ghost use Rattle.redo_log.specs.State.{LogState};
 ghost use Rattle.session_core.specs.Dirty.{AreMarked, AreTyped, HasPendingPage, IsInRun};
-ghost use Rattle.session_core.specs.Putting.{AreOfDirty, NameWithin, cleaned_all, homes_written, lsn_of, need_log};
+ghost use Rattle.session_core.specs.Putting.{AreOfDirty, NameWithin, cleaned_all, homes_after_put, lsn_of, need_log};
 ghost use Rattle.session_core.specs.Spaces.{space_with_id};
 ghost use Rattle.space_head.specs.declared.space.Home.TheVariants.{Clean};
 ghost use Rattle.space_head.specs.declared.space.SpaceInfo.{SpaceInfo};
@@ -71,7 +71,7 @@ fn written_home(page: u32, version: u32) -> Home
 /// Notes of the page of each text that its home is clean, under this version.
 pub(crate) fn set_homes(store: &mut Tablespaces, space: u32, version: u32, texts: &PageTexts)
     requires { (info : SpaceInfo) × (space_with_id store.old.spaces space ≡ Some info) × NameWithin texts.now info.pages }
-    ensures { store.new ≡ homes_written space version texts.now store.old }
+    ensures { store.new ≡ homes_after_put space version texts.now store.old }
 {
     for i in 0..texts.len() {
         let page = texts.get(i).number();
@@ -92,7 +92,7 @@ pub(crate) fn note_written(
     requires dirty { AreOfDirty space texts.now pool.old.dirty.entries }
     requires marks { AreMarked store.old pool.old.dirty }
     ensures cleaned { pool.new ≡ cleaned_all space texts.now pool.old }
-    ensures homes { store.new ≡ homes_written space version texts.now store.old }
+    ensures homes { store.new ≡ homes_after_put space version texts.now store.old }
     ensures marks { AreMarked store.new pool.new.dirty }
     ensures typed { AreTyped pool.old → AreTyped pool.new }
     ensures held { (name : PageName) → (page : PlainPage) → held_page name pool.new ≡ Some page → held_page name pool.old ≡ Some page }

@@ -7,7 +7,7 @@ ghost use Rattle.redo_log.specs.Log.{IsOpen, pending_count};
 ghost use Rattle.page_pool.specs.declared.names.PageName.{PageName};
 ghost use Rattle.redo_text.specs.Text.{AreAllowed};
 ghost use Rattle.session_core.specs.Committing.{AreOfPages, AreSized, IsCommitRefusal, IsSized, IsUnfit, first_bad_range, first_missing_page};
-ghost use Rattle.session_core.specs.Entering.{AreFromOne, EntersHeld, HasEntryRoom, HasNoEntryRoom, HoldsAfter, IsAppended, IsEntered, IsNotEntered, OnlyLooksFor, blocks_of, lsn_behind, receipt_of};
+ghost use Rattle.session_core.specs.Entering.{AreFromOne, EntersHeld, HasEntryRoom, HasNoEntryRoom, HoldsAfter, IsAppended, IsEntered, IsNotEntered, OnlyLooksFor, mtr_block_count, lsn_behind, receipt_of};
 ghost use Rattle.session_core.specs.Files.{calls_of};
 ghost use Rattle.session_core.specs.Holding.{AreAtHand, HoldsNamed, IsHoldRefusal};
 ghost use Rattle.session_core.specs.Keys.{log_key};
@@ -74,8 +74,8 @@ fn append_and_change(
     ensures appended { OnOk result (IsAppended log.old log.new mtr.now key.now) }
     ensures changed { OnOk result (pool.new ≡ pool_after (lsn_behind log.old mtr.now) log.old.next mtr.now pool.old) }
     ensures holds { OnOk result (HoldsAfter mtr.now pool.old pool.new) }
-    ensures some { OnOk result (0 < blocks_of mtr.now) }
-    ensures pending { OnOk result (pending_count log.new ≡ pending_count log.old + blocks_of mtr.now) }
+    ensures some { OnOk result (0 < mtr_block_count mtr.now) }
+    ensures pending { OnOk result (pending_count log.new ≡ pending_count log.old + mtr_block_count mtr.now) }
     ensures open { IsOpen log.new }
     ensures log { OnErr result (log.new ≡ log.old) }
     ensures pool { OnErr result (pool.new ≡ pool.old) }

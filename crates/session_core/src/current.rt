@@ -8,7 +8,7 @@ ghost use Rattle.page_pool.specs.Changes.{is_dirty_at};
 ghost use Rattle.page_pool.specs.Pages.{plain_page};
 ghost use Rattle.page_text.specs.Text.{plain_of};
 ghost use Rattle.page_text.specs.declared.key.PageKey.{PageKey};
-ghost use Rattle.session_core.specs.Putting.{IsDueText, current_pages, is_current, is_same_page, texts_in};
+ghost use Rattle.session_core.specs.Putting.{IsDirtyText, current_pages, is_current, is_same_page, texts_in};
 
 use crate::fetching::copy_held;
 use byte_list::fields::be16_at;
@@ -89,7 +89,7 @@ fn keep_text(pool: &mut Pool, space: u32, sealed: SealedPage, texts: &mut Vec<Pa
     requires { length texts.old.items < vec_capacity texts.old }
     ensures texts { texts.new.items ≡ texts.old.items ++ texts_in (current_pages pool.old space (sealed ∷ [])) }
     ensures room { vec_capacity texts.old ≤ vec_capacity texts.new }
-    ensures due { (version : ℕ) → (key : Option PageKey) → IsTextOfPage space version key sealed → All (IsDueText pool.old space version) texts.old.items → All (IsDueText pool.old space version) texts.new.items }
+    ensures due { (version : ℕ) → (key : Option PageKey) → IsTextOfPage space version key sealed → All (IsDirtyText pool.old space version) texts.old.items → All (IsDirtyText pool.old space version) texts.new.items }
     ensures pool { pool.new ≡ pool.old }
 {
     let _number = sealed.page();
@@ -109,7 +109,7 @@ pub(crate) fn current_texts(pool: &mut Pool, space: u32, parts: BatchParts) -> P
     requires room { length parts.pages.items ≤ vec_capacity parts.texts }
     ensures texts { result ≡ texts_in (current_pages pool.old space parts.pages.items) }
     // Each is due: its page is dirty at its LSN, and its home is clean once it reads as the text.
-    ensures due { (version : ℕ) → (key : Option PageKey) → All (IsTextOfPage space version key) parts.pages.items → All (IsDueText pool.old space version) result }
+    ensures due { (version : ℕ) → (key : Option PageKey) → All (IsTextOfPage space version key) parts.pages.items → All (IsDirtyText pool.old space version) result }
     ensures pool { pool.new ≡ pool.old }
 {
     let BatchParts { pages, mut texts } = parts;

@@ -11,7 +11,7 @@ ghost use Rattle.page_text.specs.declared.fault.OpenFault.TheVariants.{WrongKind
 ghost use Rattle.space_head.specs.declared.space.Home.TheVariants.{Unused};
 ghost use Rattle.space_head.specs.declared.space.SpaceInfo.{SpaceInfo};
 ghost use Rattle.session_core.specs.Files.{HasStoreFiles, calls_of};
-ghost use Rattle.session_core.specs.Holding.{AreAtHand, HoldsNamed, IsAtHand, IsHoldFault, IsHoldRefusal, IsTakeFault, IsTakenFromHome, LooksFor, MeetsPage};
+ghost use Rattle.session_core.specs.Holding.{AreAtHand, HoldsNamed, IsAtHand, IsHoldFault, IsHoldRefusal, IsTakeFault, IsTakenFromHome, LooksForPages, MeetsPage};
 ghost use Rattle.session_core.specs.Spaces.{home_in, space_with_id};
 ghost use Rattle.session_core.specs.declared.fault.EngineFault.TheVariants.{Damaged};
 
@@ -145,7 +145,7 @@ fn hold_each<D: Disk + Drop>(
     requires files { At (HasStoreFiles store.now.header.blocks store.now.spaces) (D.past disk.old.disk) }
     ensures held { OnOk result (HoldsNamed keys.old store.now (D.past disk.old.disk) changes.now pool.old pool.new) }
     ensures refused { IfErr result (IsHoldRefusal keys.old store.now (D.past disk.old.disk) changes.now disk.new pool.old) }
-    ensures looks { LooksFor keys.old store.now (D.past disk.old.disk) changes.now pool.old pool.new }
+    ensures looks { LooksForPages keys.old store.now (D.past disk.old.disk) changes.now pool.old pool.new }
     ensures still { AreAtHand store.now changes.now pool.old → disk.new ≡ disk.old }
     ensures up { OnOk result (disk.new.stop ≡ None) }
     ensures keys { keys.new ≡ keys.old }
@@ -175,7 +175,7 @@ pub(crate) fn hold_named<D: Disk + Drop>(
     requires files { At (HasStoreFiles store.now.header.blocks store.now.spaces) (D.past disk.old.disk) }
     ensures held { OnOk result (HoldsNamed keys.old store.now (D.past disk.old.disk) changes.now pool.old pool.new) }
     ensures refused { IfErr result (IsHoldRefusal keys.old store.now (D.past disk.old.disk) changes.now disk.new pool.old) }
-    ensures looks { LooksFor keys.old store.now (D.past disk.old.disk) changes.now pool.old pool.new }
+    ensures looks { LooksForPages keys.old store.now (D.past disk.old.disk) changes.now pool.old pool.new }
     ensures still { AreAtHand store.now changes.now pool.old → disk.new ≡ disk.old }
     ensures up { OnOk result (disk.new.stop ≡ None) }
     ensures keys { keys.new ≡ keys.old }

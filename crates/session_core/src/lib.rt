@@ -46,3 +46,8 @@ pub use fault::{EngineFault, StartFault};
 pub use journal::{Author, Entry, Journal, Receipt};
 pub use options::SessionOptions;
 pub use session::{SessionCore, StartRefusal};
+
+#[cfg(test)]
+mod fixture;
+#[cfg(test)]
+mod tests;

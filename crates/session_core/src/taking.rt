@@ -1,7 +1,7 @@
 // A batch of the dirty pages of a space is taken.
 ghost use Rattle.std.specs.Prelude.{◌≡◌, ◌≢◌, ◌↔◌, IfErr, IfOk, IsSome, map, take};
 ghost use Rattle.session_core.specs.Dirty.{AreTyped};
-ghost use Rattle.session_core.specs.Taking.{copied_of, dirty_of, version_of};
+ghost use Rattle.session_core.specs.Taking.{copied_of, dirty_of, sealing_version};
 
 use crate::dirt::copy_dirty;
 use crate::{EngineFault, SessionCore};
@@ -37,8 +37,8 @@ fn fill_batch(
 }
 
 // The version that new texts of a space are sealed under.
-fn version_of(info: &SpaceInfo, active: u32) -> u32
-    ensures { result ≡ version_of info.now active }
+fn sealing_version(info: &SpaceInfo, active: u32) -> u32
+    ensures { result ≡ sealing_version info.now active }
 {
     if info.ciphered { active } else { 0 }
 }
@@ -67,7 +67,7 @@ impl<D: Disk + Drop> SessionCore<D> {
         let Some(info) = self.store.info(space) else {
             unreachable!();
         };
-        let version = version_of(&info, self.active);
+        let version = sealing_version(&info, self.active);
         let key = self.keys.seal_key(self.store.algorithm(), &info, version);
         fill_batch(self.alloc, &mut self.pool, info.space, version, key, n)
     }

@@ -3,7 +3,7 @@ use Rattle.page_pool.specs.Changes.{fresh_pages}
 use Rattle.page_pool.specs.declared.names.DirtyPage.{DirtyPage}
 use Rattle.redo_log.specs.Log.{free_of}
 use Rattle.redo_text.specs.declared.change.Change.{Change}
-use Rattle.session_core.specs.Entering.{HasNoEntryRoom, Long, NoBlocks, NoNumbers, NoPages, blocks_of}
+use Rattle.session_core.specs.Entering.{HasNoEntryRoom, Long, NoBlocks, NoNumbers, NoPages, mtr_block_count}
 use Rattle.session_core.specs.declared.fault.EngineFault.TheVariants.{LogFull, PoolFull, Spent, TooLong}
 use Rattle.session_core.proofs.committing.check_room.Goals as goal
 
@@ -49,4 +49,4 @@ returns-then-free-needed-clause-refused c =
     let most = c.dirty-dirty.ensures.most in
     let free = c.free-free.ensures.free in
     subst (λ (k : ℕ). HasNoEntryRoom log pool mtr (LogFull k c.free-free.result)) (sym n)
-    (subst (λ (k : ℕ). HasNoEntryRoom log pool mtr (LogFull (blocks_of mtr) k)) (sym free) (NoBlocks (omega (arith, n)) (omega (arith, n, next)) (omega (arith, dirty, fresh, most)) (omega (arith, n, free))))
+    (subst (λ (k : ℕ). HasNoEntryRoom log pool mtr (LogFull (mtr_block_count mtr) k)) (sym free) (NoBlocks (omega (arith, n)) (omega (arith, n, next)) (omega (arith, dirty, fresh, most)) (omega (arith, n, free))))

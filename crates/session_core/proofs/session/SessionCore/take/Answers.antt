@@ -12,8 +12,8 @@ returns-in_err-check-clause-refused g c =
 
 pub fill_batch-requires-clause-keyed : goal.fill_batch-requires-clause-keyed
 fill_batch-requires-clause-keyed g c =
-    keyed_batch c.self.inside.keys c.algorithm.result c.self.inside.store.spaces c.args.space c.self.inside.active c.in-Some.info c.version_of-version.result c.seal_key-key.result c.self.invariant.keyed c.self.invariant.active
-    (sym c.info.ensures.value ∙ c.in-Some.is) c.version_of-version.ensures c.seal_key-key.ensures.value
+    keyed_batch c.self.inside.keys c.algorithm.result c.self.inside.store.spaces c.args.space c.self.inside.active c.in-Some.info c.sealing_version-version.result c.seal_key-key.result c.self.invariant.keyed c.self.invariant.active
+    (sym c.info.ensures.value ∙ c.in-Some.is) c.sealing_version-version.ensures c.seal_key-key.ensures.value
 
 pub returns-clause-refused : goal.returns-clause-refused
 returns-clause-refused g c = no_batch c.args.self.now c.fill_batch.result c.in_ok-check.ensures.up c.fill_batch.ensures.refused
