@@ -121,7 +121,8 @@ module _ {D : Type 0} (store : SessionStore) (kept : Type 0) (rest : StoreAtRest
       start = refl;
       journal = refl;
       next = refl;
-      dirty = λ s p there. refl;
+      dirty = λ s p. refl;
+      whole = refl;
       holds = λ s p page some there is. absurd (none-some page is);
       heads = heads;
       salts = salted;

@@ -41,7 +41,8 @@ module _ {D : Type 0} (past : D → Past) (faults refusals : D → ℕ) (is_late
       start = x.start;
       journal = x.journal;
       next = x.next;
-      dirty = λ z q here. x.dirty z q here ∙ ap (λ d. dirt_among d z q) (sym (ap (λ d. d.entries) (dirty_behind old.ring old.store (Some es) s p old.pool pool after)));
+      dirty = λ z q. x.dirty z q ∙ ap (λ d. dirt_among d z q) (sym (ap (λ d. d.entries) (dirty_behind old.ring old.store (Some es) s p old.pool pool after)));
+      whole = let same = dirty_behind old.ring old.store (Some es) s p old.pool pool after in ap (λ d. length d.pages) same ∙ x.whole ∙ sym (ap (λ d. length d.entries) same);
       holds = holds_behind store kept old es x session.spaces.have ((session.reads up).here es told) s p there pool after;
       heads = x.heads;
       salts = x.salts;

@@ -8,3 +8,6 @@ pub mod Begins
 pub mod Keeps
 pub mod Pages
 pub mod KeepsReads
+pub mod Dirts
+pub mod Commits
+pub mod KeepsCommits

@@ -118,7 +118,7 @@ module _ {D : Type 0} (store : SessionStore) (kept : Type 0) (r : Running D) whe
             let here : has_page r.store.header.spaces d.space d.page ≡ true = first_there r.store r.pool.dirty d ds some have marks in
             let there : has_page store.header.spaces d.space d.page ≡ true = subst (λ (h : HeldHeader). has_page h.spaces d.space d.page ≡ true) is.header here in
             let among : dirt_among (d ∷ ds) d.space d.page ≡ Some (record { first = d.first; lsn = d.lsn }) = cond-true (is_named (name_of_page d.space d.page) d) _ _ (own_name d) in
-            is.ready.firsts d.space d.page _ there (is.dirty d.space d.page there ∙ ap (λ (l : List DirtyPage). dirt_among l d.space d.page) some ∙ among)
+            is.ready.firsts d.space d.page _ there (is.dirty d.space d.page ∙ ap (λ (l : List DirtyPage). dirt_among l d.space d.page) some ∙ among)
 
     module _ (least : All (λ d. f ≤ d.first) r.pool.dirty.entries) (open_log : IsOpen r.log) (blocks : r.log.blocks ≡ N) (low : r.log.from < f) (high : f ≤ durable r.log) where
       abbrev keys : Keys
@@ -128,7 +128,7 @@ module _ {D : Type 0} (store : SessionStore) (kept : Type 0) (r : Running D) whe
       sequence = r.log.sequence + 1
 
       oldest : (z p : ℕ) (d : Dirty) → has_page store.header.spaces z p ≡ true → is.session.dirty z p ≡ Some d → f ≤ d.first
-      oldest z p d there at = dirt_least f r.pool.dirty.entries least z p d (sym (is.dirty z p there) ∙ at)
+      oldest z p d there at = dirt_least f r.pool.dirty.entries least z p d (sym (is.dirty z p) ∙ at)
 
       ring_here : RingReady r.log.blocks F is.ring s
       ring_here = subst (λ (n : ℕ). RingReady n F is.ring s) (sym blocks) is.ready.ring
@@ -192,6 +192,7 @@ module _ {D : Type 0} (store : SessionStore) (kept : Type 0) (r : Running D) whe
             journal = is.journal;
             next = is.next ∙ same_next r.log f;
             dirty = is.dirty;
+            whole = is.whole;
             holds = is.holds;
             heads = is.heads;
             salts = is.salts;

@@ -79,6 +79,7 @@ module _ {D : Type 0} (store : SessionStore) (kept : Type 0) (r : Running D) whe
       journal = is.journal;
       next = is.next;
       dirty = is.dirty;
+      whole = is.whole;
       holds = is.holds;
       heads = is.heads;
       salts = is.salts;
@@ -135,6 +136,7 @@ module _ {D : Type 0} (store : SessionStore) (kept : Type 0) (r : Running D) whe
         journal = is.journal;
         next = is.next;
         dirty = is.dirty;
+        whole = is.whole;
         holds = is.holds;
         heads = is.heads;
         salts = is.salts;

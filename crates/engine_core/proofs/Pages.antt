@@ -25,7 +25,7 @@ use Rattle.places.specs.Places.{shown}
 use Rattle.places.proofs.Steps.{length-shown}
 use Rattle.session_core.specs.Dirty.{name_of_page}
 use Rattle.session_core.specs.Keys.{space_key}
-use Rattle.session_core.specs.Reading.{FromHome, Held, IsPageOf, IsPoolAfter, NotUsed}
+use Rattle.session_core.specs.Reading.{FromHome, Held, IsHomeRead, IsPageOf, IsPoolAfter, NotUsed}
 use Rattle.session_core.specs.Session.{Running}
 use Rattle.session_core.specs.Spaces.{HaveLists, home_in, is_page, space_with_id}
 use Rattle.session_core.specs.Told.{ReadsAsTold}
@@ -120,7 +120,7 @@ means_some header keys salts s p bytes (Used page) long (some, key, text) = text
 
 -- ---- the dirty pages
 
-none_among : (ds : List DirtyPage) (s p : ℕ) → list_any (is_named (name_of_page s p)) ds ≡ false → dirt_among ds s p ≡ None
+pub none_among : (ds : List DirtyPage) (s p : ℕ) → list_any (is_named (name_of_page s p)) ds ≡ false → dirt_among ds s p ≡ None
 none_among [] s p none = refl
 none_among (d ∷ ds) s p none = by (is_named (name_of_page s p) d) none (none_among ds s p)
   where
@@ -128,7 +128,7 @@ none_among (d ∷ ds) s p none = by (is_named (name_of_page s p) d) none (none_a
     by true is behind = absurd (true≢false is)
     by false is behind = behind is
 
-held_clean : (a b : Bool) → (a || b) ≡ false → a ≡ false
+pub held_clean : (a b : Bool) → (a || b) ≡ false → a ≡ false
 held_clean true b is = absurd (true≢false is)
 held_clean false b is = refl
 
@@ -161,7 +161,7 @@ module _ {D : Type 0} (store : SessionStore) (kept : Type 0) (r : Running D) (es
 
   module _ (clean : is_dirty (name_of_page s p) r.pool.dirty ≡ false) where
     tells : HomeTells store.header store.book (salts_of store.base) c s p bytes
-    tells = home_says store s p bytes c some (held p bytes) refl (session_page store is.session is.ring es is.ready s p there (is.dirty s p there ∙ none_among r.pool.dirty.entries s p clean))
+    tells = home_says store s p bytes c some (held p bytes) refl (session_page store is.session is.ring es is.ready s p there (is.dirty s p ∙ none_among r.pool.dirty.entries s p clean))
 
     -- what is known of the home is what its bytes tell
     home_is : home_in r.store s p ≡ home_told bytes
@@ -181,7 +181,7 @@ module _ {D : Type 0} (store : SessionStore) (kept : Type 0) (r : Running D) (es
         by false e = refl
         by true e = absurd (in_use (home_is ∙ ap (λ (b : Bool). if b then UnusedHome else Clean (be32_at bytes 0)) e))
 
-    unused_page : home_in r.store s p ≡ UnusedHome → c s p ≡ Unused
+    pub unused_page : home_in r.store s p ≡ UnusedHome → c s p ≡ Unused
     unused_page unused = by tells
       where
         by : HomeTells store.header store.book (salts_of store.base) c s p bytes → c s p ≡ Unused
@@ -248,12 +248,10 @@ module _ {D : Type 0} (store : SessionStore) (kept : Type 0) (r : Running D) (es
         by (Blank zero first none) = absurd (true≢false (sym zero ∙ full))
         by (Means means) = at_page (c s p) refl means
 
-  -- The page that is read is the page after the journal.
-  pub page_now : (page : Option PlainPage) → IsPageOf r.ring r.store r.pool (Some es) s p page → c s p ≡ page_held page
-  page_now page (Held held_here held_is_here) = is.holds s p held_here some there held_is_here
-  page_now page (NotUsed apart unused) = unused_page (held_clean (is_dirty (name_of_page s p) r.pool.dirty) _ apart) unused
-  page_now page (FromHome info left was apart in_use at read) =
-      let clean = held_clean (is_dirty (name_of_page s p) r.pool.dirty) _ apart in
+  -- The page that a home gives that isn't unused is the page after the journal.
+  pub taken_now : is_dirty (name_of_page s p) r.pool.dirty ≡ false → (home_in r.store s p ≡ UnusedHome → ⊥) → (info : SpaceInfo) (left : List ℕ) (was : Home) → space_with_id r.store.spaces s ≡ Some info
+      → IsHomeRead r.ring r.store.header.algorithm info p (Some es) left (Ok was) → c s p ≡ Used (plain_page left)
+  taken_now clean in_use info left was at read =
       let space = space_id r.store.spaces s info at in
       let same : read.bytes ≡ bytes = read.told.here es refl ∙ ap (λ (n : ℕ). shown (Space n) page_bytes p es) space in
       let full = used_of clean in_use in
@@ -264,6 +262,12 @@ module _ {D : Type 0} (store : SessionStore) (kept : Type 0) (r : Running D) (es
     where
       answer : Home → Result Home RestFault
       answer was = Ok was
+
+  -- The page that is read is the page after the journal.
+  pub page_now : (page : Option PlainPage) → IsPageOf r.ring r.store r.pool (Some es) s p page → c s p ≡ page_held page
+  page_now page (Held held_here held_is_here) = is.holds s p held_here some there held_is_here
+  page_now page (NotUsed apart unused) = unused_page (held_clean (is_dirty (name_of_page s p) r.pool.dirty) _ apart) unused
+  page_now page (FromHome info left was apart in_use at read) = taken_now (held_clean (is_dirty (name_of_page s p) r.pool.dirty) _ apart) in_use info left was at read
 
   -- and by the fold of the journal over the base contents
   pub contents_are : contents_now store r s p ≡ c s p

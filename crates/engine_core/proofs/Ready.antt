@@ -80,6 +80,7 @@ ready_with store kept r es disk active age acked batch x = record {
   journal = x.journal;
   next = x.next;
   dirty = x.dirty;
+  whole = x.whole;
   holds = x.holds;
   heads = x.heads;
   salts = x.salts;

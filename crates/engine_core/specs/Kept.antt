@@ -1,5 +1,5 @@
 -- What the images of a session's disk stand for, and what is known of the disk between two calls, for a store that the session began on.
-use Rattle.std.specs.Prelude.{◌≡◌, ◌≢◌, ℕ, true, if◌then◌else◌, List, [], ◌∷◌, Option, Some, None}
+use Rattle.std.specs.Prelude.{◌≡◌, ◌≢◌, ℕ, true, if◌then◌else◌, List, [], ◌∷◌, length, Option, Some, None}
 use Rattle.crash_image.specs.Stands.{Lucky}
 use Rattle.crash_image.specs.Writes.{Once}
 use Rattle.disk_model.specs.Crash.{crash_image}
@@ -80,7 +80,8 @@ module _ (store : SessionStore) where
     pub start : session.start ≡ r.begins
     pub journal : session.journal ≡ journal_of r
     pub next : session.next ≡ r.log.next
-    pub dirty : (s p : ℕ) → has_page store.header.spaces s p ≡ true → session.dirty s p ≡ dirt_among r.pool.dirty.entries s p
+    pub dirty : (s p : ℕ) → session.dirty s p ≡ dirt_among r.pool.dirty.entries s p
+    pub whole : length r.pool.dirty.pages ≡ length r.pool.dirty.entries
     pub holds : HoldsNow session r.pool
     pub heads : TellsHeads session r.store.spaces
     pub salts : HaveSalts r.store.spaces

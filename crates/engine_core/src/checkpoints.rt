@@ -8,7 +8,7 @@ ghost use Rattle.places.specs.Writes.{IsPart};
 ghost use Rattle.redo_log.specs.Events.{check_event, side_batch};
 ghost use Rattle.store_image.specs.View.{block_bytes};
 ghost use Rattle.session_core.specs.Checking.{kept_from, run_begin};
-ghost use Rattle.session_core.specs.Files.{IsDiskRefusal};
+ghost use Rattle.session_core.specs.Files.{IsDiskRefusal, calls_of};
 
 use crate::{Engine, EngineFault};
 use disk_model::Disk;
@@ -33,6 +33,7 @@ impl<D: Disk + Drop> Engine<D> {
         ensures kept { OnErr result (self.new.now ≡ record self.old.now { disk = self.new.now.disk }) }
         ensures refused { IfErr result (IsDiskRefusal self.old.now.disk self.new.now.disk) }
         ensures was_up { OnOk result (self.old.now.disk.stop ≡ None) }
+        ensures calls { calls_of D.clock self.new.now.disk ≤ calls_of D.clock self.old.now.disk + 2 }
         ensures up { OnOk result (self.new.now.disk.stop ≡ None) }
         ensures later { D.is_later self.old.now.disk.disk self.new.now.disk.disk × IsCounted (count_of D.past D.faults D.memory_refusals self.old.now.disk) (count_of D.past D.faults D.memory_refusals self.new.now.disk) }
         ensures first { self.new.first ≡ self.old.first }

@@ -1,5 +1,5 @@
 // The engine: its parts, its start and its end, and what it tells of itself.
-ghost use Rattle.std.specs.Prelude.{◌≡◌, IfErr, IfOk, OnOk};
+ghost use Rattle.std.specs.Prelude.{◌≡◌, ◌+◌, ◌≤◌, IfErr, IfOk, OnOk};
 ghost use Rattle.disk_model.specs.Past.{At};
 ghost use Rattle.session_core.specs.Start.{HasBegun, IsStartRefusal, MayStart, session_begun};
 ghost use Rattle.session_image.specs.Kept.{BeginsSession, SessionStore};
@@ -52,6 +52,7 @@ impl<D: Disk + Drop> Engine<D> {
         ensures recorded { IfOk result (λ e. (store : SessionStore) → At (BeginsRecorded store ring options.active rest.next rest.sequence) (D.past rest.disk) → At (BeginsRecordAt store e.first) (D.past e.first.disk.disk)) }
         ensures begins_still { IfErr result (λ r. (store : SessionStore) → At (BeginsSession store ring options.active rest.next rest.sequence) (D.past rest.disk) → At (BeginsSession store ring options.active rest.next rest.sequence) (D.past r.rest.disk)) }
         ensures recorded_still { IfErr result (λ r. (store : SessionStore) → At (BeginsRecorded store ring options.active rest.next rest.sequence) (D.past rest.disk) → At (BeginsRecorded store ring options.active rest.next rest.sequence) (D.past r.rest.disk)) }
+        ensures calls { IfOk result (λ e. D.clock e.now.disk.disk ≤ D.clock rest.disk + 1) }
         ensures may { OnOk result (MayStart ring options.active rest.spaces) }
         ensures refused { IfErr result (λ r. IsStartRefusal D.past D.faults D.memory_refusals ring options.active rest r.rest r.why) }
         ensures later { IfErr result (λ r. D.is_later rest.disk r.rest.disk) }

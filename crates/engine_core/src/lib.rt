@@ -19,6 +19,7 @@
 
 mod activating;
 mod checkpoints;
+mod committing;
 mod engine;
 mod reading;
 mod syncing;

@@ -1,9 +1,10 @@
 // Pages are read: those in memory, unused ones, and those that their homes hold.
-ghost use Rattle.std.specs.Prelude.{◌≡◌, ◌⊎◌, true, None, IfErr, IfOk, OnOk, length};
+ghost use Rattle.std.specs.Prelude.{◌≡◌, ◌+◌, ◌≤◌, ◌⊎◌, true, None, IfErr, IfOk, OnOk, length};
 ghost use Rattle.counted_disk.specs.Counting.{IsCounted, count_of};
 ghost use Rattle.disk_model.specs.Past.{At};
 ghost use Rattle.page_pool.specs.Pages.{is_held};
 ghost use Rattle.redo_text.specs.Text.{IsRange};
+ghost use Rattle.session_core.specs.Files.{calls_of};
 ghost use Rattle.session_core.specs.Reading.{IsReadRefusal, OnlyReads, ReadsKind, ReadsPart, name_of_page};
 ghost use Rattle.session_core.specs.Spaces.{home_in, is_page};
 ghost use Rattle.session_image.specs.Kept.{SessionStore};
@@ -40,6 +41,7 @@ impl<D: Disk + Drop> Engine<D> {
         ensures refused { IfErr result (IsReadRefusal D.past (IsRange at (length into.old)) (EngineFault.BadRange at (length into.old)) self.old.now self.new.now space page) }
         ensures data { OnlyReads D.past space page self.old.now self.new.now }
         ensures still { (is_held (name_of_page space page) self.old.now.pool ≡ true) ⊎ (home_in self.old.now.store space page ≡ Unused) → self.new.now.disk ≡ self.old.now.disk }
+        ensures calls { calls_of D.clock self.new.now.disk ≤ calls_of D.clock self.old.now.disk + 1 }
         ensures up { OnOk result (self.new.now.disk.stop ≡ None) }
         ensures later { D.is_later self.old.now.disk.disk self.new.now.disk.disk × IsCounted (count_of D.past D.faults D.memory_refusals self.old.now.disk) (count_of D.past D.faults D.memory_refusals self.new.now.disk) }
         ensures first { self.new.first ≡ self.old.first }
@@ -61,6 +63,7 @@ impl<D: Disk + Drop> Engine<D> {
         ensures refused { IfErr result (IsReadRefusal D.past (Unit {0}) EngineFault.OutOfMemory self.old.now self.new.now space page) }
         ensures data { OnlyReads D.past space page self.old.now self.new.now }
         ensures still { (is_held (name_of_page space page) self.old.now.pool ≡ true) ⊎ (home_in self.old.now.store space page ≡ Unused) → self.new.now.disk ≡ self.old.now.disk }
+        ensures calls { calls_of D.clock self.new.now.disk ≤ calls_of D.clock self.old.now.disk + 1 }
         ensures up { OnOk result (self.new.now.disk.stop ≡ None) }
         ensures later { D.is_later self.old.now.disk.disk self.new.now.disk.disk × IsCounted (count_of D.past D.faults D.memory_refusals self.old.now.disk) (count_of D.past D.faults D.memory_refusals self.new.now.disk) }
         ensures first { self.new.first ≡ self.old.first }

@@ -1,12 +1,14 @@
 // An engine over a store of 32 ring blocks and one space, 5, of 4 pages, ciphered under key 1, in memory.
-ghost use Rattle.std.specs.Prelude.{IfOk, replicate};
+ghost use Rattle.std.specs.Prelude.{◌≡◌, IfOk, length, replicate};
+ghost use Rattle.session_core.specs.Committing.{AreOfPages};
 ghost use Rattle.store_form.specs.Plan.{IsCreatable};
 
-use crate::{Engine, EngineFault, SessionOptions, StartFault};
+use crate::{Author, Engine, EngineFault, Receipt, SessionOptions, StartFault};
 use aes_core::Algorithm;
 use disk_model::MemDisk;
 use key_ring::Ring;
 use rand_core::Rng;
+use redo_text::{Change, Mtr, Piece};
 use std::alloc::{AllocError, Global};
 use std::test::Fail;
 use store_form::{AtRest, SpacePlan, SpacePlans, StorePlan, create};
@@ -99,6 +101,53 @@ fn an_engine_starts_reads_and_syncs(rt: HostRuntime) -> Result<(), Fail> {
     assert!(rt; engine.sync() == Ok(0) && engine.checkpoint() == Ok(2));
     assert!(rt; engine.disk().turns() == 0);
     assert!(rt; engine.halt().journal.len() == 0);
+    Ok(())
+}
+
+// A mini-transaction of one byte in page 1.
+fn mtr_of_one(alloc: Global) -> Result<Mtr, AllocError>
+    ensures some { IfOk result (λ m. length m ≡ 1) }
+    ensures forms { IfOk result AreOfPages }
+{
+    let mut bytes = Vec::new(alloc);
+    bytes.push(7)?;
+    let mut changes = Vec::new(alloc);
+    let Ok(()) = changes.push(Change::Put {
+        space: 5,
+        page: 1,
+        at: 100,
+        bytes: Piece::of(bytes),
+    }) else {
+        return Err(AllocError);
+    };
+    Ok(Mtr::of(changes))
+}
+
+// The entry has one block, behind which the log goes on with block 3; page 1 is dirty from block 2 on.
+#[test]
+fn a_commit_is_read_and_acknowledged(rt: HostRuntime) -> Result<(), Fail> {
+    let Ok(mut engine) = started(rt.alloc(), 1)? else {
+        panic!(rt; "no engine");
+    };
+    let by = Author {
+        session: 1,
+        line: 1,
+    };
+    let mtr = mtr_of_one(rt.alloc())?;
+    assert!(rt;
+        engine.commit(by, mtr)
+            == Ok(Receipt {
+                place: 1,
+                lsn: 12288
+            })
+    );
+    let mut bytes = [1; 2];
+    assert!(rt; engine.read(5, 1, 99, &mut bytes) == Ok(()) && bytes == [0, 7]);
+    assert!(rt; engine.page_kind(5, 1) == Ok(Some(0)));
+    assert!(rt; engine.acked() == 0 && engine.disk().turns() == 0);
+    assert!(rt; engine.sync() == Ok(1) && engine.acked() == 1);
+    assert!(rt; engine.disk().turns() == 2 && engine.checkpoint() == Ok(2));
+    assert!(rt; engine.halt().journal.len() == 1);
     Ok(())
 }
 
