@@ -5,6 +5,8 @@ pub mod NoteSteps
 pub mod Answered
 pub mod HeadSteps
 pub mod PutGroups
+pub mod OpeningRecords
+pub mod GroupRecords
 pub mod RestoredHomes
 pub mod RestoredFiles
 pub mod RoundSteps
@@ -15,6 +17,7 @@ pub mod ChangeSteps
 pub mod SealSteps
 pub mod SealedPages
 pub mod GroupSteps
+pub mod RecordSteps
 pub mod RunSteps
 pub mod PlaceSteps
 pub mod LooksSteps

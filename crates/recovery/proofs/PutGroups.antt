@@ -99,12 +99,15 @@ module _ (o : StoreOpened) (s : List Event) (batch : Texts) (texts : ArePageText
   home_valid : (j : ℕ) → j < length batch.pages → held ((home_batch batch).place j) ((home_batch batch).bytes j) ≡ Holds (text_in (text_at batch j))
   home_valid j lt = held-text (page_number_of (text_at batch j)) (text_at batch j) (text_is (text_at batch j) (texts j lt))
 
+  pub group_inside : (t : List Event) → IsGroupStored t → (count : ℕ) → FitsSpace batch count t → IsInside batch count t
+  group_inside t stored count fits = record {
+    places = record { some = omega arith; there = fits.file.there; size = fits.file.size; whole = stored.files.files.spaces_whole z count };
+    within = fits.within;
+  }
+
   module _ (t m : List Event) (stored : IsGroupStored t) (count : ℕ) (fits : FitsSpace batch count t) (since : Since (IsHomeEvent batch) t m) where
     inside : IsInside batch count t
-    inside = record {
-      places = record { some = omega arith; there = fits.file.there; size = fits.file.size; whole = stored.files.files.spaces_whole z count };
-      within = fits.within;
-    }
+    inside = group_inside t stored count fits
 
     may_placed : HomesWriting batch t m → (p : ℕ) → has_page o.header.spaces z p ≡ true → MayBePlaced z p m
     may_placed w p here =

@@ -4,6 +4,7 @@ pub mod Stages
 pub mod Notes
 pub mod Heads
 pub mod Putting
+pub mod Recorded
 pub mod Restoring
 pub mod Rounds
 pub mod Loading

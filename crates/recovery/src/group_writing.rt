@@ -15,6 +15,7 @@ ghost use Rattle.places.specs.Places.{HasFile};
 ghost use Rattle.recovery.specs.Groups.{AreSealable, IsApplyEvent, IsRangeApplied, IsSealedUnder, LeavesSince};
 ghost use Rattle.recovery.specs.Loading.{AreDirty};
 ghost use Rattle.recovery.specs.Putting.{BetweenGroups, ImagesRecover, MayApplyGroups};
+ghost use Rattle.recovery.specs.Recorded.{HasRecord, KeepsOpeningRecord};
 ghost use Rattle.recovery.specs.Rounds.{count_in, has_later};
 
 use crate::groups::write_group;
@@ -56,6 +57,8 @@ pub fn write_groups<D: Disk>(
     // With s the opening's entry: what holds at each moment, and at Ok the pages of the range are done, and those that were.
     ensures applies { (o : StoreOpened) (s : List Event) → At (BetweenGroups o s) (D.past disk.old) → IsSealedUnder o range.now.info.space under.now.version under.now.key → AreSealable o (has_later notes.now last.now) range.now.info.space last.now range.now.from range.now.end pool.old → Does (MayApplyGroups o s) (IsApplyEvent range.now.info.space) (From (IsRangeApplied o s (has_later notes.now last.now) range.now.info.space range.now.from range.now.end) (D.past disk.old)) (D.past disk.old) (D.past disk.new) result }
     ensures recovers { (o : StoreOpened) (end : ℕ) (s : List Event) → IsOpenedAt o end s → At (BetweenGroups o s) (D.past disk.old) → IsSealedUnder o range.now.info.space under.now.version under.now.key → AreSealable o (has_later notes.now last.now) range.now.info.space last.now range.now.from range.now.end pool.old → Throughout (ImagesRecover o end) (D.past disk.old) (D.past disk.new) }
+    // And of what was written no number serves two texts, and each lucky image agrees with it.
+    ensures recorded { (o : StoreOpened) (end : ℕ) (s : List Event) → IsOpenedAt o end s → At (BetweenGroups o s) (D.past disk.old) → At (HasRecord o) (D.past disk.old) → IsSealedUnder o range.now.info.space under.now.version under.now.key → AreSealable o (has_later notes.now last.now) range.now.info.space last.now range.now.from range.now.end pool.old → Does (KeepsOpeningRecord o) (IsApplyEvent range.now.info.space) (HasRecord o) (D.past disk.old) (D.past disk.new) result }
     ensures beside { OnOk result (LeavesSince range.now.info.space range.now.from range.now.end (D.past disk.old) (D.past disk.new)) }
     ensures same { pool.new ≡ pool.old }
     ensures double { OnOk result (At (HasFile Double slots) (D.past disk.new)) }

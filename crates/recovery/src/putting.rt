@@ -15,6 +15,7 @@ ghost use Rattle.doublewrite.specs.Layer.{ArePagesDistinct, FitsSpace};
 ghost use Rattle.crash_image.specs.LogForm.{log_places};
 ghost use Rattle.crash_image.specs.Opened.{StoreOpened, IsOpenedAt};
 ghost use Rattle.recovery.specs.Putting.{BetweenGroups, ImagesRecover, IsGroupApplied, IsGroupEvent, IsGroupPart, IsSealedBatch, MayApplyGroups};
+ghost use Rattle.recovery.specs.Recorded.{HasRecord, KeepsOpeningRecord};
 
 use disk_model::{Disk, DiskError};
 use doublewrite::{Texts, home, store};
@@ -36,6 +37,8 @@ pub fn put_group<D: Disk>(disk: &mut D, batch: &Texts) -> Result<(), DiskError>
     // With s the opening's entry: what holds at each moment, and at Ok the group's pages are done, and those that were.
     ensures applies { (o : StoreOpened) (s : List Event) → At (BetweenGroups o s) (D.past disk.old) → IsSealedBatch o batch.now → Does (MayApplyGroups o s) (IsGroupEvent batch.now) (From (λ b m. BetweenGroups o s m × IsGroupApplied o batch.now b m) (D.past disk.old)) (D.past disk.old) (D.past disk.new) result }
     ensures recovers { (o : StoreOpened) (last : ℕ) (s : List Event) → IsOpenedAt o last s → At (BetweenGroups o s) (D.past disk.old) → IsSealedBatch o batch.now → Throughout (ImagesRecover o last) (D.past disk.old) (D.past disk.new) }
+    // And of what was written no number serves two texts, and each lucky image agrees with it.
+    ensures recorded { (o : StoreOpened) (last : ℕ) (s : List Event) → IsOpenedAt o last s → At (BetweenGroups o s) (D.past disk.old) → At (HasRecord o) (D.past disk.old) → IsSealedBatch o batch.now → Does (KeepsOpeningRecord o) (IsGroupEvent batch.now) (HasRecord o) (D.past disk.old) (D.past disk.new) result }
     ensures exact { OnOk result (D.past disk.new ≡ grows (home_events batch.now) (grows (slot_events batch.now) (D.past disk.old))) }
     ensures part { OnErr result (IsGroupPart batch.now (D.past disk.old) (D.past disk.new)) }
     ensures double { OnOk result (At (HasFile Double slots) (D.past disk.new)) }

@@ -18,6 +18,7 @@ ghost use Rattle.recovery.specs.Due.{HasRefusedPage, IsByPage, IsOpenedWith, IsR
 ghost use Rattle.recovery.specs.Groups.{IsApplyEvent, IsRangeApplied, IsSealedUnder, LeavesSince};
 ghost use Rattle.recovery.specs.Loading.{HaveTexts};
 ghost use Rattle.recovery.specs.Putting.{ImagesRecover, MayApplyGroups};
+ghost use Rattle.recovery.specs.Recorded.{HasRecord, KeepsOpeningRecord};
 ghost use Rattle.recovery.specs.Rounds.{count_in, has_later};
 
 use crate::group_writing::{GROUP_PAGES, write_groups};
@@ -112,6 +113,8 @@ pub fn apply_round<D: Disk>(
     // With number the last block of the opening's run, s the moment at which it began, and b this one.
     ensures applies { (o : StoreOpened) (number : ℕ) (s b : List Event) → D.past disk.old ≡ Some b → IsOpenedWith o (header_said header.now) ring.now from (run.now.last + 1) → IsSpaceOf o s round.now.info notes.now last.now → IsSealedUnder o round.now.info.space under.now.version under.now.key → IsRoundDue o number s (has_later notes.now last.now) round.now.info.space round.now.from round.now.end b → Does (MayApplyGroups o s) (IsApplyEvent round.now.info.space) (From (IsRangeApplied o s (has_later notes.now last.now) round.now.info.space round.now.from round.now.end) (D.past disk.old)) (D.past disk.old) (D.past disk.new) result }
     ensures recovers { (o : StoreOpened) (number : ℕ) (s b : List Event) → D.past disk.old ≡ Some b → IsOpenedWith o (header_said header.now) ring.now from (run.now.last + 1) → IsSpaceOf o s round.now.info notes.now last.now → IsSealedUnder o round.now.info.space under.now.version under.now.key → IsRoundDue o number s (has_later notes.now last.now) round.now.info.space round.now.from round.now.end b → Throughout (ImagesRecover o number) (D.past disk.old) (D.past disk.new) }
+    // And of what was written no number serves two texts, and each lucky image agrees with it.
+    ensures recorded { (o : StoreOpened) (number : ℕ) (s b : List Event) → D.past disk.old ≡ Some b → IsOpenedWith o (header_said header.now) ring.now from (run.now.last + 1) → IsSpaceOf o s round.now.info notes.now last.now → IsSealedUnder o round.now.info.space under.now.version under.now.key → IsRoundDue o number s (has_later notes.now last.now) round.now.info.space round.now.from round.now.end b → At (HasRecord o) (D.past disk.old) → Does (KeepsOpeningRecord o) (IsApplyEvent round.now.info.space) (HasRecord o) (D.past disk.old) (D.past disk.new) result }
     ensures texts { OnOk result (At (HaveTexts ring.now header.now.algorithm round.now.info notes.now (has_later notes.now last.now) round.now.from round.now.end) (D.past disk.old)) }
     ensures beside { OnOk result (LeavesSince round.now.info.space round.now.from round.now.end (D.past disk.old) (D.past disk.new)) }
     ensures double { OnOk result (At (HasFile Double slots) (D.past disk.new)) }

@@ -18,6 +18,7 @@ ghost use Rattle.recovery.specs.Due.{HasRefusedPage, IsByPage, IsOpenedWith, IsR
 ghost use Rattle.recovery.specs.Groups.{IsApplyEvent, IsRangeApplied, IsSealedUnder, LeavesSince};
 ghost use Rattle.recovery.specs.Loading.{HaveTexts};
 ghost use Rattle.recovery.specs.Putting.{ImagesRecover, MayApplyGroups};
+ghost use Rattle.recovery.specs.Recorded.{HasRecord, KeepsOpeningRecord};
 ghost use Rattle.recovery.specs.Rounds.{count_in, has_later};
 
 use crate::notes::SpaceNotes;
@@ -78,6 +79,8 @@ pub fn apply_space<D: Disk>(
     // With number the last block of the opening's run, s the moment at which it began, and b this one.
     ensures applies { (o : StoreOpened) (number : ℕ) (s b : List Event) → D.past disk.old ≡ Some b → IsOpenedWith o (header_said header.now) ring.now from (run.now.last + 1) → IsSpaceOf o s info.now notes.now last.now → IsSealedUnder o info.now.space under.now.version under.now.key → IsRoundDue o number s (has_later notes.now last.now) info.now.space 0 count b → Does (MayApplyGroups o s) (IsApplyEvent info.now.space) (From (IsRangeApplied o s (has_later notes.now last.now) info.now.space 0 count) (D.past disk.old)) (D.past disk.old) (D.past disk.new) result }
     ensures recovers { (o : StoreOpened) (number : ℕ) (s b : List Event) → D.past disk.old ≡ Some b → IsOpenedWith o (header_said header.now) ring.now from (run.now.last + 1) → IsSpaceOf o s info.now notes.now last.now → IsSealedUnder o info.now.space under.now.version under.now.key → IsRoundDue o number s (has_later notes.now last.now) info.now.space 0 count b → Throughout (ImagesRecover o number) (D.past disk.old) (D.past disk.new) }
+    // And of what was written no number serves two texts, and each lucky image agrees with it.
+    ensures recorded { (o : StoreOpened) (number : ℕ) (s b : List Event) → D.past disk.old ≡ Some b → IsOpenedWith o (header_said header.now) ring.now from (run.now.last + 1) → IsSpaceOf o s info.now notes.now last.now → IsSealedUnder o info.now.space under.now.version under.now.key → IsRoundDue o number s (has_later notes.now last.now) info.now.space 0 count b → At (HasRecord o) (D.past disk.old) → Does (KeepsOpeningRecord o) (IsApplyEvent info.now.space) (HasRecord o) (D.past disk.old) (D.past disk.new) result }
     ensures texts { OnOk result (At (HaveTexts ring.now header.now.algorithm info.now notes.now (has_later notes.now last.now) 0 count) (D.past disk.old)) }
     ensures beside { OnOk result (LeavesSince info.now.space 0 count (D.past disk.old) (D.past disk.new)) }
     ensures double { OnOk result (At (HasFile Double slots) (D.past disk.new)) }

@@ -5,12 +5,13 @@ use Rattle.disk_model.proofs.Layers.{does_err, so_far_done, so_far_more, so_far_
 use Rattle.disk_model.proofs.Moments.{at_each, weaker}
 use Rattle.page_pool.specs.Pages.{PoolState}
 use Rattle.places.specs.Batches.{From}
-use Rattle.recovery.specs.Groups.{AreSealable, IsRangeApplied, LeavesSince}
+use Rattle.recovery.specs.Groups.{AreSealable, IsApplyEvent, IsRangeApplied, LeavesSince}
 use Rattle.recovery.specs.Loading.{AreDirty}
 use Rattle.recovery.specs.Rounds.{count_in, has_later}
 use Rattle.recovery.proofs.GroupSteps.{groups_none, groups_then, part_dirty, part_sealable}
 use Rattle.recovery.proofs.OtherHomes.{leaves_none, leaves_then}
 use Rattle.recovery.proofs.PutGroups.{groups_recover}
+use Rattle.recovery.proofs.RecordSteps.{records_none}
 use Rattle.recovery.proofs.RoundSteps.{count_less, count_none, count_parts}
 use Rattle.recovery.proofs.group_writing.write_groups.Goals as goal
 
@@ -23,6 +24,7 @@ loop-at-init g c =
       begins = omega arith;
       ends = c.requires.order;
       applies = λ o s between under due. groups_none o s has r.info.space r.from (g.D.Disk.past c.args.disk.now) between;
+      recorded = λ o end s opened between kept under due. records_none o end s opened (IsApplyEvent r.info.space) (g.D.Disk.past c.args.disk.now) between kept;
       beside = leaves_none r.info.space r.from r.from (g.D.Disk.past c.args.disk.now) (g.D.Disk.past c.args.disk.now) refl;
       same = refl;
       double = c.requires.double;
@@ -117,6 +119,13 @@ loop-at-preserved g c =
           so_far_more done
           (groups_then o s has r.info.space r.from at end old (g.D.Disk.past c.loop-at.disk) (g.D.Disk.past c.write_group.new.disk) _ done.at
           (c.in_ok-write_group.ensures.applies o s (at_each (λ m d. d.0) done.at) under part));
+      recorded = λ o last s opened between kept under due.
+          let done = c.loop-at.invariant.applies o s between under due in
+          let so_far = c.loop-at.invariant.recorded o last s opened between kept under due in
+          let part : AreSealable o has r.info.space c.args.last.now at end c.loop-at.pool =
+          subst (λ (p : PoolState). AreSealable o has r.info.space c.args.last.now at end p) (sym c.loop-at.invariant.same)
+          (part_sealable o has r.info.space c.args.last.now r.from r.end at end c.args.pool.now c.loop-at.invariant.begins c.next_range-end.ensures.ends due) in
+          so_far_more so_far (c.in_ok-write_group.ensures.recorded o last s opened (at_each (λ m d. d.0) done.at) so_far.at under part);
       beside = leaves_then r.info.space r.from at end c.loop-at.invariant.begins c.next_range-end.ensures.begins old (g.D.Disk.past c.loop-at.disk) (g.D.Disk.past c.write_group.new.disk) c.loop-at.invariant.beside c.in_ok-write_group.ensures.beside;
       same = c.in_ok-write_group.ensures.same ∙ c.loop-at.invariant.same;
       double = c.in_ok-write_group.ensures.double;
@@ -152,3 +161,17 @@ returns-clause-calls g c =
     let ended : c.loop-at.at ≡ r.end = omega (arith, c.loop-at-test.false, c.loop-at.invariant.ends) in
     let same : count_in has r.from (c.loop-at.at - r.from) ≡ count_in has r.from (r.end - r.from) = ap (λ (q : ℕ). count_in has r.from (q - r.from)) ended in
     omega (arith, same, c.loop-at.invariant.calls)
+
+pub returns-in_err-write_group-clause-recorded : goal.returns-in_err-write_group-clause-recorded
+returns-in_err-write_group-clause-recorded g c = λ o last s opened between kept under due.
+    let r = c.args.range.now in
+    let has = has_later c.args.notes.now c.args.last.now in
+    let done = c.loop-at.invariant.applies o s between under due in
+    let so_far = c.loop-at.invariant.recorded o last s opened between kept under due in
+    let part : AreSealable o has r.info.space c.args.last.now c.loop-at.at c.next_range-end.result c.loop-at.pool =
+    subst (λ (p : PoolState). AreSealable o has r.info.space c.args.last.now c.loop-at.at c.next_range-end.result p) (sym c.loop-at.invariant.same)
+    (part_sealable o has r.info.space c.args.last.now r.from r.end c.loop-at.at c.next_range-end.result c.args.pool.now c.loop-at.invariant.begins c.next_range-end.ensures.ends due) in
+    does_err _ _ c.from_residual.ensures.1 (so_far_then so_far (c.in_err-write_group.ensures.recorded o last s opened (at_each (λ m d. d.0) done.at) so_far.at under part))
+
+pub returns-clause-recorded : goal.returns-clause-recorded
+returns-clause-recorded g c = λ o last s opened between kept under due. so_far_done (λ m k. k) (c.loop-at.invariant.recorded o last s opened between kept under due)

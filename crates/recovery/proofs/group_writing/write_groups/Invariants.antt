@@ -1,6 +1,6 @@
 use Rattle.std.proofs.Common.{◌≡◌, ℕ, ◌+◌, ◌*◌, ◌-◌, ◌≤◌, ◌<◌, List, length}
 use Rattle.crash_image.specs.LogForm.{log_places}
-use Rattle.crash_image.specs.Opened.{StoreOpened}
+use Rattle.crash_image.specs.Opened.{IsOpenedAt, StoreOpened}
 use Rattle.disk_model.specs.Does.{SoFar}
 use Rattle.disk_model.specs.Event.{Event}
 use Rattle.disk_model.specs.Past.{At}
@@ -9,6 +9,7 @@ use Rattle.page_places.specs.Texts.{pages, slots}
 use Rattle.places.specs.Places.{HasFile}
 use Rattle.recovery.specs.Groups.{AreSealable, IsApplyEvent, IsSealedUnder, LeavesSince}
 use Rattle.recovery.specs.Putting.{BetweenGroups, MayApplyGroups}
+use Rattle.recovery.specs.Recorded.{HasRecord, KeepsOpeningRecord}
 use Rattle.recovery.specs.Rounds.{count_in, has_later}
 use Rattle.recovery.proofs.GroupSteps.{IsAppliedTo}
 use Rattle.recovery.proofs.group_writing.write_groups.Given as goal
@@ -19,6 +20,8 @@ invariant-loop-at g l = record {
   ends : l.at ≤ l.range.end;
   applies : (o : StoreOpened) (s : List Event) → At (BetweenGroups o s) (g.D.Disk.past l.fn.disk) → IsSealedUnder o l.range.info.space l.under.version l.under.key → AreSealable o (has_later l.notes l.last) l.range.info.space l.last l.range.from l.range.end l.fn.pool
       → SoFar (MayApplyGroups o s) (IsApplyEvent l.range.info.space) (IsAppliedTo o s (has_later l.notes l.last) l.range.info.space l.range.from l.at (g.D.Disk.past l.fn.disk)) (g.D.Disk.past l.fn.disk) (g.D.Disk.past l.disk);
+  recorded : (o : StoreOpened) (end : ℕ) (s : List Event) → IsOpenedAt o end s → At (BetweenGroups o s) (g.D.Disk.past l.fn.disk) → At (HasRecord o) (g.D.Disk.past l.fn.disk) → IsSealedUnder o l.range.info.space l.under.version l.under.key
+      → AreSealable o (has_later l.notes l.last) l.range.info.space l.last l.range.from l.range.end l.fn.pool → SoFar (KeepsOpeningRecord o) (IsApplyEvent l.range.info.space) (HasRecord o) (g.D.Disk.past l.fn.disk) (g.D.Disk.past l.disk);
   beside : LeavesSince l.range.info.space l.range.from l.at (g.D.Disk.past l.fn.disk) (g.D.Disk.past l.disk);
   same : l.pool ≡ l.fn.pool;
   double : At (HasFile Double slots) (g.D.Disk.past l.disk);

@@ -1,12 +1,13 @@
 use Rattle.std.proofs.Common.{◌≡◌, ◌⊎◌, ℕ, ◌<◌, ◌≤◌, length, Ok, Err, arith}
-use Rattle.disk_model.proofs.Layers.{does_nothing}
+use Rattle.disk_model.proofs.Layers.{does_more, does_nothing}
 use Rattle.disk_model.proofs.Moments.{at_each, weaker}
 use Rattle.doublewrite.specs.declared.refuse.OpenRefuse.TheVariants.{DiskFault, OutOfMemory}
 use Rattle.doublewrite.specs.declared.texts.Texts.{Texts}
 use Rattle.recovery.specs.Rounds.{has_later}
-use Rattle.recovery.proofs.GroupSteps.{between_may, done_by, failed_as, group_does}
+use Rattle.recovery.proofs.GroupSteps.{apply_event, between_may, done_by, failed_as, group_does}
 use Rattle.recovery.proofs.OtherHomes.{group_leaves}
 use Rattle.recovery.proofs.PutGroups.{groups_recover}
+use Rattle.recovery.proofs.RecordSteps.{keeps_between}
 use Rattle.recovery.proofs.SealSteps.{numbers_apart, numbers_in, numbers_within}
 use Rattle.recovery.proofs.SealedPages.{are_sealed}
 use Rattle.recovery.proofs.groups.write_group.Goals as goal
@@ -90,3 +91,33 @@ returns-in-Ok-put_group-clause-beside g c =
     (numbers_in has group.info.space c.args.last.now c.args.under.now.version c.args.under.now.key c.args.pool.now group.from group.end c.in-Ok.pages texts) (g.D.Disk.past c.args.disk.now) (g.D.Disk.past c.put_group.new.disk)
     (at_each (λ es has_file. record { file = has_file; within = numbers_within has group.info.space c.args.last.now c.args.under.now.version c.args.under.now.key c.args.pool.now group.from group.end c.in-Ok.pages texts (length c.args.notes.now) c.requires.noted }) c.requires.file)
     c.in-Ok-put_group.ensures.exact
+
+pub returns-in_default-clause-recorded : goal.returns-in_default-clause-recorded
+returns-in_default-clause-recorded g c = λ o end s opened between kept under due. does_nothing OutOfMemory (keeps_between o end s opened (g.D.Disk.past c.args.disk.now) between kept)
+
+pub returns-in-Ok-put_group-clause-recorded : goal.returns-in-Ok-put_group-clause-recorded
+returns-in-Ok-put_group-clause-recorded g c = λ o end s opened between kept under due.
+    let group = c.args.group.now in
+    let has = has_later c.args.notes.now c.args.last.now in
+    let texts = c.in-Ok.ensures.texts in
+    let batch : Texts = record { space = group.info.space; batch = c.args.batch; pages = c.in-Ok.pages } in
+    let sealed = are_sealed o has group.info.space c.args.last.now c.args.under.now.version c.args.under.now.key c.args.pool.now group.from group.end under due c.in-Ok.pages texts.each in
+    done_by c.put_group.result c.in-Ok-put_group.is (does_more (apply_event batch) (c.put_group.ensures.recorded o end s opened between kept sealed))
+
+pub returns-in-Err-Failed-clause-recorded : goal.returns-in-Err-Failed-clause-recorded
+returns-in-Err-Failed-clause-recorded g c = λ o end s opened between kept under due.
+    let group = c.args.group.now in
+    let has = has_later c.args.notes.now c.args.last.now in
+    let texts = c.in-Ok.ensures.texts in
+    let batch : Texts = record { space = group.info.space; batch = c.args.batch; pages = c.in-Ok.pages } in
+    let sealed = are_sealed o has group.info.space c.args.last.now c.args.under.now.version c.args.under.now.key c.args.pool.now group.from group.end under due c.in-Ok.pages texts.each in
+    failed_as c.put_group.result DiskFault (does_more (apply_event batch) (c.put_group.ensures.recorded o end s opened between kept sealed))
+
+pub returns-clause-recorded : goal.returns-clause-recorded
+returns-clause-recorded g c = λ o end s opened between kept under due.
+    let group = c.args.group.now in
+    let has = has_later c.args.notes.now c.args.last.now in
+    let texts = c.in-Ok.ensures.texts in
+    let batch : Texts = record { space = group.info.space; batch = c.args.batch; pages = c.in-Ok.pages } in
+    let sealed = are_sealed o has group.info.space c.args.last.now c.args.under.now.version c.args.under.now.key c.args.pool.now group.from group.end under due c.in-Ok.pages texts.each in
+    failed_as c.put_group.result OutOfMemory (does_more (apply_event batch) (c.put_group.ensures.recorded o end s opened between kept sealed))

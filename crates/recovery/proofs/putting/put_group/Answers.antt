@@ -3,18 +3,21 @@ use Rattle.std.proofs.lemmas.Result.{on_ok_weaker, on_err_weaker}
 use Rattle.disk_model.specs.Past.{Past, At}
 use Rattle.disk_model.specs.declared.names.FileName.TheVariants.{Double, Log, Space}
 use Rattle.disk_model.proofs.Layers.{does_err, does_then}
-use Rattle.disk_model.proofs.Moments.{at_both, at_each, weaker}
+use Rattle.disk_model.proofs.Moments.{and_then, at_both, at_each, weaker}
 use Rattle.places.specs.Batches.{From}
 use Rattle.places.specs.Places.{HasFile}
 use Rattle.places.specs.Writes.{IsPart, grows}
 use Rattle.places.proofs.Batches.{lift_from}
 use Rattle.page_places.specs.Texts.{pages, slots}
 use Rattle.crash_image.specs.LogForm.{log_places}
-use Rattle.doublewrite.specs.Layer.{FitsSpace}
+use Rattle.doublewrite.specs.Layer.{FitsSpace, IsInside}
 use Rattle.doublewrite.specs.Batch.{home_batch, home_events, slot_events}
 use Rattle.doublewrite.proofs.EventSteps.{at_error}
 use Rattle.recovery.specs.Putting.{BetweenGroups, StillDone, InSlots, InHomes}
-use Rattle.recovery.proofs.PutGroups.{IsGroupStored, at_grown, done_stored, double_homed, double_places, double_stored, fits_stored, from_start, group_applied, group_homed, group_homing, group_stored, group_storing, groups_recover, left_homed, left_stored, space_homed, space_stored}
+use Rattle.recovery.specs.Recorded.{HasRecord, IsRecordMoment}
+use Rattle.recovery.proofs.GroupRecords.{homes_recorded, store_recorded, stores_recorded, storing_recorded}
+use Rattle.recovery.proofs.OpeningRecords.{applying_recorded, none_at_error}
+use Rattle.recovery.proofs.PutGroups.{IsGroupStored, at_grown, done_stored, double_homed, double_places, double_stored, fits_stored, from_start, group_applied, group_homed, group_homing, group_inside, group_stored, group_storing, groups_recover, left_homed, left_stored, space_homed, space_stored}
 use Rattle.recovery.proofs.putting.put_group.Goals as goal
 
 pub home-requires-clause-inside : goal.home-requires-clause-inside
@@ -101,3 +104,32 @@ returns-in_err-store-clause-recovers g c = λ o last s opened between sealed. we
 
 pub returns-clause-recovers : goal.returns-clause-recovers
 returns-clause-recovers g c = λ o last s opened between sealed. weaker (λ m may. groups_recover o last s opened m may) (returns-clause-applies g c o s between sealed).moments
+
+pub returns-in_err-store-clause-recorded : goal.returns-in_err-store-clause-recorded
+returns-in_err-store-clause-recorded g c = λ o last s opened between kept sealed.
+    let batch = c.args.batch.now in
+    let small : batch.space < 2 ^ 32 = search rules in
+    applying_recorded o last s opened c.from_residual.result (returns-in_err-store-clause-applies g c o s between sealed)
+    (storing_recorded o last s opened batch c.are_texts.ensures small sealed (g.D.Disk.past c.args.disk.now) (g.D.Disk.past c.store.new.disk) kept c.in_err-store.ensures.part) (none_at_error _ c.from_residual.result _ c.from_residual.ensures.1)
+
+pub returns-clause-recorded : goal.returns-clause-recorded
+returns-clause-recorded g c = λ o last s opened between kept sealed.
+    let batch = c.args.batch.now in
+    let texts = c.are_texts.ensures in
+    let most = c.requires.most in
+    let small : batch.space < 2 ^ 32 = search rules in
+    let old = g.D.Disk.past c.args.disk.now in
+    let mid = g.D.Disk.past c.store.new.disk in
+    let new = g.D.Disk.past c.home.new.disk in
+    let known : At (λ b. BetweenGroups o s b × HasFile Double slots b) old = at_both (λ es x y. (x, y)) between c.requires.places in
+    let does = c.in_ok-store.ensures.does (at_each (λ es k. double_places o s es k.0 k.1) known) in
+    let stored = lift_from {Q' = IsGroupStored o s batch texts small most sealed} known
+    (λ b m k since w. group_storing o s batch texts small most sealed b m k.0 k.1 since w)
+    (λ b m k since q. group_stored o s batch texts small most sealed b m k.0 k.1 since q) (λ e k. k) does in
+    let fits : At (λ t. (count : ℕ) × FitsSpace batch count t) mid = at_grown (slot_events batch) (fits_stored batch texts most) old mid c.in_ok-store.ensures.exact c.requires.inside in
+    let stored_record : At (HasRecord o) mid = store_recorded o last s opened batch texts small sealed old mid kept c.in_ok-store.ensures.exact does.adds does.next in
+    let behind : At (λ t. HasRecord o t × ((count : ℕ) × IsInside batch count t)) mid =
+    record { here = λ t is. (stored_record.here t is, let k = fits.here t is in (k.0, group_inside o s batch texts small most sealed t (stored.next.here t is) k.0 k.1)) } in
+    let homes = homes_recorded o last s opened batch texts small sealed c.home.result mid new behind c.requires.distinct c.home.ensures.does c.home.ensures.exact c.home.ensures.part in
+    applying_recorded o last s opened c.home.result (returns-clause-applies g c o s between sealed)
+    (and_then (IsRecordMoment o) old mid new (stores_recorded o last s opened batch texts small sealed old mid kept c.in_ok-store.ensures.exact stored_record) homes.0) homes.1

@@ -16,10 +16,12 @@ use Rattle.recovery.specs.Due.{HasRefusedPage, IsByPage}
 use Rattle.recovery.specs.Groups.{AreSealable, IsApplyEvent, IsRangeApplied, LeavesSince}
 use Rattle.recovery.specs.Loading.{AreDirty, HasNoText, HaveTexts, IsHomeFaultKind}
 use Rattle.recovery.specs.Putting.{BetweenGroups, MayApplyGroups}
+use Rattle.recovery.specs.Recorded.{HasRecord, KeepsOpeningRecord}
 use Rattle.recovery.specs.Rounds.{has_later}
 use Rattle.recovery.proofs.DuePages.{read_by_disk}
 use Rattle.recovery.proofs.GroupSteps.{between_may, part_dirty, part_sealable}
 use Rattle.recovery.proofs.PutGroups.{groups_recover}
+use Rattle.recovery.proofs.RecordSteps.{does_from, keeps_between}
 use Rattle.recovery.proofs.RoundPages.{at_moment, by_page_fault, by_page_run, does_at, does_to, no_disk_fault, part_round}
 use Rattle.recovery.proofs.round.apply_round.Goals as goal
 
@@ -149,3 +151,47 @@ pub returns-clause-cause : goal.returns-clause-cause
 returns-clause-cause g c =
     let kind : IsHomeFaultKind c.in-Some.why = subst (λ (f : Option OpenRefuse). IfSome f IsHomeFaultKind) c.in-Some.is c.in_ok-loaded.ensures.kind in
     record { later = search rules; rose = λ is. absurd (no_disk_fault c.in-Some.why kind is) }
+
+pub returns-in_default-clause-recorded : goal.returns-in_default-clause-recorded
+returns-in_default-clause-recorded g c = λ o number s b now by space under due kept. does_nothing OutOfMemory (keeps_between o number s due.opened (g.D.Disk.past c.args.disk.now) (at_moment {P = BetweenGroups o s} b now due.between) kept)
+
+pub returns-in_err-loaded-clause-recorded : goal.returns-in_err-loaded-clause-recorded
+returns-in_err-loaded-clause-recorded g c = λ o number s b now by space under due kept.
+    let why = c.in_err-loaded.field-0.0 in
+    let is : IsErrAnd c.from_residual.result (λ e. e ≡ why) = search rules in
+    does_failed c.from_residual.result (λ e. e ≡ why) is (keeps_between o number s due.opened (g.D.Disk.past c.args.disk.now) (at_moment {P = BetweenGroups o s} b now due.between) kept) (λ m k. k) c.in_err-loaded.ensures.same
+
+pub returns-in_err-next-clause-recorded : goal.returns-in_err-next-clause-recorded
+returns-in_err-next-clause-recorded g c = λ o number s b now by space under due kept.
+    let r = c.args.round.now in
+    let has = has_later c.args.notes.now c.args.last.now in
+    let old = g.D.Disk.past c.args.disk.now in
+    let sealable = c.in_ok-loaded.ensures.due o number s b now by space (part_round o number s has r.info.space r.from r.end c.in_ok-loaded.loaded.end b c.in_ok-loaded.ensures.ends due) in
+    let part : AreSealable o has r.info.space c.args.last.now r.from c.groups_end.result c.load_round.new.pool = part_sealable o has r.info.space c.args.last.now r.from c.in_ok-loaded.loaded.end r.from c.groups_end.result c.load_round.new.pool (omega arith) c.groups_end.ensures.ends sealable in
+    let between = at_is c.in_ok-loaded.ensures.same (at_moment {P = BetweenGroups o s} b now due.between) in
+    let kept_then = at_is c.in_ok-loaded.ensures.same kept in
+    does_err _ _ c.from_residual-in_err-next.ensures.1
+    (does_from (KeepsOpeningRecord o) (IsApplyEvent r.info.space) (HasRecord o) old (g.D.Disk.past c.load_round.new.disk) (g.D.Disk.past c.write_groups.new.disk) _ c.in_ok-loaded.ensures.same (c.in_err-next.ensures.recorded o number s due.opened between kept_then under part))
+
+pub returns-in-None-clause-recorded : goal.returns-in-None-clause-recorded
+returns-in-None-clause-recorded g c = λ o number s b now by space under due kept.
+    let r = c.args.round.now in
+    let has = has_later c.args.notes.now c.args.last.now in
+    let old = g.D.Disk.past c.args.disk.now in
+    let sealable = c.in_ok-loaded.ensures.due o number s b now by space (part_round o number s has r.info.space r.from r.end c.in_ok-loaded.loaded.end b c.in_ok-loaded.ensures.ends due) in
+    let part : AreSealable o has r.info.space c.args.last.now r.from c.groups_end.result c.load_round.new.pool = part_sealable o has r.info.space c.args.last.now r.from c.in_ok-loaded.loaded.end r.from c.groups_end.result c.load_round.new.pool (omega arith) c.groups_end.ensures.ends sealable in
+    let between = at_is c.in_ok-loaded.ensures.same (at_moment {P = BetweenGroups o s} b now due.between) in
+    let kept_then = at_is c.in_ok-loaded.ensures.same kept in
+    does_from (KeepsOpeningRecord o) (IsApplyEvent r.info.space) (HasRecord o) old (g.D.Disk.past c.load_round.new.disk) (g.D.Disk.past c.write_groups.new.disk) _ c.in_ok-loaded.ensures.same (c.in_ok-next.ensures.recorded o number s due.opened between kept_then under part)
+
+pub returns-clause-recorded : goal.returns-clause-recorded
+returns-clause-recorded g c = λ o number s b now by space under due kept.
+    let r = c.args.round.now in
+    let has = has_later c.args.notes.now c.args.last.now in
+    let old = g.D.Disk.past c.args.disk.now in
+    let sealable = c.in_ok-loaded.ensures.due o number s b now by space (part_round o number s has r.info.space r.from r.end c.in_ok-loaded.loaded.end b c.in_ok-loaded.ensures.ends due) in
+    let part : AreSealable o has r.info.space c.args.last.now r.from c.groups_end.result c.load_round.new.pool = part_sealable o has r.info.space c.args.last.now r.from c.in_ok-loaded.loaded.end r.from c.groups_end.result c.load_round.new.pool (omega arith) c.groups_end.ensures.ends sealable in
+    let between = at_is c.in_ok-loaded.ensures.same (at_moment {P = BetweenGroups o s} b now due.between) in
+    let kept_then = at_is c.in_ok-loaded.ensures.same kept in
+    let does = does_from (KeepsOpeningRecord o) (IsApplyEvent r.info.space) (HasRecord o) old (g.D.Disk.past c.load_round.new.disk) (g.D.Disk.past c.write_groups.new.disk) _ c.in_ok-loaded.ensures.same (c.in_ok-next.ensures.recorded o number s due.opened between kept_then under part) in
+    record { moments = does.moments; adds = does.adds; next = tt }

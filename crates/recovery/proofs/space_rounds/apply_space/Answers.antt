@@ -7,13 +7,14 @@ use Rattle.disk_model.proofs.Moments.{at_each, weaker}
 use Rattle.places.specs.Batches.{From}
 use Rattle.store_form.specs.Said.{header_said}
 use Rattle.recovery.specs.Due.{HasRefusedPage, IsByPage}
-use Rattle.recovery.specs.Groups.{IsRangeApplied, LeavesSince}
+use Rattle.recovery.specs.Groups.{IsApplyEvent, IsRangeApplied, LeavesSince}
 use Rattle.recovery.specs.Loading.{HaveTexts}
 use Rattle.recovery.specs.Putting.{BetweenGroups}
 use Rattle.recovery.specs.Rounds.{count_in, has_later}
 use Rattle.recovery.proofs.GroupSteps.{groups_none, groups_then}
 use Rattle.recovery.proofs.OtherHomes.{leaves_none, leaves_then}
 use Rattle.recovery.proofs.PutGroups.{groups_recover}
+use Rattle.recovery.proofs.RecordSteps.{records_none}
 use Rattle.recovery.proofs.RoundPages.{at_moment}
 use Rattle.recovery.proofs.RoundSteps.{count_none}
 use Rattle.recovery.proofs.SpaceSteps.{applied_on, by_page_back, leaves_on, round_at, says_still, texts_more, texts_on}
@@ -29,6 +30,7 @@ loop-start-init g c =
     record {
       ends = c.next_later-first.ensures.ends;
       applies = λ o number s b now by space under due. applied_on o s has z 0 0 first old old none (groups_none o s has z 0 old (at_moment {P = BetweenGroups o s} b now due.between));
+      recorded = λ o number s b now by space under due kept. records_none o number s due.opened (IsApplyEvent z) old (at_moment {P = BetweenGroups o s} b now due.between) kept;
       texts = texts_on c.args.ring.now c.args.header.now.algorithm c.args.info.now c.args.notes.now has 0 first old none (record { here = λ es is. record { each = λ p low high later. absurd (omega (arith, high)) } });
       beside = leaves_none z 0 first old old refl;
       double = c.requires.double;
@@ -116,6 +118,11 @@ loop-start-preserved g c =
           let (m, told, round) = round_at o s has z number start end c.args.count b old cur c.next_range-end.ensures.ends now so_far.moments.later c.loop-start.invariant.beside so_far.at due in
           applied_on o s has z 0 end behind old new none
           (so_far_more so_far (groups_then o s has z 0 start end old cur new _ so_far.at (c.in_ok-number.ensures.applies o number s m told by space under round)));
+      recorded = λ o number s b now by space under due kept.
+          let applied = c.loop-start.invariant.applies o number s b now by space under due in
+          let so_far = c.loop-start.invariant.recorded o number s b now by space under due kept in
+          let (m, told, round) = round_at o s has z number start end c.args.count b old cur c.next_range-end.ensures.ends now applied.moments.later c.loop-start.invariant.beside applied.at due in
+          so_far_more so_far (c.in_ok-number.ensures.recorded o number s m told by space under round so_far.at);
       texts = texts_on ring algorithm c.args.info.now c.args.notes.now has end behind old none (texts_more ring algorithm c.args.info.now c.args.notes.now has start end old cur c.loop-start.invariant.beside c.loop-start.invariant.texts c.in_ok-number.ensures.texts);
       beside = leaves_on z 0 end behind old new (omega arith) c.next_later-behind.ensures.begins (leaves_then z 0 start end (omega arith) c.next_range-end.ensures.begins old cur new c.loop-start.invariant.beside c.in_ok-number.ensures.beside);
       double = c.in_ok-number.ensures.double;
@@ -146,3 +153,17 @@ pub returns-clause-beside : goal.returns-clause-beside
 returns-clause-beside g c =
     let ended : c.loop-start.start ≡ c.args.count = omega (arith, c.loop-start-test.false, c.loop-start.invariant.ends) in
     subst (λ (q : ℕ). LeavesSince c.args.info.now.space 0 q (g.D.Disk.past c.args.disk.now) (g.D.Disk.past c.loop-start.disk)) ended c.loop-start.invariant.beside
+
+pub returns-in_err-number-clause-recorded : goal.returns-in_err-number-clause-recorded
+returns-in_err-number-clause-recorded g c = λ o number s b now by space under due kept.
+    let z = c.args.info.now.space in
+    let has = has_later c.args.notes.now c.args.last.now in
+    let old = g.D.Disk.past c.args.disk.now in
+    let cur = g.D.Disk.past c.loop-start.disk in
+    let applied = c.loop-start.invariant.applies o number s b now by space under due in
+    let so_far = c.loop-start.invariant.recorded o number s b now by space under due kept in
+    let (m, told, round) = round_at o s has z number c.loop-start.start c.next_range-end.result c.args.count b old cur c.next_range-end.ensures.ends now applied.moments.later c.loop-start.invariant.beside applied.at due in
+    does_err _ _ c.from_residual.ensures.1 (so_far_then so_far (c.in_err-number.ensures.recorded o number s m told by space under round so_far.at))
+
+pub returns-clause-recorded : goal.returns-clause-recorded
+returns-clause-recorded g c = λ o number s b now by space under due kept. so_far_done (λ m k. k) (c.loop-start.invariant.recorded o number s b now by space under due kept)

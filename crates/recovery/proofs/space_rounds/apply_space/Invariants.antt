@@ -13,6 +13,7 @@ use Rattle.recovery.specs.Due.{IsOpenedWith, IsRoundDue, IsSpaceOf}
 use Rattle.recovery.specs.Groups.{IsApplyEvent, IsSealedUnder, LeavesSince}
 use Rattle.recovery.specs.Loading.{HaveTexts}
 use Rattle.recovery.specs.Putting.{MayApplyGroups}
+use Rattle.recovery.specs.Recorded.{HasRecord, KeepsOpeningRecord}
 use Rattle.recovery.specs.Rounds.{has_later}
 use Rattle.recovery.proofs.GroupSteps.{IsAppliedTo}
 use Rattle.recovery.proofs.space_rounds.apply_space.Given as goal
@@ -22,6 +23,8 @@ invariant-loop-start g l = record {
   ends : l.start ≤ l.count;
   applies : (o : StoreOpened) (number : ℕ) (s b : List Event) → g.D.Disk.past l.fn.disk ≡ Some b → IsOpenedWith o (header_said l.header) l.ring l.from (l.run.last + 1) → IsSpaceOf o s l.info l.notes l.last → IsSealedUnder o l.info.space l.under.version l.under.key → IsRoundDue o number s (has_later l.notes l.last) l.info.space 0 l.count b
       → SoFar (MayApplyGroups o s) (IsApplyEvent l.info.space) (IsAppliedTo o s (has_later l.notes l.last) l.info.space 0 l.start (g.D.Disk.past l.fn.disk)) (g.D.Disk.past l.fn.disk) (g.D.Disk.past l.disk);
+  recorded : (o : StoreOpened) (number : ℕ) (s b : List Event) → g.D.Disk.past l.fn.disk ≡ Some b → IsOpenedWith o (header_said l.header) l.ring l.from (l.run.last + 1) → IsSpaceOf o s l.info l.notes l.last → IsSealedUnder o l.info.space l.under.version l.under.key → IsRoundDue o number s (has_later l.notes l.last) l.info.space 0 l.count b
+      → At (HasRecord o) (g.D.Disk.past l.fn.disk) → SoFar (KeepsOpeningRecord o) (IsApplyEvent l.info.space) (HasRecord o) (g.D.Disk.past l.fn.disk) (g.D.Disk.past l.disk);
   texts : At (HaveTexts l.ring l.header.algorithm l.info l.notes (has_later l.notes l.last) 0 l.start) (g.D.Disk.past l.fn.disk);
   beside : LeavesSince l.info.space 0 l.start (g.D.Disk.past l.fn.disk) (g.D.Disk.past l.disk);
   double : At (HasFile Double slots) (g.D.Disk.past l.disk);
