@@ -31,6 +31,7 @@ pub mod RoundPages
 pub mod SpaceSteps
 pub mod SpacesFound
 pub mod SpacesApplied
+pub mod SettleSteps
 pub mod OpenRefusals
 pub mod HeadSaid
 pub mod EntryHeads

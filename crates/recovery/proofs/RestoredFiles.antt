@@ -9,9 +9,10 @@ use Rattle.disk_model.specs.Event.{Event, reads, same_file}
 use Rattle.disk_model.specs.Does.{AllAre, Since}
 use Rattle.disk_model.specs.Past.{Past, At}
 use Rattle.disk_model.specs.declared.names.FileName.{FileName}
-use Rattle.disk_model.specs.declared.names.FileName.TheVariants.{Double, Space}
+use Rattle.disk_model.specs.declared.names.FileName.TheVariants.{Double, Log, Space}
 use Rattle.places.specs.Beside.{LeavesFile}
 use Rattle.places.specs.Places.{Layout, HasFile, place, shown}
+use Rattle.places.proofs.LeftAlone.{reads_left_alone}
 use Rattle.places.proofs.FileSteps.{file_left_alone, file_sync, file_write}
 use Rattle.page_places.specs.Texts.{is_page_text, is_slot, pages, slot_held, slots, text_in}
 use Rattle.page_places.proofs.Texts.{length-page, none_read, some_read}
@@ -80,6 +81,10 @@ module _ (copies : List Copied) (s : List Event) (g : FileName) where
 pub other_restored : (g : FileName) → ((z : ℕ) → same_file g (Space z) ≡ false) → (layout : Layout) (spaces : List SpaceInfo) (s : List Event) → HasFile g layout s → HasFile g layout (restore_events spaces s ++ s)
 other_restored g apart layout spaces s has =
     file_left_alone g layout s (restore_events spaces s ++ s) (record { news = restore_events spaces s; is = refl; all = spaces_leave (copies_to 64 s) s g spaces apart (length spaces) }) has
+
+-- the log reads as it did
+pub log_restored : (spaces : List SpaceInfo) (s : List Event) → reads Log (restore_events spaces s ++ s) ≡ reads Log s
+log_restored spaces s = reads_left_alone Log s (restore_events spaces s ++ s) (record { news = restore_events spaces s; is = refl; all = spaces_leave (copies_to 64 s) s Log spaces (λ z. refl) (length spaces) })
 
 -- ---- the spaces
 

@@ -55,6 +55,7 @@ mod round_loading;
 mod rounds;
 mod run_text;
 mod sealing;
+mod settling;
 mod space_list;
 mod space_rounds;
 mod spaces;
@@ -80,6 +81,7 @@ pub use round::apply_round;
 pub use round_loading::load_round;
 pub use rounds::{Round, next_range};
 pub use sealing::{SealKey, seal_range};
+pub use settling::settle_homes;
 pub use space_rounds::apply_space;
 pub use spaces::apply_spaces;
 
