@@ -23,6 +23,7 @@ mod committing;
 mod engine;
 mod reading;
 mod syncing;
+mod taking;
 
 pub use engine::Engine;
 pub use session_core::{
